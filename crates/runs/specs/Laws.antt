@@ -1,0 +1,30 @@
+-- What theorems about runs take from a machine: laws of its cycle. Assumes nothing: these are definitions.
+use mathlib.Core.Path.{_≡_}
+use mathlib.Core.List.{List}
+use Prim.Native.Nat.{ℕ, suc, _+_, _<_, _≤_}
+use lib.ListN.{length, getD}
+use Rattle.runs.specs.Machine.{Machine, went}
+use Rattle.runs.specs.TwoRunners.{cycleLimit}
+
+-- a ROM, a schedule, a log or an image is made of bytes
+abbrev pub Bytes : List ℕ → Type 0
+Bytes l = (i : ℕ) → getD l i 0 < 256
+
+-- a ROM and a schedule that no number refuses
+pub record Panel (M : Machine) (rom sched : List ℕ) : Type 0 where
+  pub rom-bytes : Bytes rom
+  pub sched-bytes : Bytes sched
+  pub accepted : M .panelNumber rom sched ≡ 0
+
+-- a cycle from s to t that appends w; debt is what a second record still has to be paid with
+pub record Stepped (M : Machine) (debt : M .State → ℕ) (s t : M .State) (w : List ℕ) : Type 0 where
+  pub sound : M .stateNumber t ≡ 0
+  pub rises : M .at t ≡ suc (M .at s)
+  pub records : length w + debt s ≤ 8 + debt t
+
+pub record CycleLaws (M : Machine) : Type 0 where
+  pub debt : M .State → ℕ
+  pub debt-small : (s : M .State) → debt s ≤ 8
+  -- a cycle keeps the state accepted, adds 1 to the cycle number and appends 8 bytes at most, but for what it owes
+  pub step : (rom sched : List ℕ) (s t : M .State) (w : List ℕ) (b : ℕ) → Panel M rom sched → M .stateNumber s ≡ 0 → M .at s < cycleLimit
+      → M .cycle rom sched s ≡ went t w b → Stepped M debt s t w

@@ -1,0 +1,5 @@
+pub mod Machine
+pub mod TwoRunners
+pub mod Numbers
+pub mod Reports
+pub mod Laws

@@ -1,0 +1,49 @@
+-- Document 01, "Numbers, by whose hand": the number of each case of an answer. Assumes nothing: these are definitions.
+use Prim.Native.Nat.{ℕ}
+use Rattle.runs.specs.declared.Stop.{Stop}
+use Rattle.runs.specs.declared.Stop.the-variants.{LogFull, RomEnd, NoInstruction}
+use Rattle.runs.specs.declared.Refusal.{Refusal}
+use Rattle.runs.specs.declared.Refusal.the-variants.{BufferShort, CycleLimit, ScheduleLength, ScheduleLong, RecordBytes, RecordOrder, RomLength, ImageLength, ImageMark, ImageVersion, Field}
+use Rattle.runs.specs.declared.RunEnd.{RunEnd}
+use Rattle.runs.specs.declared.RunEnd.the-variants.{Finished, Stopped, Refused}
+use Rattle.runs.specs.declared.Outcome.{Outcome}
+use Rattle.runs.specs.declared.Outcome.the-variants.{Done, Refused as NotDone}
+use Rattle.runs.specs.TwoRunners.{End, finished, stopped, refused}
+
+-- "3 the log lacks the 8 or 16 bytes of the next instruction"; "22 a byte above 7CF is needed"; "23 code 1C or 45 due"
+abbrev pub stopNumber : Stop → ℕ
+stopNumber LogFull = 3
+stopNumber RomEnd = 22
+stopNumber NoInstruction = 23
+
+-- "1 image buffer under 81 bytes; 2 cycle number + n above 2^48 - 1";
+-- "12 over 40,960 bytes; 11 length no multiple of 10; then by record 13 bad INT or last byte, 14 cycle not above the last";
+-- "21 not 2,000 bytes"; "31 length not 81; 32 bytes 0 to 2; 33 version; 34 a field, also in a state given as a value"
+abbrev pub refusalNumber : Refusal → ℕ
+refusalNumber BufferShort = 1
+refusalNumber CycleLimit = 2
+refusalNumber ScheduleLength = 11
+refusalNumber ScheduleLong = 12
+refusalNumber RecordBytes = 13
+refusalNumber RecordOrder = 14
+refusalNumber RomLength = 21
+refusalNumber ImageLength = 31
+refusalNumber ImageMark = 32
+refusalNumber ImageVersion = 33
+refusalNumber Field = 34
+
+-- "unless it finished n, its number"; 0 stands for a finish
+abbrev pub endNumber : RunEnd → ℕ
+endNumber Finished = 0
+endNumber (Stopped s) = stopNumber s
+endNumber (Refused r) = refusalNumber r
+
+abbrev pub outcomeNumber : Outcome → ℕ
+outcomeNumber Done = 0
+outcomeNumber (NotDone r) = refusalNumber r
+
+-- How a run ended, as the definitions of the two runners say it.
+abbrev pub endOf : RunEnd → End
+endOf Finished = finished
+endOf (Stopped s) = stopped (stopNumber s)
+endOf (Refused r) = refused (refusalNumber r)

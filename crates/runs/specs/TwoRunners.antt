@@ -1,0 +1,190 @@
+-- Document 01, "Two runners", over any machine: the unbroken run, the plain and the timer-skipping runner, save and restore.
+-- Assumes nothing: these are definitions.
+use Prim.Native.Nat.{ℕ, zero, suc, _+_, _-_, _*_}
+use mathlib.Core.Bool.{Bool, true, false}
+use mathlib.Core.List.{List, [], _∷_, _++_}
+use mathlib.Core.Option.{Option, none, some}
+use lib.Dec.{leb}
+use lib.ListN.{length, drop}
+use Rattle.runs.specs.Machine.{Machine, Out, stop, went}
+use Rattle.runs.specs.Reports.{clocksPerCycle}
+
+-- "Cycle number, at most 2^48 - 1."
+abbrev pub cycleLimit : ℕ
+cycleLimit = 281474976710655
+
+-- "a run of n cycles that isn't refused is lent a log of at least 8n + 8 bytes" (demand 3)
+abbrev pub logBound : ℕ → ℕ
+logBound n = 8 * n + 8
+
+-- How a run ends: all n cycles done; a stop, with its number; a refusal, with its number.
+pub data End : Type 0 where
+  finished : End
+  stopped : ℕ → End
+  refused : ℕ → End
+
+-- "Each .. answers state, cycles, instructions begun, log bytes written and steps, and, unless it finished n, its number";
+-- "A run also gives clock cycles". With it the lent log as it stands when the run returns.
+pub record RunAnswer (S : Type 0) : Type 0 where
+  pub end : End
+  pub state : S
+  pub cycles : ℕ
+  pub clocks : ℕ
+  pub begun : ℕ
+  pub written : ℕ
+  pub steps : ℕ
+  pub log : List ℕ
+
+-- What a save answers: 0 or its refusal's number, and the lent buffer as it stands when the save returns.
+pub record SaveAnswer : Type 0 where
+  pub number : ℕ
+  pub buffer : List ℕ
+
+-- What a restore answers: 0 or its refusal's number, and a state.
+pub record RestoreAnswer (S : Type 0) : Type 0 where
+  pub number : ℕ
+  pub state : S
+
+-- What cycles come to: the state at the boundary reached, the bytes of the records appended, the cycles done, the
+-- instructions begun, and the number of the stop, if there was one.
+pub record Ran (S : Type 0) : Type 0 where
+  pub state : S
+  pub bytes : List ℕ
+  pub cycles : ℕ
+  pub begun : ℕ
+  pub number : Option ℕ
+
+-- The same, and in how many steps.
+pub record Stepped (S : Type 0) : Type 0 where
+  pub ran : Ran S
+  pub steps : ℕ
+
+-- the first of the numbers that isn't 0
+unfoldable pub firstOf : List ℕ → ℕ
+firstOf [] = 0
+firstOf (zero ∷ ks) = firstOf ks
+firstOf (suc k ∷ ks) = suc k
+
+-- no number where the test holds, else k
+abbrev pub unless : Bool → ℕ → ℕ
+unless true k = 0
+unless false k = k
+
+abbrev pub endOf : Option ℕ → End
+endOf none = finished
+endOf (some k) = stopped k
+
+module _ {S : Type 0} where
+  -- no cycle: at the end of n, or at the boundary of a stop
+  abbrev pub still : S → Option ℕ → Ran S
+  still s k = record { state = s; bytes = []; cycles = 0; begun = 0; number = k }
+
+  -- one cycle that appends w and begins b instructions, and then r
+  abbrev pub begins : List ℕ → ℕ → Ran S → Ran S
+  begins w b r = record { state = r .state; bytes = w ++ r .bytes; cycles = suc (r .cycles); begun = b + r .begun; number = r .number }
+
+  -- what r comes to, and then what q comes to from where r stands
+  abbrev pub then : Ran S → Ran S → Ran S
+  then r q = record {
+    state = q .state;
+    bytes = r .bytes ++ q .bytes;
+    cycles = r .cycles + q .cycles;
+    begun = r .begun + q .begun;
+    number = q .number;
+  }
+
+  abbrev pub onOut : Out S → S → (S → Ran S) → Ran S
+  onOut (stop k) s go = still s (some k)
+  onOut (went t w b) s go = begins w b (go t)
+
+  abbrev pub onRoom : Bool → Ran S → Ran S → Ran S
+  onRoom true r r3 = r
+  onRoom false r r3 = r3
+
+  abbrev pub onOutWithin : Out S → S → ℕ → (S → ℕ → Ran S) → Ran S
+  onOutWithin (stop k) s room go = still s (some k)
+  onOutWithin (went t w b) s room go = onRoom (leb (length w) room) (begins w b (go t (room - length w))) (still s (some 3))
+
+  -- one step that comes to r, and then what go comes to; a stop adds no step
+  abbrev pub onStride : Ran S → Option ℕ → Stepped S → Stepped S
+  onStride r none q = record { ran = then r (q .ran); steps = suc (q .steps) }
+  onStride r (some k) q = record { ran = r; steps = 0 }
+
+-- "jumps j cycles in one step where ..; Otherwise it steps one cycle."
+abbrev pub strideOf : ℕ → ℕ
+strideOf zero = 1
+strideOf (suc j) = suc j
+
+module _ (M : Machine) where
+  -- "The unbroken run is the machine cycle above, N times or up to a stop, from the same state, ROM and schedule, with
+  -- room in its log for every record."
+  unfoldable pub unbroken : List ℕ → List ℕ → ℕ → M .State → Ran (M .State)
+  unbroken rom sched zero s = still s none
+  unbroken rom sched (suc n) s = onOut (M .cycle rom sched s) s (λ t. unbroken rom sched n t)
+
+  -- The same on a log with room for so many bytes: "3 the log lacks the 8 or 16 bytes of the next instruction", and
+  -- "22, 23 and 3, in that order .. are stops: the cycle isn't begun, and the answer stands at its boundary. n = 0 finishes."
+  unfoldable pub within : List ℕ → List ℕ → ℕ → ℕ → M .State → Ran (M .State)
+  within rom sched room zero s = still s none
+  within rom sched room (suc n) s = onOutWithin (M .cycle rom sched s) s room (λ t left. within rom sched left n t)
+
+  -- The timer-skipping run on such a log, step by step. `fuel` bounds the steps: as many as there are cycles are enough.
+  unfoldable pub strides : List ℕ → List ℕ → ℕ → ℕ → ℕ → M .State → Stepped (M .State)
+  strides rom sched zero room n s = record { ran = still s none; steps = 0 }
+  strides rom sched (suc fuel) room zero s = record { ran = still s none; steps = 0 }
+  strides rom sched (suc fuel) room (suc n) s =
+      let stride = strideOf (M .jump rom sched s (suc n)) in
+      let r = within rom sched room stride s in
+      onStride r (r .number) (strides rom sched fuel (room - length (r .bytes)) (suc n - stride) (r .state))
+
+  -- "A run checks 21, 12, 11, 13/14, 34, 2"; "2 cycle number + n above 2^48 - 1"
+  unfoldable pub runNumber : List ℕ → List ℕ → M .State → ℕ → ℕ
+  runNumber rom sched s n = firstOf (M .panelNumber rom sched ∷ M .stateNumber s ∷ unless (leb (M .at s + n) cycleLimit) 2 ∷ [])
+
+  -- What a run answers whose refusal is k, whose cycles come to r, on the state s and the log given.
+  -- "A run starts at the lent log's first byte; each record it writes into the part of the log that is still empty."
+  -- "These change nothing, with all counts 0; a refused run answers the state given"
+  abbrev pub told : ℕ → Stepped (M .State) → M .State → List ℕ → RunAnswer (M .State)
+  told zero r s log = record {
+    end = endOf (r .ran .number);
+    state = r .ran .state;
+    cycles = r .ran .cycles;
+    clocks = clocksPerCycle * r .ran .cycles;
+    begun = r .ran .begun;
+    written = length (r .ran .bytes);
+    steps = r .steps;
+    log = r .ran .bytes ++ drop (length (r .ran .bytes)) log;
+  }
+  told (suc k) r s log = record { end = refused (suc k); state = s; cycles = 0; clocks = 0; begun = 0; written = 0; steps = 0; log = log }
+
+  -- "The plain one takes one step a cycle."
+  abbrev pub stepwise : Ran (M .State) → Stepped (M .State)
+  stepwise r = record { ran = r; steps = r .cycles }
+
+  -- THE PLAIN RUNNER: ROM, schedule, state, log, n
+  unfoldable pub plain : List ℕ → List ℕ → M .State → List ℕ → ℕ → RunAnswer (M .State)
+  plain rom sched s log n = told (runNumber rom sched s n) (stepwise (within rom sched (length log) n s)) s log
+
+  -- THE TIMER-SKIPPING RUNNER
+  unfoldable pub skipping : List ℕ → List ℕ → M .State → List ℕ → ℕ → RunAnswer (M .State)
+  skipping rom sched s log n = told (runNumber rom sched s n) (strides rom sched n (length log) n s) s log
+
+  -- "save 34, 1"; "1 image buffer under 81 bytes"
+  unfoldable pub saveNumber : M .State → List ℕ → ℕ
+  saveNumber s buffer = firstOf (M .stateNumber s ∷ unless (leb (M .imageLength) (length buffer)) 1 ∷ [])
+
+  abbrev pub put : ℕ → List ℕ → List ℕ → SaveAnswer
+  put zero bytes buffer = record { number = 0; buffer = bytes ++ drop (M .imageLength) buffer }
+  put (suc k) bytes buffer = record { number = suc k; buffer = buffer }
+
+  -- SAVE: "and then writes 81 bytes only"
+  unfoldable pub saved : M .State → List ℕ → SaveAnswer
+  saved s buffer = put (saveNumber s buffer) (M .image s) buffer
+
+  abbrev pub got : ℕ → M .State → RestoreAnswer (M .State)
+  got zero s = record { number = 0; state = s }
+  got (suc k) s = record { number = suc k; state = M .fresh }
+
+  -- RESTORE: "restore 31 to 34", "a refused restore the fresh state"
+  unfoldable pub restored : List ℕ → RestoreAnswer (M .State)
+  restored bytes = got (M .imageNumber bytes) (M .ofImage bytes)
