@@ -1,0 +1,138 @@
+-- Document 01, "Bench cases, and what misleads": the cases as rows of one table. Assumes nothing: these are definitions.
+use Prim.Native.Nat.{ℕ, zero, suc, _+_, _-_}
+use mathlib.Core.Bool.{Bool, true, false, _&&_}
+use mathlib.Core.List.{List, [], _∷_, _++_}
+use lib.Dec.{eqb}
+use lib.ListN.{length, getD, replicate, take}
+use Rattle.runs.specs.TwoRunners.{RunAnswer, cycleLimit, unbroken, runNumber, skipping}
+use Rattle.upd546.specs.declared.Core.{Core}
+use Rattle.upd546.specs.declared.State.{State}
+use Rattle.upd546.specs.TheMachine.{romLength, fresh, wordAt, withWord, wordX}
+use Rattle.upd546.specs.Parts.{setAcc, setCarry, setDph, setPc, setInt, setOwed}
+use Rattle.upd546.specs.StateImage.{imageOf, ofImage}
+use Rattle.upd546.specs.Tests.{sameNumbers}
+use Rattle.upd546.specs.TwoRunners.{upd546}
+use Rattle.upd546.specs.Reports.{heading, newline, traceText}
+
+-- A row: what the definitions give, and what the document says.
+pub record Case : Type 0 where
+  pub given : List ℕ
+  pub wanted : List ℕ
+
+abbrev pub holds : Case → Bool
+holds k = sameNumbers (k .given) (k .wanted)
+
+abbrev pub allHold : List Case → Bool
+allHold [] = true
+allHold (k ∷ ks) = holds k && allHold ks
+
+-- a ROM of the full length that has the bytes from an address on, else zeros
+abbrev pub romAt : ℕ → List ℕ → List ℕ
+romAt a bytes = replicate a 0 ++ bytes ++ replicate (romLength - (a + length bytes)) 0
+
+-- the fresh state with another core
+abbrev pub from : (Core → Core) → State
+from f = record { core = f (fresh .core); ports = fresh .ports; ram = fresh .ram; cycle = fresh .cycle }
+
+-- and with a RAM word at an address
+abbrev pub fromWord : (Core → Core) → ℕ → ℕ → State
+fromWord f a v = record { core = f (fresh .core); ports = fresh .ports; ram = withWord (fresh .ram) a v; cycle = fresh .cycle }
+
+-- the state after n cycles of a ROM with no schedule
+abbrev pub after : ℕ → List ℕ → State → State
+after n rom s = unbroken upd546 rom [] n s .state
+
+-- what is looked at, of a state and of an answer
+abbrev pub see : (State → List ℕ) → State → List ℕ
+see f t = f t
+
+abbrev pub seeAnswer : (RunAnswer State → List ℕ) → RunAnswer State → List ℕ
+seeAnswer f a = f a
+
+abbrev pub pcOf : State → ℕ
+pcOf s = s .core .flow .pc
+
+abbrev pub accOf : State → ℕ
+accOf s = s .core .registers .acc
+
+abbrev pub carryOf : State → ℕ
+carryOf s = s .core .registers .carry
+
+abbrev pub cases : List Case
+cases =
+    -- P: STM 80 at cycle 0: TTM at 64 doesn't skip
+    record { given = pcOf (after 65 (romAt 0 (0x14 ∷ 0x80 ∷ replicate 70 0x05)) fresh) ∷ []; wanted = 65 ∷ [] }
+    -- P: at 65 skips
+    ∷ record { given = pcOf (after 66 (romAt 0 (0x14 ∷ 0x80 ∷ replicate 70 0x05)) fresh) ∷ []; wanted = 67 ∷ [] }
+    -- P: STM BF: TTM at 4,033 doesn't skip (NOP, and then TTM in the odd cycles)
+    ∷ record { given = pcOf (after 4034 (romAt 0 (0x14 ∷ 0xBF ∷ 0x00 ∷ 0x05 ∷ 0xC3 ∷ [])) fresh) ∷ []; wanted = 4 ∷ [] }
+    -- P: and at 4,034 skips (TTM in the even cycles)
+    ∷ record { given = pcOf (after 4035 (romAt 0 (0x14 ∷ 0xBF ∷ 0x05 ∷ 0xC2 ∷ [])) fresh) ∷ []; wanted = 4 ∷ [] }
+    -- P: TC with C=1 before CI costs 3: 2 are owed after its first cycle
+    ∷ record { given = see (λ t. pcOf t ∷ t .core .owed ∷ []) (after 1 (romAt 0 (0x04 ∷ 0x17 ∷ [])) (from (setCarry 1))); wanted = 3 ∷ 2 ∷ [] }
+    -- P: before NOP 2
+    ∷ record { given = see (λ t. pcOf t ∷ t .core .owed ∷ []) (after 1 (romAt 0 (0x04 ∷ 0x00 ∷ [])) (from (setCarry 1))); wanted = 2 ∷ 1 ∷ [] }
+    -- P: NOP at 1FF leads to 100
+    ∷ record { given = pcOf (after 1 (romAt 0 []) (from (setPc 0x1FF))) ∷ []; wanted = 0x100 ∷ [] }
+    -- P: BF calls 03C
+    ∷ record { given = see (λ t. pcOf t ∷ t .core .flow .stack) (after 1 (romAt 0 (0xBF ∷ [])) fresh); wanted = 0x03C ∷ 1 ∷ 0 ∷ 0 ∷ [] }
+    -- P: DEM in row 5 skips, stores nothing
+    ∷ record { given = see (λ t. pcOf t ∷ t .ram) (after 1 (romAt 0 (0x1F ∷ [])) (from (setDph 5))); wanted = 2 ∷ fresh .ram }
+    -- P: XHX with DPH 5, X 9: DPH 1, X 5
+    ∷ record {
+      given = see (λ t. t .core .registers .dph ∷ wordAt (t .ram) wordX ∷ []) (after 1 (romAt 0 (0x4F ∷ [])) (fromWord (setDph 5) wordX 9));
+      wanted = 1 ∷ 5 ∷ [];
+    }
+    -- P: RAR of 1, C=0: Acc 0, C 1
+    ∷ record { given = see (λ t. accOf t ∷ carryOf t ∷ []) (after 1 (romAt 0 (0x30 ∷ [])) (from (setAcc 1))); wanted = 0 ∷ 1 ∷ [] }
+    -- P: ADS 9+8+1: Acc 2, C 1, skip
+    ∷ record {
+      given = see (λ t. accOf t ∷ carryOf t ∷ pcOf t ∷ []) (after 1 (romAt 0 (0x09 ∷ [])) (fromWord (λ c. setCarry 1 (setAcc 9 c)) 0 8));
+      wanted = 2 ∷ 1 ∷ 2 ∷ [];
+    }
+    -- P: JCP C5 at 03F goes to 005
+    ∷ record { given = pcOf (after 1 (romAt 0x03F (0xC5 ∷ [])) (from (setPc 0x03F))) ∷ []; wanted = 0x005 ∷ [] }
+    -- P: with INT set, EI then NOP: no acceptance before NOP
+    ∷ record { given = pcOf (after 2 (romAt 0 (0x31 ∷ [])) (from (setInt 1))) ∷ []; wanted = 2 ∷ [] }
+    -- P: acceptance follows NOP
+    ∷ record {
+      given = see (λ t. pcOf t ∷ t .core .flow .stack ++ (t .core .interrupt .int ∷ t .core .interrupt .inte ∷ [])) (after 3 (romAt 0 (0x31 ∷ [])) (from (setInt 1)));
+      wanted = 0x03C ∷ 2 ∷ 0 ∷ 0 ∷ 0 ∷ 0 ∷ [];
+    }
+    -- P: a fourth call loses the first return (calls at 000, 004, 008 and 00C)
+    ∷ record {
+      given = after 4 (romAt 0 (0xB1 ∷ 0 ∷ 0 ∷ 0 ∷ 0xB2 ∷ 0 ∷ 0 ∷ 0 ∷ 0xB3 ∷ 0 ∷ 0 ∷ 0 ∷ 0xB4 ∷ [])) fresh .core .flow .stack;
+      wanted = 0x00D ∷ 0x009 ∷ 0x005 ∷ [];
+    }
+    -- cycle limit reached exactly is taken, one more is 2
+    ∷ record {
+      given = runNumber upd546 (romAt 0 []) [] fresh cycleLimit ∷ runNumber upd546 (romAt 0 []) [] fresh (cycleLimit + 1) ∷ [];
+      wanted = 0 ∷ 2 ∷ [];
+    }
+    -- misleading: AD setting C (9+8: Acc 1, C as it was, skip)
+    ∷ record {
+      given = see (λ t. accOf t ∷ carryOf t ∷ pcOf t ∷ []) (after 1 (romAt 0 (0x08 ∷ [])) (fromWord (setAcc 9) 0 8));
+      wanted = 1 ∷ 0 ∷ 2 ∷ [];
+    }
+    -- misleading: dropping owed cycles on save
+    ∷ record { given = ofImage (imageOf (from (setOwed 2))) .core .owed ∷ []; wanted = 2 ∷ [] }
+    -- What reports show: n = 10, ROM 1E A5 93 44 1C then zeros, no schedule; the five lines of the document, to the letter
+    ∷ record {
+      given = traceText (0 ∷ 0 ∷ 0 ∷ 10 ∷ romAt 0 (0x1E ∷ 0xA5 ∷ 0x93 ∷ 0x44 ∷ 0x1C ∷ []));
+      wanted =
+          heading
+          ++ newline
+          ++ (48 ∷ 32 ∷ 67 ∷ 32 ∷ 53 ∷ 10 ∷ [])
+          ++ (48 ∷ 32 ∷ 68 ∷ 32 ∷ 65 ∷ 10 ∷ [])
+          ++ (51 ∷ 32 ∷ 69 ∷ 32 ∷ 51 ∷ 10 ∷ [])
+          ++ (101 ∷ 110 ∷ 100 ∷ 32 ∷ 53 ∷ 32 ∷ 51 ∷ 32 ∷ 50 ∷ 51 ∷ 10 ∷ []);
+    }
+    -- Two runners: the timer-skipping one, STM 80 and then TTM and a JCP back to it: 2 steps for STM, a jump of 62 cycles, and then
+    -- cycle by cycle; TTM skips at 66
+    ∷ record {
+      given =
+          seeAnswer (λ a. pcOf (a .state) ∷ a .cycles ∷ a .clocks ∷ a .begun ∷ a .steps ∷ [])
+          (skipping upd546 (romAt 0 (0x14 ∷ 0x80 ∷ 0x05 ∷ 0xC2 ∷ [])) [] fresh (replicate 552 0) 68);
+      wanted = 4 ∷ 68 ∷ 272 ∷ 66 ∷ 7 ∷ [];
+    }
+    ∷ []

@@ -1,0 +1,13 @@
+pub mod Bytes
+pub mod Tests
+pub mod TheMachine
+pub mod Parts
+pub mod TheLineSchedule
+pub mod Ports
+pub mod Timer
+pub mod Instructions
+pub mod OneMachineCycle
+pub mod StateImage
+pub mod TwoRunners
+pub mod Reports
+pub mod BenchCases

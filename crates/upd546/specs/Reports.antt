@@ -1,0 +1,96 @@
+-- Document 01, "What panel and clock reports show": the text that program `trace` writes. Clock cycles are in crate `runs`.
+-- Assumes nothing: these are definitions.
+use Prim.Native.Nat.{ℕ, zero, suc, _+_, _*_, _/_, _%_}
+use mathlib.Core.Bool.{Bool, true, false, cond}
+use mathlib.Core.List.{List, [], _∷_, _++_}
+use lib.Dec.{ltb}
+use lib.ListN.{length, getD, take, drop, replicate}
+use Rattle.runs.specs.TwoRunners.{End, finished, stopped, refused, RunAnswer, plain}
+use Rattle.upd546.specs.declared.State.{State}
+use Rattle.upd546.specs.TheMachine.{romLength, fresh, entries}
+use Rattle.upd546.specs.Bytes.{numberOf}
+use Rattle.upd546.specs.TwoRunners.{upd546}
+
+-- A text is the list of its ASCII codes.
+
+-- "Cycle decimal": the digits of n; `fuel` bounds their number
+unfoldable pub digits : ℕ → ℕ → List ℕ
+digits zero n = []
+digits (suc fuel) n = elim (ltb n 10) [ true ↦ (48 + n) ∷ [] | false ↦ digits fuel (n / 10) ++ ((48 + n % 10) ∷ []) ]
+
+-- a number of 64 bits has at most 20 digits
+abbrev pub decimal : ℕ → List ℕ
+decimal n = digits 20 n
+
+-- "port letter"
+abbrev pub portLetter : ℕ → ℕ
+portLetter p = 65 + p
+
+-- "value hexadecimal"
+abbrev pub hexDigit : ℕ → ℕ
+hexDigit v = cond (ltb v 10) (48 + v) (55 + v)
+
+abbrev pub space : List ℕ
+space = 32 ∷ []
+
+abbrev pub newline : List ℕ
+newline = 10 ∷ []
+
+-- "cycle port value"
+abbrev pub heading : List ℕ
+heading = 99 ∷ 121 ∷ 99 ∷ 108 ∷ 101 ∷ 32 ∷ 112 ∷ 111 ∷ 114 ∷ 116 ∷ 32 ∷ 118 ∷ 97 ∷ 108 ∷ 117 ∷ 101 ∷ []
+
+-- "end"
+abbrev pub endWord : List ℕ
+endWord = 101 ∷ 110 ∷ 100 ∷ []
+
+-- "`refused`"
+abbrev pub refusedWord : List ℕ
+refusedWord = 114 ∷ 101 ∷ 102 ∷ 117 ∷ 115 ∷ 101 ∷ 100 ∷ []
+
+-- the line of record i of a log
+abbrev pub recordLine : List ℕ → ℕ → List ℕ
+recordLine log i =
+    decimal (numberOf (entries 6 (λ k. getD log (8 * i + k) 0)))
+    ++ space
+    ++ (portLetter (getD log (8 * i + 6) 0) ∷ [])
+    ++ space
+    ++ (hexDigit (getD log (8 * i + 7) 0) ∷ [])
+    ++ newline
+
+-- the lines of the first k records
+unfoldable pub recordLines : List ℕ → ℕ → List ℕ
+recordLines log zero = []
+recordLines log (suc k) = recordLines log k ++ recordLine log k
+
+-- "A refusal prints only `refused` and the number."
+abbrev pub refusedText : ℕ → List ℕ
+refusedText k = refusedWord ++ space ++ decimal k ++ newline
+
+-- "then cycles, instructions, stop (0 if finished)"
+abbrev pub endText : RunAnswer State → ℕ → List ℕ
+endText a k = endWord ++ space ++ decimal (a .cycles) ++ space ++ decimal (a .begun) ++ space ++ decimal k ++ newline
+
+abbrev pub reportText : RunAnswer State → ℕ → List ℕ
+reportText a k = heading ++ newline ++ recordLines (a .log) (a .written / 8) ++ endText a k
+
+abbrev pub onEnd : End → RunAnswer State → List ℕ
+onEnd finished a = reportText a 0
+onEnd (stopped k) a = reportText a k
+onEnd (refused k) a = refusedText k
+
+-- "with a log of 16,384 bytes"
+abbrev pub traceLog : ℕ
+traceLog = 16384
+
+-- "runs a fresh state on the plain runner": n, ROM, schedule
+abbrev pub traceRun : ℕ → List ℕ → List ℕ → List ℕ
+traceRun n rom sched = let a = plain upd546 rom sched fresh (replicate traceLog 0) n in onEnd (a .end) a
+
+-- "reads from standard input n (4 bytes, big-endian), ROM and schedule, under 2,004 bytes being 21"
+abbrev pub onShort : Bool → List ℕ → List ℕ
+onShort true input = refusedText 21
+onShort false input = traceRun (numberOf (take 4 input)) (take romLength (drop 4 input)) (drop (4 + romLength) input)
+
+unfoldable pub traceText : List ℕ → List ℕ
+traceText input = onShort (ltb (length input) (4 + romLength)) input

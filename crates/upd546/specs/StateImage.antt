@@ -1,0 +1,142 @@
+-- Document 01, "State image, 81 bytes". Assumes nothing: these are definitions.
+use Prim.Native.Nat.{ℕ, zero, suc, _+_, _-_, _*_, _/_, _%_, _^_}
+use mathlib.Core.Bool.{Bool, _&&_, _||_}
+use mathlib.Core.List.{List, [], _∷_, _++_}
+use lib.Dec.{eqb, leb, ltb}
+use lib.ListN.{length, getD, take, drop}
+use Rattle.runs.specs.TwoRunners.{cycleLimit, firstOf, unless}
+use Rattle.upd546.specs.declared.Registers.{Registers}
+use Rattle.upd546.specs.declared.Flow.{Flow}
+use Rattle.upd546.specs.declared.Interrupt.{Interrupt}
+use Rattle.upd546.specs.declared.Timer.{Timer}
+use Rattle.upd546.specs.declared.Core.{Core}
+use Rattle.upd546.specs.declared.State.{State}
+use Rattle.upd546.specs.TheMachine.{addresses, stackDepth, latches, ramLength, dpOf, markStm, entries}
+use Rattle.upd546.specs.Bytes.{bitAt, numberOf, bytesOf}
+use Rattle.upd546.specs.Tests.{allOf, allBelow, sameNumbers}
+
+-- "State image, 81 bytes"
+abbrev pub imageLength : ℕ
+imageLength = 81
+
+-- "0-2 the mark `U43`"
+abbrev pub imageMark : List ℕ
+imageMark = 0x55 ∷ 0x34 ∷ 0x33 ∷ []
+
+-- "3-4 version 1"
+abbrev pub imageVersion : List ℕ
+imageVersion = 0 ∷ 1 ∷ []
+
+-- "7-12 stack, newest first": two bytes each
+abbrev pub wordsBytes : List ℕ → List ℕ
+wordsBytes [] = []
+wordsBytes (w ∷ ws) = bytesOf 2 w ++ wordsBytes ws
+
+-- "15 bits 0 to 5: C, C', INT, INTE, TM, level"
+abbrev pub flagsByte : Core → ℕ
+flagsByte c =
+    c .registers .carry + 2 * c .registers .saved + 4 * c .interrupt .int + 8 * c .interrupt .inte + 16 * c .timer .tm + 32 * c .interrupt .level
+
+-- "27-74 RAM rows 0 to 4 and 7, even column in the high half"
+abbrev pub packed : List ℕ → List ℕ
+packed [] = []
+packed (a ∷ []) = (16 * a) ∷ []
+packed (a ∷ b ∷ ws) = (16 * a + b) ∷ packed ws
+
+-- The image of a state. "5-6 PC; 7-12 stack, newest first; 13 DP; 14 Acc; 15 ..; 16 mark 0 to 3 in the order above; 17 owed;
+-- 18 register, 0 when stopped; 19 counter, 0 when stopped; 20-26 ports C to I; 27-74 RAM ..; 75-80 cycle. Big-endian."
+unfoldable pub imageOf : State → List ℕ
+imageOf s =
+    imageMark
+    ++ imageVersion
+    ++ bytesOf 2 (s .core .flow .pc)
+    ++ wordsBytes (s .core .flow .stack)
+    ++ (dpOf (s .core) ∷ s .core .registers .acc ∷ flagsByte (s .core) ∷ s .core .mark ∷ s .core .owed ∷ s .core .timer .register ∷ s .core .timer .counter ∷ [])
+    ++ s .ports
+    ++ packed (s .ram)
+    ++ bytesOf 6 (s .cycle .0)
+
+-- n bytes of an image from the byte at on
+abbrev pub part : List ℕ → ℕ → ℕ → List ℕ
+part image at n = take n (drop at image)
+
+abbrev pub byte : List ℕ → ℕ → ℕ
+byte image at = getD image at 0
+
+abbrev pub unpacked : List ℕ → List ℕ
+unpacked [] = []
+unpacked (b ∷ bs) = (b / 16) ∷ (b % 16) ∷ unpacked bs
+
+-- The state of an image.
+unfoldable pub ofImage : List ℕ → State
+ofImage image = record {
+  core = record {
+    registers = record {
+      acc = byte image 14;
+      carry = bitAt (byte image 15) 0;
+      saved = bitAt (byte image 15) 1;
+      dph = byte image 13 / 16;
+      dpl = byte image 13 % 16;
+    };
+    flow = record { pc = numberOf (part image 5 2); stack = entries stackDepth (λ i. numberOf (part image (7 + 2 * i) 2)) };
+    interrupt = record { int = bitAt (byte image 15) 2; inte = bitAt (byte image 15) 3; level = bitAt (byte image 15) 5 };
+    timer = record { tm = bitAt (byte image 15) 4; register = byte image 18; counter = byte image 19 };
+    mark = byte image 16;
+    owed = byte image 17;
+  };
+  ports = part image 20 latches;
+  ram = unpacked (part image 27 (ramLength / 2));
+  cycle = record { 0 = numberOf (part image 75 6) };
+}
+
+-- "A field above its width or rule is refused", part by part of a state.
+-- "Acc: 4 bits. C, C': carry and saved carry"; "DPH 3 bits, DPL 4 bits"
+unfoldable pub registersSound : Registers → Bool
+registersSound r = allOf (ltb (r .acc) 16 ∷ ltb (r .carry) 2 ∷ ltb (r .saved) 2 ∷ ltb (r .dph) 8 ∷ ltb (r .dpl) 16 ∷ [])
+
+-- "PC: 11 bits"; "Stack: three PCs."
+unfoldable pub flowSound : Flow → Bool
+flowSound f = allOf (ltb (f .pc) addresses ∷ eqb (length (f .stack)) stackDepth ∷ allBelow addresses (f .stack) ∷ [])
+
+-- "INT and INTE flip-flops; .. the INT level last seen"
+unfoldable pub interruptSound : Interrupt → Bool
+interruptSound i = allOf (ltb (i .int) 2 ∷ ltb (i .inte) 2 ∷ ltb (i .level) 2 ∷ [])
+
+-- "The 6-bit polynomial register", the counter of 6 bits; "counter, 0 when stopped"
+unfoldable pub timerSound : Timer → Bool
+timerSound t = allOf (ltb (t .tm) 2 ∷ ltb (t .register) 64 ∷ ltb (t .counter) 64 ∷ (ltb 0 (t .register) || eqb (t .counter) 0) ∷ [])
+
+-- "mark 0 to 3"; "Owed: cycles 0 to 3"
+unfoldable pub coreSound : Core → Bool
+coreSound c =
+    allOf (registersSound (c .registers) ∷ flowSound (c .flow) ∷ interruptSound (c .interrupt) ∷ timerSound (c .timer) ∷ leb (c .mark) markStm ∷ leb (c .owed) 3 ∷ [])
+
+-- "Ports C to I: output latches, I of 3 bits."
+unfoldable pub portsSound : List ℕ → Bool
+portsSound ports = allOf (eqb (length ports) latches ∷ allBelow 16 ports ∷ ltb (getD ports (latches - 1) 0) 8 ∷ [])
+
+-- "the 4-bit RAM word"
+unfoldable pub ramSound : List ℕ → Bool
+ramSound ram = allOf (eqb (length ram) ramLength ∷ allBelow 16 ram ∷ [])
+
+-- all fields of a state; "Cycle number, at most 2^48 - 1."
+unfoldable pub stateSound : State → Bool
+stateSound s = allOf (coreSound (s .core) ∷ portsSound (s .ports) ∷ ramSound (s .ram) ∷ leb (s .cycle .0) cycleLimit ∷ [])
+
+-- "34 a field, also in a state given as a value"
+unfoldable pub stateNumber : State → ℕ
+stateNumber s = unless (stateSound s) 34
+
+-- of an image the flags byte has a width of its own: 6 bits
+unfoldable pub fieldsNumber : List ℕ → ℕ
+fieldsNumber image = unless (ltb (byte image 15) 64 && stateSound (ofImage image)) 34
+
+-- "31 length not 81; 32 bytes 0 to 2; 33 version; 34 a field"
+unfoldable pub imageNumber : List ℕ → ℕ
+imageNumber image =
+    firstOf
+    (unless (eqb (length image) imageLength) 31
+    ∷ unless (sameNumbers (part image 0 3) imageMark) 32
+    ∷ unless (sameNumbers (part image 3 2) imageVersion) 33
+    ∷ fieldsNumber image
+    ∷ [])

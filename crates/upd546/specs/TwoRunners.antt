@@ -1,0 +1,99 @@
+-- Document 01, "Two runners": where the timer-skipping one jumps, and the chip as the machine that the runners run.
+-- Assumes nothing: these are definitions.
+use Prim.Native.Nat.{ℕ, zero, suc, _+_, _%_, min}
+use mathlib.Core.Bool.{Bool, true, false, not, _&&_}
+use mathlib.Core.List.{List, [], _∷_}
+use lib.Dec.{eqb, leb, ltb}
+use lib.ListN.{length}
+use Rattle.runs.specs.Machine.{Machine}
+use Rattle.runs.specs.TwoRunners.{firstOf, unless, plain, skipping, saved, restored}
+use Rattle.runs.specs.TwoRunners as runners
+use Rattle.runs.specs.Numbers.{endOf, outcomeNumber}
+use Rattle.upd546.specs.declared.State.{State}
+use Rattle.upd546.specs.declared.RunAnswer.{RunAnswer}
+use Rattle.upd546.specs.declared.RestoreAnswer.{RestoreAnswer}
+use Rattle.upd546.specs.TheMachine.{romLength, inRom, byteAt, follows, pageOf, fresh}
+use Rattle.upd546.specs.Tests.{allOf}
+use Rattle.upd546.specs.TheLineSchedule.{scheduleNumber, linesAt, noRecord}
+use Rattle.upd546.specs.Timer.{ticksLeft}
+use Rattle.upd546.specs.OneMachineCycle.{cycle}
+use Rattle.upd546.specs.StateImage.{imageLength, imageOf, ofImage, stateNumber, imageNumber}
+
+-- "the byte at PC is TTM"
+unfoldable pub atTtm : List ℕ → ℕ → Bool
+atTtm rom pc = allOf (inRom pc ∷ eqb (byteAt rom pc) 0x05 ∷ [])
+
+-- "and the next address holds a JCP back to it"
+unfoldable pub atJcpBack : List ℕ → ℕ → Bool
+atJcpBack rom pc =
+    allOf (inRom (follows pc) ∷ leb 0xC0 (byteAt rom (follows pc)) ∷ eqb (pageOf (follows pc) + byteAt rom (follows pc) % 64) pc ∷ [])
+
+-- "jumps .. where: owed 0; TM 0; timer running; INT and INTE not both 1; the byte at PC is TTM and the next address holds a JCP
+-- back to it; the INT line equals the level seen"
+unfoldable pub mayJump : List ℕ → List ℕ → State → Bool
+mayJump rom sched s =
+    allOf
+    (eqb (s .core .owed) 0
+    ∷ eqb (s .core .timer .tm) 0
+    ∷ ltb 0 (s .core .timer .register)
+    ∷ not (eqb (s .core .interrupt .int) 1 && eqb (s .core .interrupt .inte) 1)
+    ∷ atTtm rom (s .core .flow .pc)
+    ∷ atJcpBack rom (s .core .flow .pc)
+    ∷ eqb (linesAt sched (s .cycle .0) .int) (s .core .interrupt .level)
+    ∷ [])
+
+-- "even"; "no schedule record in the j - 1 cycles after the present one"
+unfoldable pub jumpable : List ℕ → ℕ → ℕ → Bool
+jumpable sched n j = eqb (j % 2) 0 && noRecord sched (n + 1) (n + j)
+
+-- the largest number up to k that passes the test, or 0
+unfoldable pub largest : (ℕ → Bool) → ℕ → ℕ
+largest test zero = 0
+largest test (suc k) = elim (test (suc k)) [ true ↦ suc k | false ↦ largest test k ]
+
+-- "j, the largest even number at most r and the cycles left, with no schedule record in the j - 1 cycles after the present
+-- one, is 2 or more." An even number that isn't 0 is.
+abbrev pub onJump : Bool → List ℕ → State → ℕ → ℕ
+onJump true sched s left = largest (jumpable sched (s .cycle .0)) (min (ticksLeft (s .core .timer)) left)
+onJump false sched s left = 0
+
+-- the cycles that the timer-skipping runner jumps in one step, or 0
+unfoldable pub jumpLength : List ℕ → List ℕ → State → ℕ → ℕ
+jumpLength rom sched s left = onJump (mayJump rom sched s) sched s left
+
+-- "21 not 2,000 bytes", before the schedule's numbers
+unfoldable pub panelNumber : List ℕ → List ℕ → ℕ
+panelNumber rom sched = firstOf (unless (eqb (length rom) romLength) 21 ∷ scheduleNumber sched ∷ [])
+
+-- The uPD546 as the runners, save and restore take it.
+abbrev pub upd546 : Machine
+upd546 = record {
+  State = State;
+  cycle = cycle;
+  at = λ s. s .cycle .0;
+  jump = jumpLength;
+  panelNumber = panelNumber;
+  stateNumber = stateNumber;
+  imageNumber = imageNumber;
+  imageLength = imageLength;
+  image = imageOf;
+  ofImage = ofImage;
+  fresh = fresh;
+}
+
+-- What a run answers, with the lent log as it stands when the run returns, in the terms of the definitions.
+abbrev pub answerOf : RunAnswer → List ℕ → runners.RunAnswer State
+answerOf a log = record {
+  end = endOf (a .end);
+  state = a .state;
+  cycles = a .cycles .0;
+  clocks = a .clocks .0;
+  begun = a .begun;
+  written = a .written;
+  steps = a .steps;
+  log = log;
+}
+
+-- What a restore answers, in the terms of the definitions.
+abbrev pub restoreOf : RestoreAnswer → runners.RestoreAnswer State
+restoreOf a = record { number = outcomeNumber (a .outcome); state = a .state }

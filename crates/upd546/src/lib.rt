@@ -1,0 +1,117 @@
+// The uPD546 of document 01: the types that definitions and functions share, the fresh state, and in specs/ every sentence
+// of the document as a definition, a file for each section. It may not know how a runner, a save or a restore is written.
+use runs::ClockCycles;
+use runs::MachineCycles;
+use runs::Outcome;
+use runs::RunEnd;
+ghost use mathlib.Core.Path.{_≡_};
+ghost use Rattle.upd546.specs.TheMachine.{fresh};
+
+// Acc, C, C' and DP. Flags are 0 or 1.
+pub struct Registers {
+    pub acc: u8,
+    pub carry: u8,
+    pub saved: u8,
+    pub dph: u8,
+    pub dpl: u8,
+}
+
+// PC and the stack, newest first.
+pub struct Flow {
+    pub pc: u16,
+    pub stack: [u16; 3],
+}
+
+// The flip-flops INT and INTE, and the INT level last seen.
+pub struct Interrupt {
+    pub int: u8,
+    pub inte: u8,
+    pub level: u8,
+}
+
+// The flip-flop TM, the polynomial register (0 when stopped) and the binary counter.
+pub struct Timer {
+    pub tm: u8,
+    pub register: u8,
+    pub counter: u8,
+}
+
+// What the instructions work on besides one RAM word and the ports.
+pub struct Core {
+    pub registers: Registers,
+    pub flow: Flow,
+    pub interrupt: Interrupt,
+    pub timer: Timer,
+    pub mark: u8,
+    pub owed: u8,
+}
+
+// The whole machine: the core, the output latches of ports C to I, the RAM (rows 0 to 4 and 7) and the cycle number.
+pub struct State {
+    pub core: Core,
+    pub ports: [u8; 7],
+    pub ram: [u8; 96],
+    pub cycle: MachineCycles,
+}
+
+// The lines of one cycle: ports A to D and the INT level.
+pub struct Lines {
+    pub a: u8,
+    pub b: u8,
+    pub c: u8,
+    pub d: u8,
+    pub int: u8,
+}
+
+// What a run answers. The log that it was lent holds `written` bytes of records.
+pub struct RunAnswer {
+    pub end: RunEnd,
+    pub state: State,
+    pub cycles: MachineCycles,
+    pub clocks: ClockCycles,
+    pub begun: u64,
+    pub written: usize,
+    pub steps: u64,
+}
+
+// What a restore answers: where it is refused, the fresh state. A save answers an `Outcome`.
+pub struct RestoreAnswer {
+    pub outcome: Outcome,
+    pub state: State,
+}
+
+// The fresh state.
+pub fn fresh_state() -> State
+    ensures { λ r. ⌜ r ≡ fresh ⌝ }
+{
+    State {
+        core: Core {
+            registers: Registers {
+                acc: 0,
+                carry: 0,
+                saved: 0,
+                dph: 0,
+                dpl: 0,
+            },
+            flow: Flow {
+                pc: 0,
+                stack: [0, 0, 0],
+            },
+            interrupt: Interrupt {
+                int: 0,
+                inte: 0,
+                level: 1,
+            },
+            timer: Timer {
+                tm: 0,
+                register: 0,
+                counter: 0,
+            },
+            mark: 0,
+            owed: 0,
+        },
+        ports: [0; 7],
+        ram: [0; 96],
+        cycle: MachineCycles(0),
+    }
+}
