@@ -1,0 +1,260 @@
+-- A machine cycle keeps every field within its width, adds 1 to the cycle number and appends at most 8 bytes, but 8 more where
+-- it leaves cycles owed. Assumes nothing.
+use mathlib.Core.Path.{_≡_, _∙_, refl, sym, ap, subst}
+use mathlib.Core.Bool.{Bool, true, false, cond}
+use mathlib.Core.List.{List, [], _∷_, _++_}
+use Prim.Native.Nat.{ℕ, zero, suc, _+_, _-_, _*_, _/_, _%_, _<_, _≤_}
+use native.Mathlib.Omega.{arith}
+use lib.Dec.{T, eqb, leb, ltb, ltb→lt}
+use lib.ListN.{length, getD, set, length-set}
+use borrow.Author.Tests.{eqb-false, ltb-true}
+use Rattle.runs.specs.Machine.{Out, stop, went}
+use Rattle.runs.specs.TwoRunners.{cycleLimit}
+use Rattle.runs.specs.Laws.{Bytes}
+use Rattle.runs.proofs.Refusals.{first-at, passes}
+use Rattle.upd546.specs.declared.Core.{Core}
+use Rattle.upd546.specs.declared.Timer.{Timer}
+use Rattle.upd546.specs.declared.Lines.{Lines}
+use Rattle.upd546.specs.declared.State.{State}
+use Rattle.upd546.specs.TheMachine.{addresses, byteAt, follows, past, wordAt, withWord, placeOf, pushed, markStm}
+use Rattle.upd546.specs.Parts.{withTimer, setOwed, setPc}
+use Rattle.upd546.specs.TheLineSchedule.{linesAt}
+use Rattle.upd546.specs.Ports.{Write, latched, logBytes, portC, portI}
+use Rattle.upd546.specs.Timer.{stepRegister, returnedTimer, tick}
+use Rattle.upd546.specs.Instructions.{Given, Effect, Instruction, instruction}
+use Rattle.upd546.specs.OneMachineCycle.{accepts, accepted, taken, paid, ticked, ended, quiet, given, instructionStop, passedOver, begun, onStop, execute, onOwed, onAccepts, cycle}
+use Rattle.upd546.specs.TwoRunners.{panelNumber}
+use Rattle.upd546.proofs.Computed.{every-at}
+use Rattle.laws.specs.Valid.{Scalars, ValidStack, ValidCore, ValidPorts, ValidRam, Valid, ValidLines}
+use Rattle.laws.proofs.Lists.{below-set, set-entry}
+use Rattle.laws.proofs.Instructions.{All, none, more, ValidWrite, ValidGiven, ValidEffect, Keeps, keeps, pushed-valid}
+use Rattle.laws.proofs.Lines.{lines-valid}
+
+-- THE TIMER
+
+record ValidTimer (t : Timer) : Type 0 where
+  tm : t .tm < 2
+  register : t .register < 64
+  counter : t .counter < 64
+  stopped : t .counter ≤ 63 * t .register
+
+-- the register stays within 6 bits, and a running one never becomes 0
+pub step-small : (r : ℕ) → r < 64 → stepRegister r < 64
+unfolding stepRegister
+step-small r h = ltb→lt _ _ (every-at (λ k. ltb (stepRegister k) 64) 64 tt r h)
+
+pub step-runs : (r : ℕ) → 0 < r → r < 64 → 0 < stepRegister r
+unfolding stepRegister
+step-runs r p h =
+    let t : T (ltb 0 (stepRegister (suc (r - 1)))) = every-at (λ k. ltb 0 (stepRegister (suc k))) 63 tt (r - 1) (omega arith) in
+    let e : suc (r - 1) ≡ r = omega arith in
+    ltb→lt 0 (stepRegister r) (rw e at t)
+
+tick-valid : (t : Timer) → ValidTimer t → ValidTimer (tick t)
+unfolding tick
+tick-valid t v = go (eqb (t .register) 0) refl (eqb (stepRegister (t .register)) 1) (eqb (t .counter) 0)
+  where
+    go : (a : Bool) → eqb (t .register) 0 ≡ a → (b c : Bool)
+        → ValidTimer (cond a t (cond b (cond c (record { tm = 1; register = 0; counter = 0 }) (record { tm = t .tm; register = 1; counter = t .counter - 1 })) (record { tm = t .tm; register = stepRegister (t .register); counter = t .counter })))
+    go true e b c = v
+    go false e true true = omega arith
+    go false e true false = omega arith
+    go false e false c =
+        let p : 0 < t .register = omega (arith, eqb-false (t .register) 0 e) in
+        omega (arith, step-small (t .register) (v .register), step-runs (t .register) p (v .register))
+
+timer-of : (c : Core) → Scalars c → ValidTimer (c .timer)
+timer-of c v = omega arith
+
+-- STEPS a, b, c AND d
+
+ticked-valid : (c : Core) → ValidCore c → ValidCore (ticked c)
+unfolding ticked
+ticked-valid c v = go (eqb (c .mark) markStm)
+  where
+    go : (b : Bool) → ValidCore (cond b c (withTimer c (tick (c .timer))))
+    go true = v
+    go false = record { scalars = omega (arith, tick-valid (c .timer) (timer-of c (v .scalars))); stack = v .stack }
+
+ticked-owed : (c : Core) → ticked c .owed ≡ c .owed
+unfolding ticked
+ticked-owed c = go (eqb (c .mark) markStm)
+  where
+    go : (b : Bool) → cond b c (withTimer c (tick (c .timer))) .owed ≡ c .owed
+    go true = refl
+    go false = refl
+
+accepted-keeps : (c : Core) → ValidCore c → ValidCore (accepted c)
+unfolding accepted
+accepted-keeps c v = record { scalars = omega arith; stack = pushed-valid (c .flow .pc) (c .flow .stack) (v .scalars .pc) (v .stack) }
+
+taken-keeps : (l : Lines) (c : Core) → ValidLines l → ValidCore c → ValidCore (taken l c)
+unfolding taken
+taken-keeps l c h v = record { scalars = go (ltb (l .int) (c .interrupt .level)); stack = v .stack }
+  where
+    go : (b : Bool) → Scalars (record {
+      registers = c .registers;
+      flow = c .flow;
+      interrupt = record { int = cond b 1 (c .interrupt .int); inte = c .interrupt .inte; level = l .int };
+      timer = c .timer;
+      mark = c .mark;
+      owed = c .owed;
+    })
+    go true = omega arith
+    go false = omega arith
+
+paid-keeps : (c : Core) → ValidCore c → ValidCore (paid c)
+unfolding paid
+paid-keeps c v = record { scalars = omega arith; stack = v .stack }
+
+follows-small : (a : ℕ) → a < addresses → follows a < addresses
+unfolding follows
+follows-small a h = omega arith
+
+past-small : (n a : ℕ) → a < addresses → past n a < addresses
+unfolding past
+past-small zero a h = h
+past-small (suc n) a h = past-small n (follows a) (follows-small a h)
+
+-- WRITES
+
+latched-valid : (ws : List Write) (ports : List ℕ) → All ValidWrite ws → ValidPorts ports → ValidPorts (latched ws ports)
+latched-valid [] ports a v = v
+latched-valid (w ∷ ws) ports (more h a) v =
+    latched-valid ws (set ports (w .port - portC) (w .value)) a
+    (record {
+      count = length-set ports (w .port - portC) (w .value) ∙ v .count;
+      below = below-set 16 ports (w .port - portC) (w .value) (h .value) (v .below);
+      last = set-entry 8 ports (w .port - portC) (w .value) 6 (λ e. h .narrow (omega (arith, h .first))) (v .last);
+    })
+
+records-length : (n : ℕ) (ws : List Write) → length (logBytes n ws) ≡ 8 * length ws
+records-length n [] = refl
+records-length n (w ∷ ws) = omega (arith, records-length n ws)
+
+-- WHAT A CYCLE KEEPS
+
+-- 8 while the last instruction begun still owes cycles, else 0: a second record is paid by an owed cycle
+abbrev pub debtOf : ℕ → ℕ
+debtOf zero = 0
+debtOf (suc k) = 8
+
+abbrev pub debt : State → ℕ
+debt s = debtOf (s .core .owed)
+
+pub debt-small : (owed : ℕ) → debtOf owed ≤ 8
+debt-small zero = omega arith
+debt-small (suc k) = omega arith
+
+debt-owes : (owed : ℕ) → 0 < owed → debtOf owed ≡ 8
+debt-owes zero h = absurd (omega arith)
+debt-owes (suc k) h = refl
+
+-- n records of an instruction with so many base cycles
+room : (cycles n over : ℕ) → 0 < cycles → cycles ≤ 2 → n ≤ cycles → 8 * n + 0 ≤ 8 + debtOf (cycles - 1 + over)
+room zero n over p q r = absurd (omega arith)
+room (suc zero) n over p q r = omega arith
+room (suc (suc k)) n over p q r = omega (arith, debt-owes (suc (suc k) - 1 + over) (omega arith))
+
+pub record Cycled (s t : State) (w : List ℕ) (b : ℕ) : Type 0 where
+  pub valid : Valid t
+  pub rises : t .cycle .0 ≡ suc (s .cycle .0)
+  pub records : length w + debt s ≤ 8 + debt t
+  pub begun : b ≤ 1
+
+abbrev Fine : State → Out State → Type 0
+Fine s (stop k) = Unit {0}
+Fine s (went t w b) = Cycled s t w b
+
+module _ (s : State) (v : Valid s) (h : s .cycle .0 < cycleLimit) where
+  -- the state after a cycle
+  ended-valid : (c : Core) (ram ports : List ℕ) → ValidCore c → ValidRam ram → ValidPorts ports → Valid (ended s c ram ports)
+  ended-valid c ram ports vc vr vp = record { core = ticked-valid c vc; ports = vp; ram = vr; cycle = omega arith }
+
+  quiet-fine : (c : Core) → ValidCore c → Fine s (quiet s c)
+  quiet-fine c vc =
+      record {
+        valid = ended-valid c (s .ram) (s .ports) vc (v .ram) (v .ports);
+        rises = omega arith;
+        records = omega (arith, debt-small (s .core .owed));
+        begun = omega arith;
+      }
+
+  module _ (rom : List ℕ) (l : Lines) (b : Bytes rom) (vl : ValidLines l) (c : Core) (vc : ValidCore c) where
+    given-valid : ValidGiven (given rom l s c)
+    unfolding given
+    given-valid = record {
+      core = vc;
+      after = past-small (instruction (byteAt rom (c .flow .pc)) .bytes) (c .flow .pc) (vc .scalars .pc);
+      second = b (follows (c .flow .pc));
+      word = v .ram .below (placeOf (instruction (byteAt rom (c .flow .pc)) .address c));
+      lines = vl;
+      ports = v .ports;
+    }
+
+    over-small : (e : Effect) → passedOver rom e ≤ 2
+    unfolding passedOver
+    over-small e = go (e .skip)
+      where
+        go : (t : Bool) → cond t (instruction (byteAt rom (e .core .flow .pc)) .bytes) 0 ≤ 2
+        go true = keeps (byteAt rom (e .core .flow .pc)) .two-bytes
+        go false = omega arith
+
+    -- an instruction that is begun; a base cycle at least, for each record
+    begun-fine : (i : Instruction) (g : Given) (over : ℕ) → Keeps i → ValidGiven g → over ≤ 2 → 0 < i .cycles → s .core .owed ≡ 0 → Fine s (begun i g (i .effect g) over s)
+    unfolding begun
+    begun-fine i g over k vg ho hc z =
+        let e = i .effect g in
+        let ve = k .effect g vg in
+        let core = setOwed (i .cycles - 1 + over) (setPc (past over (e .core .flow .pc)) (e .core)) in
+        let pc = past-small over (e .core .flow .pc) (ve .core .scalars .pc) in
+        let vcore : ValidCore core = record { scalars = omega (arith, ve .core .scalars, k .two-cycles, pc); stack = ve .core .stack } in
+        record {
+          valid =
+              ended-valid core (withWord (s .ram) (i .address (g .core)) (e .word)) (latched (e .writes) (s .ports)) vcore
+              (record {
+                count = length-set (s .ram) (placeOf (i .address (g .core))) (e .word) ∙ v .ram .count;
+                below = below-set 16 (s .ram) (placeOf (i .address (g .core))) (e .word) (ve .word) (v .ram .below);
+              })
+              (latched-valid (e .writes) (s .ports) (ve .writes) (v .ports));
+          rises = omega arith;
+          records = rw (records-length (s .cycle .0) (e .writes), ticked-owed core, z) (room (i .cycles) (length (e .writes)) over hc (k .two-cycles) (k .records g vg));
+          begun = omega arith;
+        }
+
+    -- a stop before any of it, or the instruction
+    on-stop : (i : Instruction) (g : Given) (over : ℕ) → Keeps i → ValidGiven g → over ≤ 2 → s .core .owed ≡ 0 → (k : ℕ) → instructionStop i g (i .effect g) ≡ k
+        → Fine s (onStop k (begun i g (i .effect g) over s))
+    unfolding instructionStop
+    on-stop i g over k vg ho z zero e = begun-fine i g over k vg ho (ltb-true 0 (i .cycles) (passes (ltb 0 (i .cycles)) 22 (first-at _ e 1))) z
+    on-stop i g over k vg ho z (suc n) e = tt
+
+    execute-fine : s .core .owed ≡ 0 → Fine s (execute rom l s c)
+    unfolding execute
+    execute-fine z =
+        let g = given rom l s c in
+        let i = instruction (g .code) in
+        on-stop i g (passedOver rom (i .effect g)) (keeps (g .code)) given-valid (over-small (i .effect g)) z (instructionStop i g (i .effect g)) refl
+
+    owed-fine : (owed : ℕ) → s .core .owed ≡ owed → Fine s (onOwed owed rom l s c)
+    owed-fine zero z = execute-fine z
+    owed-fine (suc k) z = quiet-fine (paid c) (paid-keeps c vc)
+
+  cycle-fine : (rom sched : List ℕ) → Bytes rom → Bytes sched → panelNumber rom sched ≡ 0 → Fine s (cycle rom sched s)
+  unfolding cycle
+  cycle-fine rom sched br bs e = go (accepts (s .core))
+    where
+      l : Lines
+      l = linesAt sched (s .cycle .0)
+
+      vl : ValidLines l
+      vl = lines-valid rom sched (s .cycle .0) bs e
+
+      go : (t : Bool) → Fine s (onAccepts t rom l s)
+      go true = quiet-fine (taken l (accepted (s .core))) (taken-keeps l (accepted (s .core)) vl (accepted-keeps (s .core) (v .core)))
+      go false = owed-fine rom l br vl (taken l (s .core)) (taken-keeps l (s .core) vl (v .core)) (s .core .owed) refl
+
+-- THE LAW: a cycle that is begun at a valid state below the cycle limit
+pub cycle-keeps : (rom sched : List ℕ) (s t : State) (w : List ℕ) (b : ℕ) → Bytes rom → Bytes sched → panelNumber rom sched ≡ 0 → Valid s
+    → s .cycle .0 < cycleLimit → cycle rom sched s ≡ went t w b → Cycled s t w b
+cycle-keeps rom sched s t w b br bs p v h e = subst (Fine s) e (cycle-fine s v h rom sched br bs p)
