@@ -84,11 +84,11 @@ ticked-owed c = go (eqb (c .mark) markStm)
     go true = refl
     go false = refl
 
-accepted-keeps : (c : Core) → ValidCore c → ValidCore (accepted c)
+pub accepted-keeps : (c : Core) → ValidCore c → ValidCore (accepted c)
 unfolding accepted
 accepted-keeps c v = record { scalars = omega arith; stack = pushed-valid (c .flow .pc) (c .flow .stack) (v .scalars .pc) (v .stack) }
 
-taken-keeps : (l : Lines) (c : Core) → ValidLines l → ValidCore c → ValidCore (taken l c)
+pub taken-keeps : (l : Lines) (c : Core) → ValidLines l → ValidCore c → ValidCore (taken l c)
 unfolding taken
 taken-keeps l c h v = record { scalars = go (ltb (l .int) (c .interrupt .level)); stack = v .stack }
   where
@@ -103,7 +103,7 @@ taken-keeps l c h v = record { scalars = go (ltb (l .int) (c .interrupt .level))
     go true = omega arith
     go false = omega arith
 
-paid-keeps : (c : Core) → ValidCore c → ValidCore (paid c)
+pub paid-keeps : (c : Core) → ValidCore c → ValidCore (paid c)
 unfolding paid
 paid-keeps c v = record { scalars = omega arith; stack = v .stack }
 
@@ -128,7 +128,7 @@ latched-valid (w ∷ ws) ports (more h a) v =
       last = set-entry 8 ports (w .port - portC) (w .value) 6 (λ e. h .narrow (omega (arith, h .first))) (v .last);
     })
 
-records-length : (n : ℕ) (ws : List Write) → length (logBytes n ws) ≡ 8 * length ws
+pub records-length : (n : ℕ) (ws : List Write) → length (logBytes n ws) ≡ 8 * length ws
 records-length n [] = refl
 records-length n (w ∷ ws) = omega (arith, records-length n ws)
 
@@ -181,12 +181,16 @@ module _ (s : State) (v : Valid s) (h : s .cycle .0 < cycleLimit) where
       }
 
   module _ (rom : List ℕ) (l : Lines) (b : Bytes rom) (vl : ValidLines l) (c : Core) (vc : ValidCore c) where
-    given-valid : ValidGiven (given rom l s c)
+    second-small : (t : Bool) → cond t (byteAt rom (follows (c .flow .pc))) 0 < 256
+    second-small true = b (follows (c .flow .pc))
+    second-small false = omega arith
+
+    pub given-valid : ValidGiven (given rom l s c)
     unfolding given
     given-valid = record {
       core = vc;
       after = past-small (instruction (byteAt rom (c .flow .pc)) .bytes) (c .flow .pc) (vc .scalars .pc);
-      second = b (follows (c .flow .pc));
+      second = second-small (eqb (instruction (byteAt rom (c .flow .pc)) .bytes) 2);
       word = v .ram .below (placeOf (instruction (byteAt rom (c .flow .pc)) .address c));
       lines = vl;
       ports = v .ports;

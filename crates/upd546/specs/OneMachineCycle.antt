@@ -48,7 +48,7 @@ ended s c ram ports = record { core = ticked c; ports = ports; ram = ram; cycle 
 abbrev pub quiet : State → Core → Out State
 quiet s c = went (ended s c (s .ram) (s .ports)) [] 0
 
--- What the instruction at PC is given.
+-- What the instruction at PC is given; one with one byte has no second byte, and 0 stands for it.
 unfoldable pub given : List ℕ → Lines → State → Core → Given
 given rom l s c =
     let code = byteAt rom (c .flow .pc) in
@@ -56,7 +56,7 @@ given rom l s c =
       core = c;
       after = past (instruction code .bytes) (c .flow .pc);
       code = code;
-      second = byteAt rom (follows (c .flow .pc));
+      second = cond (eqb (instruction code .bytes) 2) (byteAt rom (follows (c .flow .pc))) 0;
       word = wordAt (s .ram) (instruction code .address c);
       lines = l;
       ports = s .ports;

@@ -1,0 +1,185 @@
+-- What a cycle in which an instruction is due lands at: by its stops in their order, and by what it does. Assumes nothing.
+use mathlib.Core.Path.{_≡_, _∙_, refl, sym, ap, subst}
+use mathlib.Core.Bool.{Bool, true, false, cond}
+use mathlib.Core.List.{List, [], _∷_, _++_}
+use Prim.Native.Nat.{ℕ, zero, suc, _+_, _-_, _*_, _<_, _≤_}
+use native.Mathlib.Omega.{arith}
+use lib.Dec.{leb, ltb}
+use lib.ListN.{length, drop, set}
+use borrow.Author.Tests.{le-leb, lt-leb, ltb-true}
+use Rattle.runs.specs.TwoRunners.{firstOf}
+use Rattle.runs.proofs.Refusals.{first-at, passes}
+use Rattle.upd546.specs.declared.Core.{Core}
+use Rattle.upd546.specs.declared.Lines.{Lines}
+use Rattle.upd546.specs.declared.State.{State}
+use Rattle.upd546.specs.TheMachine.{byteAt, follows, past, wordAt, withWord}
+use Rattle.upd546.specs.Parts.{setOwed, setPc}
+use Rattle.upd546.specs.Ports.{Write, latched, logBytes}
+use Rattle.upd546.specs.Instructions as chip
+use Rattle.upd546.specs.Instructions.{Instruction, instruction}
+use Rattle.upd546.specs.OneMachineCycle.{ticked, given, needs, instructionStop, passedOver, begun, execute}
+use Rattle.laws.specs.Valid.{ValidCore}
+use Rattle.laws.proofs.Instructions.{ValidEffect, Keeps, keeps}
+use Rattle.laws.proofs.Cycle.{given-valid, records-length}
+use Rattle.instructions.specs.declared.Given.{Given}
+use Rattle.instructions.specs.Groups.{chipGiven, writesOf}
+use Rattle.effect.specs.declared.Effect.{Effect}
+use Rattle.effect.specs.Effects.{effectAt, Does}
+use Rattle.fetch.specs.declared.Fetched.{Fetched}
+use Rattle.fetch.specs.declared.Passed.{Passed}
+use Rattle.fetch.specs.Fetching.{fetchStop, Begins, PassedAs}
+use Rattle.portlog.specs.Appending.{Written}
+use Rattle.cycle.specs.Landing.{Landing, holds, landing, landed, Ready}
+
+-- numbers in their order, one more at the end
+later : (a b c d k : ℕ) → firstOf (a ∷ b ∷ c ∷ []) ≡ suc k → firstOf (a ∷ b ∷ c ∷ d ∷ []) ≡ suc k
+unfolding firstOf
+later (suc a) b c d k e = e
+later zero (suc b) c d k e = e
+later zero zero (suc c) d k e = e
+later zero zero zero d k e = absurd (omega arith)
+
+last : (a b c d : ℕ) → firstOf (a ∷ b ∷ c ∷ []) ≡ 0 → firstOf (a ∷ b ∷ c ∷ d ∷ []) ≡ d
+unfolding firstOf
+last (suc a) b c d e = absurd (omega arith)
+last zero (suc b) c d e = absurd (omega arith)
+last zero zero (suc c) d e = absurd (omega arith)
+last zero zero zero zero e = refl
+last zero zero zero (suc d) e = refl
+
+-- the instruction that is due at the core c, and its effect
+abbrev pub due : List ℕ → Core → Instruction
+due rom c = instruction (byteAt rom (c .flow .pc))
+
+abbrev pub dues : List ℕ → Lines → State → Core → chip.Effect
+dues rom l s c = due rom c .effect (given rom l s c)
+
+-- why what it skips can't be passed over, or 0
+abbrev pub skipStop : chip.Effect → ℕ
+skipStop e = cond (e .skip) (needs (e .core .flow .pc)) 0
+
+module _ (rom : List ℕ) (l : Lines) (s : State) (c : Core) (log : List ℕ) where
+  stop-fetch : (k : ℕ) → fetchStop rom (c .flow .pc) ≡ suc k → instructionStop (due rom c) (given rom l s c) (dues rom l s c) ≡ suc k
+  unfolding fetchStop instructionStop given
+  stop-fetch k e = later _ _ _ _ k e
+
+  stop-skip : fetchStop rom (c .flow .pc) ≡ 0 → instructionStop (due rom c) (given rom l s c) (dues rom l s c) ≡ skipStop (dues rom l s c)
+  unfolding fetchStop instructionStop given
+  stop-skip e = last _ _ _ _ e
+
+  pub at-fetch : (k : ℕ) → fetchStop rom (c .flow .pc) ≡ suc k → landing (execute rom l s c) s log ≡ holds (suc k) s log
+  unfolding execute landing given
+  at-fetch k e = rw (stop-fetch k e)
+
+  pub at-skip : (k : ℕ) → fetchStop rom (c .flow .pc) ≡ 0 → skipStop (dues rom l s c) ≡ suc k → landing (execute rom l s c) s log ≡ holds (suc k) s log
+  unfolding execute landing given
+  at-skip k e q = rw (stop-skip e ∙ q)
+
+  module _ (e : fetchStop rom (c .flow .pc) ≡ 0) (q : skipStop (dues rom l s c) ≡ 0) where
+    pub at-room : length log < 8 * length (dues rom l s c .writes) → landing (execute rom l s c) s log ≡ holds 3 s log
+    unfolding execute landing begun given
+    at-room h =
+        let t = lt-leb (length (logBytes (s .cycle .0) (dues rom l s c .writes))) (length log) (rw (records-length (s .cycle .0) (dues rom l s c .writes)) h) in
+        rw (stop-skip e ∙ q, t)
+
+    pub at-end : 8 * length (dues rom l s c .writes) ≤ length log → landing (execute rom l s c) s log ≡ record {
+      stop = 0;
+      core = ticked (setOwed (due rom c .cycles - 1 + passedOver rom (dues rom l s c)) (setPc (past (passedOver rom (dues rom l s c)) (dues rom l s c .core .flow .pc)) (dues rom l s c .core)));
+      ram = withWord (s .ram) (due rom c .address c) (dues rom l s c .word);
+      ports = latched (dues rom l s c .writes) (s .ports);
+      log = logBytes (s .cycle .0) (dues rom l s c .writes) ++ drop (length (logBytes (s .cycle .0) (dues rom l s c .writes))) log;
+      bytes = length (logBytes (s .cycle .0) (dues rom l s c .writes));
+      begun = 1;
+    }
+    unfolding execute landing begun given
+    at-end h =
+        let t = le-leb (length (logBytes (s .cycle .0) (dues rom l s c .writes))) (length log) (rw (records-length (s .cycle .0) (dues rom l s c .writes)) h) in
+        rw (stop-skip e ∙ q, t)
+
+-- what the code is given is what the instruction is given
+module _ (rom : List ℕ) (l : Lines) (s : State) (c : Core) (f : Fetched) (b : Begins rom (c .flow .pc) f) where
+  abbrev pub gave : Given
+  gave = record { core = c; after = f .after; code = f .code; second = f .second; lines = l }
+
+  effect-due : effectAt (instruction (f .code)) gave (s .ram) (s .ports) ≡ dues rom l s c
+  unfolding given
+  effect-due = rw (b .code, b .second, b .after)
+
+  -- an effect in code, as that of the instruction that is due
+  pub record DoesDue (e : Effect) : Type 0 where
+    pub core : e .core ≡ dues rom l s c .core
+    pub skip : e .skip ≡ dues rom l s c .skip
+    pub writes : writesOf (e .port) (e .value) ≡ dues rom l s c .writes
+    pub stored : set (s .ram) (e .at) (e .word) ≡ withWord (s .ram) (due rom c .address c) (dues rom l s c .word)
+
+  pub does-due : (e : Effect) → Does gave (s .ram) (s .ports) e → DoesDue e
+  does-due e d = record {
+    core = d .core ∙ ap (λ (x : chip.Effect). x .core) effect-due;
+    skip = d .skip ∙ ap (λ (x : chip.Effect). x .skip) effect-due;
+    writes = d .writes ∙ ap (λ (x : chip.Effect). x .writes) effect-due;
+    stored = d .stored ∙ ap (λ (x : chip.Effect). withWord (s .ram) (instruction (f .code) .address c) (x .word)) effect-due ∙ ap (λ (k : ℕ). withWord (s .ram) (instruction k .address c) (dues rom l s c .word)) (b .code);
+  }
+
+-- THE PARTS OF THE CODE, joined
+module _ (rom : List ℕ) (l : Lines) (s : State) (c : Core) (log : List ℕ) where
+  pub holds-fetch : (k : ℕ) → (k ≡ 0 → ⊥) → k ≡ fetchStop rom (c .flow .pc) → holds k s log ≡ landing (execute rom l s c) s log
+  holds-fetch zero n e = absurd (n refl)
+  holds-fetch (suc k) n e = sym (at-fetch rom l s c log k (sym e))
+
+  -- an instruction that can be begun has base cycles
+  pub cycles-some : fetchStop rom (c .flow .pc) ≡ 0 → 0 < due rom c .cycles
+  unfolding fetchStop
+  cycles-some e = ltb-true 0 (due rom c .cycles) (passes (ltb 0 (due rom c .cycles)) 22 (first-at _ e 1))
+
+  -- a skip passes over two bytes at most
+  pub over-small : (e : chip.Effect) → passedOver rom e ≤ 2
+  unfolding passedOver
+  over-small e = go (e .skip)
+    where
+      go : (t : Bool) → cond t (instruction (byteAt rom (e .core .flow .pc)) .bytes) 0 ≤ 2
+      go true = keeps (byteAt rom (e .core .flow .pc)) .two-bytes
+      go false = omega arith
+
+  module _ (f : Fetched) (b : Begins rom (c .flow .pc) f) (z : fetchStop rom (c .flow .pc) ≡ 0) (e : Effect) (d : DoesDue rom l s c f b e) (p : Passed) (q : PassedAs rom (e .skip) (e .core .flow .pc) p) where
+    skip-same : cond (e .skip) (needs (e .core .flow .pc)) 0 ≡ skipStop (dues rom l s c)
+    skip-same = rw (d .skip, d .core)
+
+    pub holds-skip : (p .stop ≡ 0 → ⊥) → holds (p .stop) s log ≡ landing (execute rom l s c) s log
+    holds-skip = go (p .stop) (q .stop ∙ skip-same)
+      where
+        go : (k : ℕ) → k ≡ skipStop (dues rom l s c) → (k ≡ 0 → ⊥) → holds k s log ≡ landing (execute rom l s c) s log
+        go zero r n = absurd (n refl)
+        go (suc k) r n = sym (at-skip rom l s c log k z (sym r))
+
+    module _ (t : p .stop ≡ 0) where
+      none-skipped : skipStop (dues rom l s c) ≡ 0
+      none-skipped = sym skip-same ∙ sym (q .stop) ∙ t
+
+      pub holds-room : length log < 8 * length (writesOf (e .port) (e .value)) → holds 3 s log ≡ landing (execute rom l s c) s log
+      holds-room h = sym (at-room rom l s c log z none-skipped (rw (d .writes) at h))
+
+      pub over-same : p .over ≡ passedOver rom (dues rom l s c)
+      unfolding passedOver
+      over-same = q .over t ∙ rw (d .skip, d .core)
+
+      pub goes : 8 * length (writesOf (e .port) (e .value)) ≤ length log → {core : Core} {ram ports log′ : List ℕ} {bytes : ℕ}
+          → core ≡ ticked (setOwed (f .cycles - 1 + p .over) (setPc (p .pc) (e .core)))
+          → ram ≡ set (s .ram) (e .at) (e .word)
+          → Written log (s .ports) (s .cycle .0) (writesOf (e .port) (e .value)) log′ ports bytes
+          → landed (record { core = core; bytes = bytes; begun = 1; stop = 0 }) ram ports log′ ≡ landing (execute rom l s c) s log
+      goes h x y w =
+          let o = over-same in
+          let m : ticked (setOwed (f .cycles - 1 + p .over) (setPc (p .pc) (e .core)))
+          ≡ ticked (setOwed (due rom c .cycles - 1 + passedOver rom (dues rom l s c)) (setPc (past (passedOver rom (dues rom l s c)) (dues rom l s c .core .flow .pc)) (dues rom l s c .core)))
+          = rw (b .cycles, q .pc t, o, d .core) in
+          let core-same = x ∙ m in
+          let ram-same = y ∙ d .stored in
+          let log-same = w .appended ∙ ap (λ (ws : List Write). logBytes (s .cycle .0) ws ++ drop (length (logBytes (s .cycle .0) ws)) log) (d .writes) in
+          let ports-same = w .latches ∙ ap (λ (ws : List Write). latched ws (s .ports)) (d .writes) in
+          let bytes-same = w .count ∙ ap (λ (ws : List Write). length (logBytes (s .cycle .0) ws)) (d .writes) in
+          (λ j. record { stop = 0; core = core-same j; ram = ram-same j; ports = ports-same j; log = log-same j; bytes = bytes-same j; begun = 1 })
+          ∙ sym (at-end rom l s c log z none-skipped (rw (d .writes) at h))
+
+-- what the laws say of the instruction that is due
+pub due-valid : (rom table : List ℕ) (l : Lines) (s : State) (c : Core) → Ready rom table l s → ValidCore c → ValidEffect (dues rom l s c)
+due-valid rom table l s c r v = keeps (byteAt rom (c .flow .pc)) .effect (given rom l s c) (given-valid s (r .valid) (r .below) rom l (r .rom-bytes) (r .lines) c v)

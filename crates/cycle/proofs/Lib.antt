@@ -1,0 +1,2 @@
+pub mod Executing
+pub mod Cycling

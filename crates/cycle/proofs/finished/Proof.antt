@@ -1,0 +1,23 @@
+-- The core with PC and what is owed, after the timer. Assumes nothing.
+use mathlib.Core.Path.{_∙_, ap}
+use Rattle.upd546.specs.declared.Core.{Core}
+use Rattle.upd546.specs.Parts.{setOwed, setPc}
+use Rattle.upd546.specs.OneMachineCycle.{ticked}
+use borrow.Author.Needs.{needs}
+use Rattle.cycle.proofs.finished.Statement.{statement}
+use Rattle.cycle.proofs.finished.Tie as tie
+
+same-requires : tie.Need-same-requires
+same-requires c κs = search needs
+
+ticked-requires : tie.Need-ticked-requires
+ticked-requires c κs = rw (c .before .same .ensures) (c .before .before .pre)
+
+same-requires-2 : tie.Need-same-requires-2
+same-requires-2 c κs = search needs
+
+returns : tie.Need-returns
+returns c = c .same2 .ensures ∙ c .before .ticked .ensures ∙ ap (λ (x : Core). ticked (setOwed (c .before .before .before .before .args .owed) (setPc (c .before .before .before .before .args .pc) x))) (c .before .before .before .same .ensures)
+
+pub finished-spec : {M : Type 1} → statement M
+finished-spec = tie.close (tie.spec same-requires ticked-requires same-requires-2 returns)

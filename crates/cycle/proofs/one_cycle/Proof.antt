@@ -1,0 +1,102 @@
+-- Acceptance, an owed cycle, an instruction. Assumes nothing.
+use mathlib.Core.Path.{_∙_, sym, ap}
+use native.Mathlib.Omega.{arith}
+use denote.Ref.{now}
+use Rattle.upd546.specs.declared.Core.{Core}
+use Rattle.upd546.specs.OneMachineCycle.{accepted, taken, paid, ticked, execute}
+use Rattle.laws.proofs.Cycle.{taken-keeps, accepted-keeps, paid-keeps}
+use Rattle.cycle.specs.Landing.{stateOf, landing}
+use Rattle.cycle.proofs.Cycling.{taken-owed, lands-accepted, lands-owed, lands-due}
+use borrow.Author.Needs.{needs}
+use Rattle.cycle.proofs.one_cycle.Statement.{statement}
+use Rattle.cycle.proofs.one_cycle.Tie as tie
+
+accepts-requires : tie.Need-accepts-requires
+accepts-requires c κs = search needs
+
+accepted-requires : tie.Need-accepted-requires
+accepted-requires c κs = search needs
+
+taken-requires : tie.Need-taken-requires
+taken-requires c κs = search needs
+
+ticked-requires : tie.Need-ticked-requires
+ticked-requires c κs =
+    let a = c .before .before .before .before .before .before .args in
+    let v = c .before .before .before .before .before .before .pre in
+    rw (c .taken .ensures, c .before .accepted .ensures) (taken-keeps (a .lines) (accepted (a .c)) (v .lines) (accepted-keeps (a .c) (v .valid .core)) .scalars .register)
+
+same-requires : tie.Need-same-requires
+same-requires c κs = search needs
+
+returns : tie.Need-returns
+returns c =
+    let a = c .before .before .before .before .before .before .before .before .args in
+    let s = stateOf (a .c) (now (a .ram)) (now (a .ports)) (a .n) in
+    let e = c .same .ensures ∙ c .before .ticked .ensures ∙ ap ticked (c .before .before .taken .ensures ∙ ap (taken (a .lines)) (c .before .before .before .accepted .ensures)) in
+    lands-accepted (now (a .rom)) (a .lines) s (now (a .log)) (sym (c .before .before .before .before .before .accepts .ensures) ∙ c .before .before .before .before .if1 .taken) e
+
+taken-requires-2 : tie.Need-taken-requires-2
+taken-requires-2 c κs = search needs
+
+same-requires-2 : tie.Need-same-requires-2
+same-requires-2 c κs = search needs
+
+paid-requires : tie.Need-paid-requires
+paid-requires c κs =
+    let h = c .if2 .taken in
+    rw (c .before .before .same2 .ensures, c .before .before .before .taken2 .ensures, taken-owed) (omega arith)
+
+ticked-requires-2 : tie.Need-ticked-requires-2
+ticked-requires-2 c κs =
+    let a = c .before .before .before .before .before .before .before .before .before .args in
+    let v = c .before .before .before .before .before .before .before .before .before .pre in
+    rw (c .paid .ensures, c .before .before .before .same2 .ensures, c .before .before .before .before .taken2 .ensures) (paid-keeps (taken (a .lines) (a .c)) (taken-keeps (a .lines) (a .c) (v .lines) (v .valid .core)) .scalars .register)
+
+same-requires-3 : tie.Need-same-requires-3
+same-requires-3 c κs = search needs
+
+returns-2 : tie.Need-returns-2
+returns-2 c =
+    let a = c .before .before .before .before .before .before .before .before .before .before .before .args in
+    let s = stateOf (a .c) (now (a .ram)) (now (a .ports)) (a .n) in
+    let e = c .same3 .ensures ∙ c .before .ticked2 .ensures ∙ ap ticked (c .before .before .paid .ensures ∙ ap paid (c .before .before .before .before .before .same2 .ensures ∙ c .before .before .before .before .before .before .taken2 .ensures)) in
+    lands-owed (now (a .rom)) (a .lines) s (now (a .log)) (sym (c .before .before .before .before .before .before .before .before .accepts .ensures) ∙ c .before .before .before .before .before .before .before .if1 .left) (c .before .before .before .if2 .taken) e
+
+execute-requires : tie.Need-execute-requires
+execute-requires c κs =
+    let a = c .before .before .before .before .before .before .before .before .before .before .before .args in
+    let v = c .before .before .before .before .before .before .before .before .before .before .before .pre in
+    (v, rw (c .before .before .before .before .before .same2 .ensures, c .before .before .before .before .before .before .taken2 .ensures) (taken-keeps (a .lines) (a .c) (v .lines) (v .valid .core)))
+
+same-length : tie.Need-same-length
+same-length c = search needs
+
+returns-3 : tie.Need-returns-3
+returns-3 c =
+    let a = c .before .before .before .before .before .before .before .before .before .before .before .before .before .before .args in
+    let s = stateOf (a .c) (now (a .ram)) (now (a .ports)) (a .n) in
+    let q = c .before .before .before .before .before .before .before .before .same2 .ensures ∙ c .before .before .before .before .before .before .before .before .before .taken2 .ensures in
+    c .before .before .execute .ensures
+    ∙ ap (λ (x : Core). landing (execute (now (a .rom)) (a .lines) s x) s (now (a .log))) q
+    ∙ lands-due (now (a .rom)) (a .lines) s (now (a .log)) (sym (c .before .before .before .before .before .before .before .before .before .before .before .accepts .ensures) ∙ c .before .before .before .before .before .before .before .before .before .before .if1 .left) (c .before .before .before .before .before .before .if2 .left)
+
+pub one-cycle-spec : {M : Type 1} → statement M
+one-cycle-spec =
+    tie.close
+    (tie.spec
+    accepts-requires
+    accepted-requires
+    taken-requires
+    ticked-requires
+    same-requires
+    returns
+    taken-requires-2
+    same-requires-2
+    paid-requires
+    ticked-requires-2
+    same-requires-3
+    returns-2
+    execute-requires
+    same-length
+    returns-3)

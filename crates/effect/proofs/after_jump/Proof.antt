@@ -1,0 +1,17 @@
+-- The core with the group's parts. Assumes nothing.
+use mathlib.Core.Path.{refl}
+use Rattle.instructions.specs.Groups.{writesOf}
+use Rattle.effect.specs.Effects.{nextOf}
+use borrow.Author.Needs.{needs}
+use Rattle.effect.proofs.after_jump.Statement.{statement}
+use Rattle.effect.proofs.after_jump.Tie as tie
+
+next-requires : tie.Need-next-requires
+next-requires c κs = search needs
+
+returns : tie.Need-returns
+unfolding nextOf writesOf
+returns c = (refl, λ word ports. rw (c .before .next .ensures))
+
+pub after-jump-spec : {M : Type 1} → statement M
+after-jump-spec = tie.close (tie.spec next-requires returns)

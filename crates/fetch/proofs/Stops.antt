@@ -1,0 +1,89 @@
+-- Why an instruction can't be begun, case by case, and what is fetched. Assumes nothing.
+use mathlib.Core.Path.{_≡_, _∙_, refl, sym, ap}
+use mathlib.Core.Bool.{Bool, true, false, cond}
+use mathlib.Core.List.{List}
+use Prim.Native.Nat.{ℕ, zero, suc, _<_, _≤_}
+use native.Mathlib.Omega.{arith}
+use lib.Dec.{eqb, ltb}
+use borrow.Author.Tests.{lt-ltb, le-ltb, le-leb, lt-leb}
+use Rattle.runs.specs.TwoRunners.{firstOf}
+use Rattle.upd546.specs.TheMachine.{lastAddress, byteAt, follows, past}
+use Rattle.upd546.specs.Instructions.{instruction}
+use Rattle.upd546.specs.OneMachineCycle.{needs}
+use Rattle.tables.specs.declared.Size.{Size}
+use Rattle.tables.specs.Tables.{sizeOf}
+use Rattle.laws.proofs.Instructions.{keeps}
+use Rattle.fetch.specs.declared.Fetched.{Fetched}
+use Rattle.fetch.specs.declared.Passed.{Passed}
+use Rattle.fetch.specs.Fetching.{instructionAt, fetchStop, Begins, FetchedAs, PassedAs}
+
+-- a byte that is there, and one that isn't
+needs-none : (a : ℕ) → a ≤ lastAddress → needs a ≡ 0
+needs-none a h = rw (le-leb a lastAddress h)
+
+needs-22 : (a : ℕ) → lastAddress < a → needs a ≡ 22
+needs-22 a h = rw (lt-leb a lastAddress h)
+
+-- what the table says of the code at an address
+pub size-at : (rom : List ℕ) (pc : ℕ) {code : ℕ} {s : Size} → code ≡ byteAt rom pc → s ≡ sizeOf code
+    → (s .bytes ≡ instructionAt rom pc .bytes) × (s .cycles ≡ instructionAt rom pc .cycles)
+unfolding sizeOf
+size-at rom pc e q = (ap (λ (x : Size). x .bytes) q ∙ ap (λ (k : ℕ). instruction k .bytes) e, ap (λ (x : Size). x .cycles) q ∙ ap (λ (k : ℕ). instruction k .cycles) e)
+
+-- an instruction has one byte or two
+pub bytes-at : (rom : List ℕ) (pc : ℕ) → (1 ≤ instructionAt rom pc .bytes) × (instructionAt rom pc .bytes ≤ 2)
+bytes-at rom pc = (keeps (byteAt rom pc) .one-byte, keeps (byteAt rom pc) .two-bytes)
+
+-- FETCHING
+
+stops : (rom : List ℕ) (pc k : ℕ) (f : Fetched) → f .stop ≡ suc k → fetchStop rom pc ≡ suc k → FetchedAs rom pc f
+stops rom pc k f e q = record { stop = e ∙ sym q; begins = λ z. absurd (omega arith) }
+
+module _ (rom : List ℕ) (pc : ℕ) (f : Fetched) where
+  pub stops-past : lastAddress < pc → f .stop ≡ 22 → FetchedAs rom pc f
+  unfolding fetchStop firstOf
+  stops-past h e = stops rom pc 21 f e (rw (needs-22 pc h))
+
+  module _ (h : pc ≤ lastAddress) where
+    pub stops-none : instructionAt rom pc .cycles ≡ 0 → f .stop ≡ 23 → FetchedAs rom pc f
+    unfolding fetchStop firstOf
+    stops-none z e = stops rom pc 22 f e (rw (needs-none pc h, z))
+
+    module _ (p : 0 < instructionAt rom pc .cycles) where
+      -- an instruction of one byte
+      pub begins-one : instructionAt rom pc .bytes ≡ 1 → f .stop ≡ 0 → f .code ≡ byteAt rom pc → f .second ≡ 0 → f .after ≡ follows pc
+          → f .cycles ≡ instructionAt rom pc .cycles → FetchedAs rom pc f
+      unfolding fetchStop firstOf past
+      begins-one b e c s a k =
+          record {
+            stop = e ∙ sym (rw (needs-none pc h, lt-ltb 0 (instructionAt rom pc .cycles) p, b));
+            begins = λ z. record { code = c; second = rw b s; after = rw b a; cycles = k };
+          }
+
+      -- one whose second byte isn't there
+      pub stops-second : instructionAt rom pc .bytes ≡ 2 → lastAddress < follows pc → f .stop ≡ 22 → FetchedAs rom pc f
+      unfolding fetchStop firstOf
+      stops-second b g e = stops rom pc 21 f e (rw (needs-none pc h, lt-ltb 0 (instructionAt rom pc .cycles) p, b, needs-22 (follows pc) g))
+
+      -- an instruction of two bytes
+      pub begins-two : instructionAt rom pc .bytes ≡ 2 → follows pc ≤ lastAddress → f .stop ≡ 0 → f .code ≡ byteAt rom pc → f .second ≡ byteAt rom (follows pc)
+          → f .after ≡ follows (follows pc) → f .cycles ≡ instructionAt rom pc .cycles → FetchedAs rom pc f
+      unfolding fetchStop firstOf past
+      begins-two b g e c s a k =
+          record {
+            stop = e ∙ sym (rw (needs-none pc h, lt-ltb 0 (instructionAt rom pc .cycles) p, b, needs-none (follows pc) g));
+            begins = λ z. record { code = c; second = rw b s; after = rw b a; cycles = k };
+          }
+
+-- PASSING OVER
+
+module _ (rom : List ℕ) (to : ℕ) (p : Passed) where
+  pub passes-none : p .stop ≡ 0 → p .pc ≡ to → p .over ≡ 0 → PassedAs rom false to p
+  unfolding past
+  passes-none e q o = record { stop = e; over = λ z. o; pc = λ z. rw o q }
+
+  pub passes-past : lastAddress < to → p .stop ≡ 22 → PassedAs rom true to p
+  passes-past h e = record { stop = e ∙ sym (needs-22 to h); over = λ z. absurd (omega arith); pc = λ z. absurd (omega arith) }
+
+  pub passes-one : to ≤ lastAddress → p .stop ≡ 0 → p .over ≡ instructionAt rom to .bytes → p .pc ≡ past (p .over) to → PassedAs rom true to p
+  passes-one h e o q = record { stop = e ∙ sym (needs-none to h); over = λ z. o; pc = λ z. q }

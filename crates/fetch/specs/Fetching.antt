@@ -1,0 +1,40 @@
+-- What is fetched and passed over, in the terms of the machine cycle's definitions. Assumes nothing: these are definitions.
+use Prim.Native.Nat.{ℕ}
+use mathlib.Core.Path.{_≡_}
+use mathlib.Core.Bool.{Bool, cond}
+use mathlib.Core.List.{List, [], _∷_}
+use lib.Dec.{eqb, ltb}
+use Rattle.runs.specs.TwoRunners.{firstOf, unless}
+use Rattle.upd546.specs.TheMachine.{byteAt, follows, past}
+use Rattle.upd546.specs.Instructions.{Instruction, instruction}
+use Rattle.upd546.specs.OneMachineCycle.{needs}
+use Rattle.fetch.specs.declared.Fetched.{Fetched}
+use Rattle.fetch.specs.declared.Passed.{Passed}
+
+abbrev pub instructionAt : List ℕ → ℕ → Instruction
+instructionAt rom pc = instruction (byteAt rom pc)
+
+-- why the instruction at PC can't be begun, as far as its own bytes tell
+unfoldable pub fetchStop : List ℕ → ℕ → ℕ
+fetchStop rom pc =
+    firstOf
+    (needs pc
+    ∷ unless (ltb 0 (instructionAt rom pc .cycles)) 23
+    ∷ cond (eqb (instructionAt rom pc .bytes) 2) (needs (follows pc)) 0
+    ∷ [])
+
+-- what is known of an instruction that can be begun
+pub record Begins (rom : List ℕ) (pc : ℕ) (f : Fetched) : Type 0 where
+  pub code : f .code ≡ byteAt rom pc
+  pub second : f .second ≡ cond (eqb (instructionAt rom pc .bytes) 2) (byteAt rom (follows pc)) 0
+  pub after : f .after ≡ past (instructionAt rom pc .bytes) pc
+  pub cycles : f .cycles ≡ instructionAt rom pc .cycles
+
+pub record FetchedAs (rom : List ℕ) (pc : ℕ) (f : Fetched) : Type 0 where
+  pub stop : f .stop ≡ fetchStop rom pc
+  pub begins : f .stop ≡ 0 → Begins rom pc f
+
+pub record PassedAs (rom : List ℕ) (skip : Bool) (to : ℕ) (p : Passed) : Type 0 where
+  pub stop : p .stop ≡ cond skip (needs to) 0
+  pub over : p .stop ≡ 0 → p .over ≡ cond skip (instructionAt rom to .bytes) 0
+  pub pc : p .stop ≡ 0 → p .pc ≡ past (p .over) to

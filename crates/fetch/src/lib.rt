@@ -1,0 +1,107 @@
+// What is read of the ROM: the instruction at PC, and what a skip passes over. Nothing of it changes the machine.
+// It may not know what an instruction does, nor how a run goes.
+use tables::InstructionTable;
+ghost use mathlib.Core.Path.{_≡_};
+ghost use Prim.Native.Nat.{_<_};
+ghost use lib.ListN.{length};
+ghost use Rattle.upd546.specs.TheMachine.{romLength, byteAt};
+ghost use Rattle.tables.specs.Tables.{instructionTable};
+ghost use Rattle.fetch.specs.Fetching.{FetchedAs, PassedAs};
+
+// The instruction at an address: its code and second byte (0: it has none), the address after it, its base cycles; or `stop`,
+// the number why it can't be begun (22 or 23; 0: it can).
+pub struct Fetched {
+    pub stop: u8,
+    pub code: u8,
+    pub second: u8,
+    pub after: u16,
+    pub cycles: u8,
+}
+
+// Where a skip leads and how many bytes it passes over; or `stop`.
+pub struct Passed {
+    pub stop: u8,
+    pub pc: u16,
+    pub over: u8,
+}
+
+fn byte_at(rom: &[u8], a: u16) -> u8
+    requires { ⌜ (length (now rom) ≡ romLength) × (a < romLength) ⌝ }
+    ensures { λ r. ⌜ r ≡ byteAt (now (rom .entry)) a ⌝ }
+{
+    let i = a as usize;
+    rom[i]
+}
+
+fn stopped(stop: u8) -> Fetched
+    ensures { λ r. ⌜ r .stop ≡ stop ⌝ }
+{
+    Fetched {
+        stop,
+        code: 0,
+        second: 0,
+        after: 0,
+        cycles: 0,
+    }
+}
+
+pub fn fetch_at(rom: &[u8], table: &InstructionTable, pc: u16) -> Fetched
+    requires { ⌜ (length (now rom) ≡ romLength) × (now table ≡ instructionTable) ⌝ }
+    ensures { λ r. ⌜ FetchedAs (now (rom .entry)) pc r ⌝ }
+{
+    if 1999 < pc {
+        return stopped(22);
+    }
+    let code = byte_at(rom, pc);
+    let size = tables::size_of(table, code);
+    if size.cycles == 0 {
+        return stopped(23);
+    }
+    let next = steps::follows(pc);
+    if size.bytes == 1 {
+        return Fetched {
+            stop: 0,
+            code,
+            second: 0,
+            after: next,
+            cycles: size.cycles,
+        };
+    }
+    if 1999 < next {
+        return stopped(22);
+    }
+    Fetched {
+        stop: 0,
+        code,
+        second: byte_at(rom, next),
+        after: steps::follows(next),
+        cycles: size.cycles,
+    }
+}
+
+// A skip passes over the instruction at `to`, and only its first byte is read.
+pub fn pass_over(rom: &[u8], table: &InstructionTable, skip: bool, to: u16) -> Passed
+    requires { ⌜ (length (now rom) ≡ romLength) × (now table ≡ instructionTable) ⌝ }
+    ensures { λ r. ⌜ PassedAs (now (rom .entry)) skip to r ⌝ }
+{
+    if !skip {
+        return Passed {
+            stop: 0,
+            pc: to,
+            over: 0,
+        };
+    }
+    if 1999 < to {
+        return Passed {
+            stop: 22,
+            pc: 0,
+            over: 0,
+        };
+    }
+    let size = tables::size_of(table, byte_at(rom, to));
+    Passed {
+        stop: 0,
+        pc: steps::past_bytes(size.bytes, to),
+        over: size.bytes,
+    }
+}

@@ -1,0 +1,4 @@
+pub mod Lists
+pub mod Bits
+pub mod Places
+pub mod Writes

@@ -1,0 +1,105 @@
+-- Each instruction of the group leaves what its definition says. Assumes nothing.
+use borrow.Author.Needs.{needs}
+use Rattle.instructions.proofs.bit_group.Statement.{statement}
+use Rattle.instructions.proofs.bit_group.Tie as tie
+
+enum-told : tie.Need-enum-told
+enum-told c = search needs
+
+bit-requires : tie.Need-bit-requires
+bit-requires c κs = search needs
+
+enum-told-2 : tie.Need-enum-told-2
+enum-told-2 c = search needs
+
+mul-t12 : tie.Need-mul-t12
+mul-t12 c = search needs
+
+add-t13 : tie.Need-add-t13
+add-t13 c = search needs
+
+enum-told-3 : tie.Need-enum-told-3
+enum-told-3 c = search needs
+
+bit-requires-2 : tie.Need-bit-requires-2
+bit-requires-2 c κs = search needs
+
+bit-requires-3 : tie.Need-bit-requires-3
+bit-requires-3 c κs = search needs
+
+enum-told-4 : tie.Need-enum-told-4
+enum-told-4 c = search needs
+
+bit-requires-4 : tie.Need-bit-requires-4
+bit-requires-4 c κs = search needs
+
+enum-told-5 : tie.Need-enum-told-5
+enum-told-5 c = search needs
+
+with-bit-requires : tie.Need-with-bit-requires
+with-bit-requires c κs = search needs
+
+enum-told-6 : tie.Need-enum-told-6
+enum-told-6 c = search needs
+
+with-bit-requires-2 : tie.Need-with-bit-requires-2
+with-bit-requires-2 c κs = search needs
+
+enum-told-7 : tie.Need-enum-told-7
+enum-told-7 c = search needs
+
+enum-told-8 : tie.Need-enum-told-8
+enum-told-8 c = search needs
+
+returns : tie.Need-returns
+returns c ports = rw (c .before .enum-told .given .1, c .bit .ensures)
+
+returns-2 : tie.Need-returns-2
+returns-2 c ports = rw (c .enum-told2 .given .1)
+
+returns-3 : tie.Need-returns-3
+returns-3 c ports = rw (c .before .before .enum-told3 .given .1, c .bit3 .ensures, c .before .bit2 .ensures)
+
+returns-4 : tie.Need-returns-4
+returns-4 c ports = rw (c .before .enum-told4 .given .1, c .bit4 .ensures)
+
+returns-5 : tie.Need-returns-5
+returns-5 c ports = rw (c .before .enum-told5 .given .1, c .with-bit .ensures)
+
+returns-6 : tie.Need-returns-6
+returns-6 c ports = rw (c .before .enum-told6 .given .1, c .with-bit2 .ensures)
+
+returns-7 : tie.Need-returns-7
+returns-7 c ports = rw (c .before .enum-told7 .given .1)
+
+returns-8 : tie.Need-returns-8
+returns-8 c ports = rw (c .enum-told8 .given .1)
+
+pub bit-group-spec : {M : Type 1} → statement M
+bit-group-spec =
+    tie.close
+    (tie.spec
+    enum-told
+    bit-requires
+    enum-told-2
+    mul-t12
+    add-t13
+    enum-told-3
+    bit-requires-2
+    bit-requires-3
+    enum-told-4
+    bit-requires-4
+    enum-told-5
+    with-bit-requires
+    enum-told-6
+    with-bit-requires-2
+    enum-told-7
+    enum-told-8
+    returns
+    returns-2
+    returns-3
+    returns-4
+    returns-5
+    returns-6
+    returns-7
+    returns-8)

@@ -1,0 +1,58 @@
+-- The instructions of a group, by what they leave. Assumes nothing: these are definitions.
+use Prim.Native.Nat.{ℕ, _%_, _/_}
+use mathlib.Core.Bool.{cond}
+use mathlib.Core.List.{List, [], _++_}
+use lib.Dec.{eqb}
+use Rattle.upd546.specs.declared.Core.{Core}
+use Rattle.upd546.specs.Parts.{withFlow, withTimer, setMark, setAcc, setCarry, setSaved, setDph, setDpl, setInt, setInte}
+use Rattle.upd546.specs.Ports.{Write, written, portC, portD}
+use Rattle.upd546.specs.Instructions as chip
+use Rattle.upd546.specs.Instructions.{Effect, leaves, skips, stores, writes, next}
+use Rattle.instructions.specs.declared.Given.{Given}
+use Rattle.instructions.specs.declared.Summed.{Summed}
+use Rattle.instructions.specs.declared.Pointed.{Pointed}
+use Rattle.instructions.specs.declared.Worked.{Worked}
+use Rattle.instructions.specs.declared.Flagged.{Flagged}
+use Rattle.instructions.specs.declared.Jumped.{Jumped}
+use Rattle.instructions.specs.declared.Controlled.{Controlled}
+use Rattle.instructions.specs.declared.Ported.{Ported}
+
+-- what the instruction is given, with a RAM word and the latches
+abbrev pub chipGiven : Given → ℕ → List ℕ → chip.Given
+chipGiven g word ports = record {
+  core = g .core;
+  after = g .after;
+  code = g .code;
+  second = g .second;
+  word = word;
+  lines = g .lines;
+  ports = ports;
+}
+
+-- what each group leaves of it
+abbrev pub summed : chip.Given → Summed → Effect
+summed g r = skips (r .skip) (stores (r .word) (leaves g (setCarry (r .carry) (setAcc (r .acc) (next g)))))
+
+abbrev pub pointed : chip.Given → Pointed → Effect
+pointed g r = skips (r .skip) (stores (r .word) (leaves g (setMark (r .mark) (setDpl (r .dpl) (setDph (r .dph) (setAcc (r .acc) (next g)))))))
+
+abbrev pub worked : chip.Given → Worked → Effect
+worked g r = stores (r .word) (leaves g (setDpl (r .dpl) (setDph (r .dph) (setAcc (r .acc) (next g)))))
+
+abbrev pub flagged : chip.Given → Flagged → Effect
+flagged g r = skips (r .skip) (stores (r .word) (leaves g (next g)))
+
+abbrev pub jumped : chip.Given → Jumped → Effect
+jumped g r = skips (r .skip) (leaves g (withFlow (next g) (r .flow)))
+
+abbrev pub controlled : chip.Given → Controlled → Effect
+controlled g r =
+    skips (r .skip)
+    (leaves g (setMark (r .mark) (withTimer (setInte (r .inte) (setInt (r .int) (setSaved (r .saved) (setCarry (r .carry) (next g))))) (r .timer))))
+
+-- the writes that a port and a value stand for: none for 0, those of OCD for 9, else one
+unfoldable pub writesOf : ℕ → ℕ → List Write
+writesOf port value = cond (eqb port 0) [] (cond (eqb port 9) (written portC (value % 16) ++ written portD (value / 16)) (written port value))
+
+abbrev pub ported : chip.Given → Ported → Effect
+ported g r = skips (r .skip) (writes (writesOf (r .port) (r .value)) (leaves g (setAcc (r .acc) (next g))))

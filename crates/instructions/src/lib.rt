@@ -1,0 +1,898 @@
+// What an instruction does, in code: a function for each group of instructions, on values, and one that joins them.
+// It may not know how a byte is fetched, what a skip passes over, nor how a run goes.
+//
+// A struct is built field by field where it is handed on: the compiler packs the fields of a struct that is copied whole.
+use decode::Bit;
+use decode::Control;
+use decode::Decoded;
+use decode::Flag;
+use decode::Jump;
+use decode::Pointer;
+use decode::Port;
+use decode::Sum;
+use decode::Working;
+use upd546::Core;
+use upd546::Flow;
+use upd546::Interrupt;
+use upd546::Lines;
+use upd546::Registers;
+use upd546::Timer;
+ghost use mathlib.Core.Path.{_≡_};
+ghost use mathlib.Core.Bool.{false};
+ghost use mathlib.Core.List.{List};
+ghost use Prim.Native.Nat.{ℕ, _+_, _*_, _^_, _<_};
+ghost use Rattle.upd546.specs.TheMachine.{placeOf};
+ghost use Rattle.upd546.specs.Bytes.{bitAt, withBit};
+ghost use Rattle.upd546.specs.Ports.{readPort, outputs, bitWritten, bitOutputs, portE};
+ghost use Rattle.decode.specs.Named.{namedSum, namedBit, namedPointer, namedWorking, namedFlag, namedJump, namedControl, namedPort};
+ghost use Rattle.laws.specs.Valid.{Scalars, ValidStack, ValidCore, ValidLines, ValidPorts};
+ghost use Rattle.instructions.specs.Groups.{chipGiven, summed, pointed, worked, flagged, jumped, controlled, writesOf, ported};
+
+// What an instruction is given besides the RAM and the latches.
+pub struct Given {
+    pub core: Core,
+    pub after: u16,
+    pub code: u8,
+    pub second: u8,
+    pub lines: Lines,
+}
+
+// What a group of instructions leaves: the parts of the machine that its instructions change.
+pub struct Summed {
+    pub acc: u8,
+    pub carry: u8,
+    pub word: u8,
+    pub skip: bool,
+}
+
+pub struct Pointed {
+    pub acc: u8,
+    pub dph: u8,
+    pub dpl: u8,
+    pub mark: u8,
+    pub word: u8,
+    pub skip: bool,
+}
+
+pub struct Worked {
+    pub acc: u8,
+    pub dph: u8,
+    pub dpl: u8,
+    pub word: u8,
+}
+
+pub struct Flagged {
+    pub word: u8,
+    pub skip: bool,
+}
+
+pub struct Jumped {
+    pub flow: Flow,
+    pub skip: bool,
+}
+
+pub struct Controlled {
+    pub carry: u8,
+    pub saved: u8,
+    pub int: u8,
+    pub inte: u8,
+    pub timer: Timer,
+    pub mark: u8,
+    pub skip: bool,
+}
+
+// `port` is 0 where no port is written, and 9 where C and D are, from the halves of `value`.
+pub struct Ported {
+    pub acc: u8,
+    pub skip: bool,
+    pub port: u8,
+    pub value: u8,
+}
+
+// The effective writes of an instruction.
+pub struct Output {
+    pub port: u8,
+    pub value: u8,
+}
+
+// A core, field by field.
+pub fn same(c: Core) -> Core
+    ensures { λ r. ⌜ r ≡ c ⌝ }
+{
+    let stack = c.flow.stack;
+    Core {
+        registers: Registers {
+            acc: c.registers.acc,
+            carry: c.registers.carry,
+            saved: c.registers.saved,
+            dph: c.registers.dph,
+            dpl: c.registers.dpl,
+        },
+        flow: Flow {
+            pc: c.flow.pc,
+            stack: [stack[0], stack[1], stack[2]],
+        },
+        interrupt: Interrupt {
+            int: c.interrupt.int,
+            inte: c.interrupt.inte,
+            level: c.interrupt.level,
+        },
+        timer: Timer {
+            tm: c.timer.tm,
+            register: c.timer.register,
+            counter: c.timer.counter,
+        },
+        mark: c.mark,
+        owed: c.owed,
+    }
+}
+
+// Bit b of x.
+fn bit(x: u8, b: u8) -> u8
+    requires { ⌜ b < 4 ⌝ }
+    ensures { λ r. ⌜ r ≡ bitAt x b ⌝ }
+{
+    (x >> b) % 2
+}
+
+fn power(b: u8) -> u8
+    requires { ⌜ b < 4 ⌝ }
+    ensures { λ r. ⌜ r ≡ 2 ^ b ⌝ }
+{
+    1 << b
+}
+
+// x with bit b at v.
+fn with_bit(x: u8, b: u8, v: u8) -> u8
+    requires { ⌜ (x < 16) × (b < 4) × (v < 2) ⌝ }
+    ensures { λ r. ⌜ r ≡ withBit x b v ⌝ }
+{
+    let p = power(b);
+    x - bit(x, b) * p + v * p
+}
+
+fn read_port(l: Lines, p: u8) -> u8
+    ensures { λ r. ⌜ r ≡ readPort l p ⌝ }
+{
+    match p {
+        0 => l.a,
+        1 => l.b,
+        2 => l.c,
+        3 => l.d,
+        _ => 0,
+    }
+}
+
+// The place of the RAM word at DP.
+pub fn dp_place(dph: u8, dpl: u8) -> usize
+    requires { ⌜ (dph < 8) × (dpl < 16) ⌝ }
+    ensures { λ r. ⌜ r ≡ placeOf (16 * dph + dpl) ⌝ }
+{
+    let a = 16 * dph + dpl;
+    if a < 80 {
+        return a as usize;
+    }
+    if a < 112 {
+        return (96 + a % 16) as usize;
+    }
+    (a - 32) as usize
+}
+
+pub fn working_place(op: Working) -> usize
+    ensures { λ r. ⌜ ((c : Core) → r ≡ placeOf (namedWorking op .address c)) ⌝ }
+{
+    match op {
+        Working::Taz => 90,
+        Working::Taw => 91,
+        Working::Tly => 94,
+        Working::Thx => 95,
+        Working::Xaz => 90,
+        Working::Xaw => 91,
+        Working::Xls => 92,
+        Working::Xhr => 93,
+        Working::Xly => 94,
+        Working::Xhx => 95,
+    }
+}
+
+// Sums and comparisons of Acc, C and M.
+pub fn sum_group(op: Sum, g: Given, word: u8) -> Summed
+    requires { ⌜ Scalars (g .core) × (word < 16) ⌝ }
+    ensures { λ r. ⌜ ((ports : List ℕ) → namedSum op .effect (chipGiven g word ports) ≡ summed (chipGiven g word ports) r) ⌝ }
+{
+    let acc = g.core.registers.acc;
+    let carry = g.core.registers.carry;
+    match op {
+        Sum::S => Summed {
+            acc,
+            carry,
+            word: acc,
+            skip: false,
+        },
+        Sum::Daa => Summed {
+            acc: (acc + 6) % 16,
+            carry,
+            word,
+            skip: false,
+        },
+        Sum::Ad => {
+            let sum = acc + word;
+            Summed {
+                acc: sum % 16,
+                carry,
+                word,
+                skip: 15 < sum,
+            }
+        }
+        Sum::Ads => {
+            let sum = acc + word + carry;
+            Summed {
+                acc: sum % 16,
+                carry: sum / 16,
+                word,
+                skip: 15 < sum,
+            }
+        }
+        Sum::Das => Summed {
+            acc: (acc + 10) % 16,
+            carry,
+            word,
+            skip: false,
+        },
+        Sum::Clc => Summed {
+            acc,
+            carry: 0,
+            word,
+            skip: false,
+        },
+        Sum::Cm => Summed {
+            acc,
+            carry,
+            word,
+            skip: acc == word,
+        },
+        Sum::Inc => {
+            let v = (acc + 1) % 16;
+            Summed {
+                acc: v,
+                carry,
+                word,
+                skip: v == 0,
+            }
+        }
+        Sum::Dec => {
+            let v = (acc + 15) % 16;
+            Summed {
+                acc: v,
+                carry,
+                word,
+                skip: v == 15,
+            }
+        }
+        Sum::Cma => Summed {
+            acc: 15 - acc,
+            carry,
+            word,
+            skip: false,
+        },
+        Sum::Cia => Summed {
+            acc: (16 - acc) % 16,
+            carry,
+            word,
+            skip: false,
+        },
+        Sum::Exl => Summed {
+            acc: acc ^ word,
+            carry,
+            word,
+            skip: false,
+        },
+        Sum::Adc => {
+            let sum = acc + word + carry;
+            Summed {
+                acc: sum % 16,
+                carry: sum / 16,
+                word,
+                skip: false,
+            }
+        }
+        Sum::Stc => Summed {
+            acc,
+            carry: 1,
+            word,
+            skip: false,
+        },
+        Sum::Inm => {
+            let v = (word + 1) % 16;
+            Summed {
+                acc,
+                carry,
+                word: v,
+                skip: v == 0,
+            }
+        }
+        Sum::Dem => {
+            let v = (word + 15) % 16;
+            Summed {
+                acc,
+                carry,
+                word: v,
+                skip: v == 15,
+            }
+        }
+    }
+}
+
+// Bits of Acc and M, and constants.
+pub fn bit_group(op: Bit, g: Given, word: u8) -> Summed
+    requires { ⌜ Scalars (g .core) × (word < 16) ⌝ }
+    ensures { λ r. ⌜ ((ports : List ℕ) → namedBit op .effect (chipGiven g word ports) ≡ summed (chipGiven g word ports) r) ⌝ }
+{
+    let acc = g.core.registers.acc;
+    let carry = g.core.registers.carry;
+    let b = g.code % 4;
+    let k = g.second % 16;
+    match op {
+        Bit::Tab => Summed {
+            acc,
+            carry,
+            word,
+            skip: bit(acc, b) == 1,
+        },
+        Bit::Rar => Summed {
+            acc: acc / 2 + 8 * carry,
+            carry: acc % 2,
+            word,
+            skip: false,
+        },
+        Bit::Cmb => Summed {
+            acc,
+            carry,
+            word,
+            skip: bit(acc, b) == bit(word, b),
+        },
+        Bit::Tmb => Summed {
+            acc,
+            carry,
+            word,
+            skip: bit(word, b) == 1,
+        },
+        Bit::Rmb => Summed {
+            acc,
+            carry,
+            word: with_bit(word, b, 0),
+            skip: false,
+        },
+        Bit::Smb => Summed {
+            acc,
+            carry,
+            word: with_bit(word, b, 1),
+            skip: false,
+        },
+        Bit::Li => Summed {
+            acc: g.code % 16,
+            carry,
+            word,
+            skip: false,
+        },
+        Bit::Ci => Summed {
+            acc,
+            carry,
+            word,
+            skip: acc == k,
+        },
+    }
+}
+
+// LDI loads DP, unless the instruction before it was an LDI.
+fn ldi(g: Given, word: u8) -> Pointed
+    ensures { λ r. ⌜ ((ports : List ℕ) → namedPointer Pointer.Ldi .effect (chipGiven g word ports) ≡ pointed (chipGiven g word ports) r) ⌝ }
+{
+    let acc = g.core.registers.acc;
+    let dph = g.core.registers.dph;
+    let dpl = g.core.registers.dpl;
+    if g.core.mark == 1 {
+        return Pointed {
+            acc,
+            dph,
+            dpl,
+            mark: 1,
+            word,
+            skip: false,
+        };
+    }
+    Pointed {
+        acc,
+        dph: g.second % 128 / 16,
+        dpl: g.second % 16,
+        mark: 1,
+        word,
+        skip: false,
+    }
+}
+
+// DP, and M with it.
+pub fn pointer_group(op: Pointer, g: Given, word: u8) -> Pointed
+    requires { ⌜ Scalars (g .core) × (word < 16) ⌝ }
+    ensures { λ r. ⌜ ((ports : List ℕ) → namedPointer op .effect (chipGiven g word ports) ≡ pointed (chipGiven g word ports) r) ⌝ }
+{
+    let acc = g.core.registers.acc;
+    let dph = g.core.registers.dph;
+    let dpl = g.core.registers.dpl;
+    let b = g.code % 4;
+    let k = g.second % 16;
+    match op {
+        Pointer::Tal => Pointed {
+            acc,
+            dph,
+            dpl: acc,
+            mark: 0,
+            word,
+            skip: false,
+        },
+        Pointer::Tla => Pointed {
+            acc: dpl,
+            dph,
+            dpl,
+            mark: 0,
+            word,
+            skip: false,
+        },
+        Pointer::Ded => {
+            let v = (dpl + 15) % 16;
+            Pointed {
+                acc,
+                dph,
+                dpl: v,
+                mark: 0,
+                word,
+                skip: v == 15,
+            }
+        }
+        Pointer::Ldi => ldi(g, word),
+        Pointer::Cli => Pointed {
+            acc,
+            dph,
+            dpl,
+            mark: 0,
+            word,
+            skip: dpl == k,
+        },
+        Pointer::Xm => Pointed {
+            acc: word,
+            dph: dph ^ b,
+            dpl,
+            mark: 0,
+            word: acc,
+            skip: false,
+        },
+        Pointer::Xmd => {
+            let v = (dpl + 15) % 16;
+            Pointed {
+                acc: word,
+                dph: dph ^ b,
+                dpl: v,
+                mark: 0,
+                word: acc,
+                skip: v == 15,
+            }
+        }
+        Pointer::Ind => {
+            let v = (dpl + 1) % 16;
+            Pointed {
+                acc,
+                dph,
+                dpl: v,
+                mark: 0,
+                word,
+                skip: v == 0,
+            }
+        }
+        Pointer::Lm => Pointed {
+            acc: word,
+            dph: dph ^ b,
+            dpl,
+            mark: 0,
+            word,
+            skip: false,
+        },
+        Pointer::Xmi => {
+            let v = (dpl + 1) % 16;
+            Pointed {
+                acc: word,
+                dph: dph ^ b,
+                dpl: v,
+                mark: 0,
+                word: acc,
+                skip: v == 0,
+            }
+        }
+        Pointer::Ldz => Pointed {
+            acc,
+            dph: 0,
+            dpl: g.code % 16,
+            mark: 0,
+            word,
+            skip: false,
+        },
+    }
+}
+
+// The words Z, W, S, R, Y and X.
+pub fn working_group(op: Working, g: Given, word: u8) -> Worked
+    requires { ⌜ Scalars (g .core) × (word < 16) ⌝ }
+    ensures { λ r. ⌜ ((ports : List ℕ) → namedWorking op .effect (chipGiven g word ports) ≡ worked (chipGiven g word ports) r) ⌝ }
+{
+    let acc = g.core.registers.acc;
+    let dph = g.core.registers.dph;
+    let dpl = g.core.registers.dpl;
+    match op {
+        Working::Taz => Worked {
+            acc,
+            dph,
+            dpl,
+            word: acc,
+        },
+        Working::Taw => Worked {
+            acc,
+            dph,
+            dpl,
+            word: acc,
+        },
+        Working::Tly => Worked {
+            acc,
+            dph,
+            dpl,
+            word: dpl,
+        },
+        Working::Thx => Worked {
+            acc,
+            dph,
+            dpl,
+            word: dph,
+        },
+        Working::Xaz => Worked {
+            acc: word,
+            dph,
+            dpl,
+            word: acc,
+        },
+        Working::Xaw => Worked {
+            acc: word,
+            dph,
+            dpl,
+            word: acc,
+        },
+        Working::Xls => Worked {
+            acc,
+            dph,
+            dpl: word,
+            word: dpl,
+        },
+        Working::Xhr => Worked {
+            acc,
+            dph: word % 8,
+            dpl,
+            word: dph,
+        },
+        Working::Xly => Worked {
+            acc,
+            dph,
+            dpl: word,
+            word: dpl,
+        },
+        Working::Xhx => Worked {
+            acc,
+            dph: word % 8,
+            dpl,
+            word: dph,
+        },
+    }
+}
+
+// Bits of the flag word.
+pub fn flag_group(op: Flag, g: Given, word: u8) -> Flagged
+    requires { ⌜ word < 16 ⌝ }
+    ensures { λ r. ⌜ ((ports : List ℕ) → namedFlag op .effect (chipGiven g word ports) ≡ flagged (chipGiven g word ports) r) ⌝ }
+{
+    let b = g.code % 4;
+    match op {
+        Flag::Fbf => Flagged {
+            word,
+            skip: bit(word, b) == 0,
+        },
+        Flag::Fbt => Flagged {
+            word,
+            skip: bit(word, b) == 1,
+        },
+        Flag::Rfb => Flagged {
+            word: with_bit(word, b, 0),
+            skip: false,
+        },
+        Flag::Sfb => Flagged {
+            word: with_bit(word, b, 1),
+            skip: false,
+        },
+    }
+}
+
+// PC and the stack.
+pub fn jump_group(op: Jump, g: Given) -> Jumped
+    requires { ⌜ Scalars (g .core) ⌝ }
+    ensures { λ r. ⌜ ((word : ℕ) (ports : List ℕ) → namedJump op .effect (chipGiven g word ports) ≡ jumped (chipGiven g word ports) r) ⌝ }
+{
+    let stack = g.core.flow.stack;
+    let s0 = stack[0];
+    let s1 = stack[1];
+    let s2 = stack[2];
+    let page = g.core.flow.pc / 64 * 64;
+    let target = 256 * ((g.code % 8) as u16) + (g.second as u16);
+    match op {
+        Jump::Jpa => Jumped {
+            flow: Flow {
+                pc: page + 4 * (g.core.registers.acc as u16),
+                stack,
+            },
+            skip: false,
+        },
+        Jump::Rt => Jumped {
+            flow: Flow {
+                pc: s0,
+                stack: [s1, s2, s2],
+            },
+            skip: false,
+        },
+        Jump::Rts => Jumped {
+            flow: Flow {
+                pc: s0,
+                stack: [s1, s2, s2],
+            },
+            skip: true,
+        },
+        Jump::Jmp => Jumped {
+            flow: Flow { pc: target, stack },
+            skip: false,
+        },
+        Jump::Cal => Jumped {
+            flow: Flow {
+                pc: target,
+                stack: [g.after, s0, s1],
+            },
+            skip: false,
+        },
+        Jump::Czp => Jumped {
+            flow: Flow {
+                pc: 4 * ((g.code % 16) as u16),
+                stack: [g.after, s0, s1],
+            },
+            skip: false,
+        },
+        Jump::Jcp => Jumped {
+            flow: Flow {
+                pc: page + ((g.code % 64) as u16),
+                stack,
+            },
+            skip: false,
+        },
+    }
+}
+
+// Flip-flops, carries and the timer.
+pub fn control_group(op: Control, g: Given) -> Controlled
+    ensures { λ r. ⌜ ((word : ℕ) (ports : List ℕ) → namedControl op .effect (chipGiven g word ports) ≡ controlled (chipGiven g word ports) r) ⌝ }
+{
+    let carry = g.core.registers.carry;
+    let saved = g.core.registers.saved;
+    let int = g.core.interrupt.int;
+    let inte = g.core.interrupt.inte;
+    let timer = g.core.timer;
+    match op {
+        Control::Nop => Controlled {
+            carry,
+            saved,
+            int,
+            inte,
+            timer,
+            mark: 0,
+            skip: false,
+        },
+        Control::None => Controlled {
+            carry,
+            saved,
+            int,
+            inte,
+            timer,
+            mark: 0,
+            skip: false,
+        },
+        Control::Di => Controlled {
+            carry,
+            saved,
+            int,
+            inte: 0,
+            timer,
+            mark: 0,
+            skip: false,
+        },
+        Control::Ei => Controlled {
+            carry,
+            saved,
+            int,
+            inte: 1,
+            timer,
+            mark: 2,
+            skip: false,
+        },
+        Control::Tit => Controlled {
+            carry,
+            saved,
+            int: 0,
+            inte,
+            timer,
+            mark: 0,
+            skip: int == 1,
+        },
+        Control::Tc => Controlled {
+            carry,
+            saved,
+            int,
+            inte,
+            timer,
+            mark: 0,
+            skip: carry == 1,
+        },
+        Control::Ttm => Controlled {
+            carry,
+            saved,
+            int,
+            inte,
+            timer,
+            mark: 0,
+            skip: g.core.timer.tm == 1,
+        },
+        Control::Xc => Controlled {
+            carry: saved,
+            saved: carry,
+            int,
+            inte,
+            timer,
+            mark: 0,
+            skip: false,
+        },
+        Control::Stm => Controlled {
+            carry,
+            saved,
+            int,
+            inte,
+            timer: Timer {
+                tm: 0,
+                register: 1,
+                counter: g.second % 64,
+            },
+            mark: 3,
+            skip: false,
+        },
+    }
+}
+
+// What OP writes.
+fn output_port(p: u8, v: u8) -> Output
+    requires { ⌜ v < 16 ⌝ }
+    ensures { λ r. ⌜ writesOf (r .port) (r .value) ≡ outputs p v ⌝ }
+{
+    if p < 2 {
+        return Output { port: 0, value: 0 };
+    }
+    if 8 < p {
+        return Output { port: 0, value: 0 };
+    }
+    if p == 8 {
+        return Output {
+            port: 8,
+            value: v % 8,
+        };
+    }
+    Output { port: p, value: v }
+}
+
+// What SPB and RPB write.
+fn output_bit(ports: &[u8; 7], p: u8, b: u8, v: u8) -> Output
+    requires { ⌜ ValidPorts (now ports) × (b < 4) × (v < 2) ⌝ }
+    ensures { λ r. ⌜ writesOf (r .port) (r .value) ≡ bitOutputs (now (ports .entry)) p b v ⌝ }
+{
+    if p < 4 {
+        return Output { port: 0, value: 0 };
+    }
+    if 8 < p {
+        return Output { port: 0, value: 0 };
+    }
+    if p < 8 {
+        let i = (p - 2) as usize;
+        return Output {
+            port: p,
+            value: with_bit(ports[i], b, v),
+        };
+    }
+    if b < 3 {
+        return Output {
+            port: 8,
+            value: with_bit(ports[6], b, v),
+        };
+    }
+    Output { port: 0, value: 0 }
+}
+
+// Ports.
+pub fn port_group(op: Port, g: Given, ports: &[u8; 7]) -> Ported
+    requires { ⌜ Scalars (g .core) × ValidPorts (now ports) ⌝ }
+    ensures { λ r. ⌜ ((word : ℕ) → namedPort op .effect (chipGiven g word (now (ports .entry))) ≡ ported (chipGiven g word (now (ports .entry))) r) ⌝ }
+{
+    let acc = g.core.registers.acc;
+    let dpl = g.core.registers.dpl;
+    let b = g.code % 4;
+    let l = g.lines;
+    match op {
+        Port::Op => written(acc, output_port(dpl, acc)),
+        Port::Ocd => Ported {
+            acc,
+            skip: false,
+            port: 9,
+            value: g.second,
+        },
+        Port::Oe => Ported {
+            acc,
+            skip: false,
+            port: 4,
+            value: acc,
+        },
+        Port::Rpb => written(acc, output_bit(ports, dpl, b, 0)),
+        Port::Reb => Ported {
+            acc,
+            skip: false,
+            port: 4,
+            value: with_bit(ports[2], b, 0),
+        },
+        Port::Spb => written(acc, output_bit(ports, dpl, b, 1)),
+        Port::Seb => Ported {
+            acc,
+            skip: false,
+            port: 4,
+            value: with_bit(ports[2], b, 1),
+        },
+        Port::Ip => Ported {
+            acc: read_port(l, dpl),
+            skip: false,
+            port: 0,
+            value: 0,
+        },
+        Port::Ia => Ported {
+            acc: g.lines.a,
+            skip: false,
+            port: 0,
+            value: 0,
+        },
+        Port::Tpb => Ported {
+            acc,
+            skip: bit(read_port(l, dpl), b) == 1,
+            port: 0,
+            value: 0,
+        },
+        Port::Tpa => Ported {
+            acc,
+            skip: bit(g.lines.a, b) == 1,
+            port: 0,
+            value: 0,
+        },
+    }
+}
+
+fn written(acc: u8, o: Output) -> Ported
+    ensures { λ r. ⌜ r ≡ record { acc = acc; skip = false; port = o .port; value = o .value } ⌝ }
+{
+    Ported {
+        acc,
+        skip: false,
+        port: o.port,
+        value: o.value,
+    }
+}

@@ -1,0 +1,132 @@
+// Steps a, b and d of a machine cycle, on cores: acceptance of an interrupt, the lines, the timer. And how PC counts.
+// It may not know what an instruction does, nor how a run goes.
+use upd546::Core;
+use upd546::Flow;
+use upd546::Lines;
+use upd546::Timer;
+ghost use mathlib.Core.Path.{_≡_};
+ghost use Prim.Native.Nat.{_<_, _≤_};
+ghost use Rattle.upd546.specs.TheMachine.{follows as followsOf, past};
+ghost use Rattle.upd546.specs.Timer.{stepRegister, tick as tickOf};
+ghost use Rattle.upd546.specs.OneMachineCycle.{accepts as acceptsOf, accepted as acceptedOf, taken as takenOf, paid as paidOf, ticked as tickedOf};
+
+// The address that follows: only the low 8 bits count up.
+pub fn follows(a: u16) -> u16
+    ensures { λ r. ⌜ r ≡ followsOf a ⌝ }
+{
+    a / 256 * 256 + (a % 256 + 1) % 256
+}
+
+// The address one or two bytes on.
+pub fn past_bytes(bytes: u8, a: u16) -> u16
+    requires { ⌜ (1 ≤ bytes) × (bytes ≤ 2) ⌝ }
+    ensures { λ r. ⌜ r ≡ past bytes a ⌝ }
+{
+    let next = follows(a);
+    if bytes == 1 {
+        return next;
+    }
+    follows(next)
+}
+
+// The polynomial register's next value.
+fn step_register(r: u8) -> u8
+    requires { ⌜ r < 64 ⌝ }
+    ensures { λ x. ⌜ x ≡ stepRegister r ⌝ }
+{
+    2 * r % 64 + (r / 32 + r / 16) % 2
+}
+
+fn tick(t: Timer) -> Timer
+    requires { ⌜ t .register < 64 ⌝ }
+    ensures { λ r. ⌜ r ≡ tickOf t ⌝ }
+{
+    if t.register == 0 {
+        return Timer {
+            tm: t.tm,
+            register: t.register,
+            counter: t.counter,
+        };
+    }
+    let register = step_register(t.register);
+    if register != 1 {
+        return Timer {
+            tm: t.tm,
+            register,
+            counter: t.counter,
+        };
+    }
+    if t.counter == 0 {
+        return Timer {
+            tm: 1,
+            register: 0,
+            counter: 0,
+        };
+    }
+    Timer {
+        tm: t.tm,
+        register: 1,
+        counter: t.counter - 1,
+    }
+}
+
+// Step d: unless the mark is STM, a running timer steps.
+pub fn ticked(c: Core) -> Core
+    requires { ⌜ c .timer .register < 64 ⌝ }
+    ensures { λ r. ⌜ r ≡ tickedOf c ⌝ }
+{
+    if c.mark == 3 {
+        return c;
+    }
+    let mut d = c;
+    let timer = c.timer;
+    let next = tick(timer);
+    d.timer = next;
+    d
+}
+
+// Step b: the lines are taken, and a fall of INT sets its flip-flop.
+pub fn taken(l: Lines, c: Core) -> Core
+    ensures { λ r. ⌜ r ≡ takenOf l c ⌝ }
+{
+    let mut d = c;
+    d.interrupt.level = l.int;
+    if l.int < c.interrupt.level {
+        d.interrupt.int = 1;
+        return d;
+    }
+    d
+}
+
+// An owed cycle.
+pub fn paid(c: Core) -> Core
+    requires { ⌜ 0 < c .owed ⌝ }
+    ensures { λ r. ⌜ r ≡ paidOf c ⌝ }
+{
+    let mut d = c;
+    d.owed = c.owed - 1;
+    d
+}
+
+// Step a: whether an interrupt is accepted.
+pub fn accepts(c: Core) -> bool
+    ensures { λ r. ⌜ r ≡ acceptsOf c ⌝ }
+{
+    (c.owed == 0) & (c.interrupt.inte == 1) & (c.interrupt.int == 1) & (c.mark != 2)
+}
+
+pub fn accepted(c: Core) -> Core
+    ensures { λ r. ⌜ r ≡ acceptedOf c ⌝ }
+{
+    let stack = c.flow.stack;
+    let flow = Flow {
+        pc: 60,
+        stack: [c.flow.pc, stack[0], stack[1]],
+    };
+    let mut d = c;
+    d.flow = flow;
+    d.interrupt.int = 0;
+    d.interrupt.inte = 0;
+    d.mark = 0;
+    d
+}
