@@ -1,0 +1,116 @@
+-- A schedule's number from its records' numbers, and the cycles of an accepted one. Assumes nothing.
+use mathlib.Core.Path.{_≡_, _∙_, refl, sym, ap}
+use mathlib.Core.List.{List, [], _∷_}
+use mathlib.Core.Logic.{⊎-elim}
+use Prim.Native.Nat.{ℕ, zero, suc, _+_, _-_, _*_, _%_, _<_, _≤_}
+use native.Mathlib.Nat.{eq-or-lt-of-le}
+use native.Mathlib.Numerals.{add-one}
+use native.Mathlib.Omega.{arith}
+use lib.Dec.{ltb}
+use lib.ListN.{length}
+use borrow.Author.Tests.{ltb-true, lt-ltb, le-ltb, le-leb, lt-leb, eq-eqb, ne-eqb}
+use Rattle.runs.specs.TwoRunners.{firstOf, unless}
+use Rattle.runs.proofs.Refusals.{first-at, passes}
+use Rattle.upd546.specs.TheLineSchedule.{recordLength, maxRecords, recordCount, recordByte, recordCycle, bytesNumber, orderNumber, recordsNumber, scheduleNumber}
+use Rattle.schedule.specs.Cursor.{recordNumber}
+
+-- the first of the numbers, by the one in front
+first-past : (k : ℕ) (ks : List ℕ) → k ≡ 0 → firstOf (k ∷ ks) ≡ firstOf ks
+unfolding firstOf
+first-past zero ks e = refl
+first-past (suc k) ks e = absurd (omega arith)
+
+first-here : (k : ℕ) (ks : List ℕ) → 0 < k → firstOf (k ∷ ks) ≡ k
+unfolding firstOf
+first-here zero ks h = absurd (omega arith)
+first-here (suc k) ks h = refl
+
+last-one : (k : ℕ) → firstOf (k ∷ []) ≡ k
+unfolding firstOf
+last-one zero = refl
+last-one (suc k) = refl
+
+-- one record: its bytes, then its order
+pub bad-level : (sched : List ℕ) (i : ℕ) → 1 < recordByte sched i 8 → recordNumber sched i ≡ 13
+unfolding bytesNumber firstOf
+bad-level sched i h = rw (lt-leb (recordByte sched i 8) 1 h)
+
+pub bad-last : (sched : List ℕ) (i : ℕ) → recordByte sched i 8 ≤ 1 → (recordByte sched i 9 ≡ 0 → ⊥) → recordNumber sched i ≡ 13
+unfolding bytesNumber firstOf
+bad-last sched i h ne = rw (le-leb (recordByte sched i 8) 1 h, ne-eqb (recordByte sched i 9) 0 ne)
+
+pub by-order : (sched : List ℕ) (i : ℕ) → recordByte sched i 8 ≤ 1 → recordByte sched i 9 ≡ 0 → recordNumber sched i ≡ orderNumber sched i
+unfolding bytesNumber firstOf
+by-order sched i h e = rw (le-leb (recordByte sched i 8) 1 h, eq-eqb (recordByte sched i 9) 0 e) (last-one (orderNumber sched i))
+
+pub order-first : (sched : List ℕ) (i : ℕ) → i ≡ 0 → orderNumber sched i ≡ 0
+unfolding orderNumber
+order-first sched zero e = refl
+order-first sched (suc i) e = absurd (omega arith)
+
+order-later : (sched : List ℕ) (i : ℕ) → (i ≡ 0 → ⊥) → orderNumber sched i ≡ unless (ltb (recordCycle sched (i - 1)) (recordCycle sched i)) 14
+unfolding orderNumber
+order-later sched zero ne = absurd (omega arith)
+order-later sched (suc i) ne = let e : suc i - 1 ≡ i = omega arith in rw e
+
+pub order-above : (sched : List ℕ) (i : ℕ) → (i ≡ 0 → ⊥) → recordCycle sched (i - 1) < recordCycle sched i → orderNumber sched i ≡ 0
+order-above sched i ne h = rw (order-later sched i ne, lt-ltb (recordCycle sched (i - 1)) (recordCycle sched i) h)
+
+pub order-not : (sched : List ℕ) (i : ℕ) → (i ≡ 0 → ⊥) → recordCycle sched i ≤ recordCycle sched (i - 1) → orderNumber sched i ≡ 14
+order-not sched i ne h = rw (order-later sched i ne, le-ltb (recordCycle sched (i - 1)) (recordCycle sched i) h)
+
+-- the tests of the length
+pub too-long : (sched : List ℕ) → recordLength * maxRecords < length sched → scheduleNumber sched ≡ 12
+unfolding scheduleNumber firstOf
+too-long sched h = rw (lt-leb (length sched) (recordLength * maxRecords) h)
+
+pub no-multiple : (sched : List ℕ) → length sched ≤ recordLength * maxRecords → (length sched % recordLength ≡ 0 → ⊥) → scheduleNumber sched ≡ 11
+unfolding scheduleNumber firstOf
+no-multiple sched h ne = rw (le-leb (length sched) (recordLength * maxRecords) h, ne-eqb (length sched % recordLength) 0 ne)
+
+pub by-records : (sched : List ℕ) → length sched ≤ recordLength * maxRecords → length sched % recordLength ≡ 0 → scheduleNumber sched ≡ recordsNumber sched (recordCount sched)
+unfolding scheduleNumber firstOf
+by-records sched h e = rw (le-leb (length sched) (recordLength * maxRecords) h, eq-eqb (length sched % recordLength) 0 e) (last-one (recordsNumber sched (recordCount sched)))
+
+pub none-refused : (sched : List ℕ) → recordsNumber sched 0 ≡ 0
+unfolding recordsNumber
+none-refused sched = refl
+
+-- one record more, where those before it are accepted
+pub one-more : (sched : List ℕ) (i : ℕ) → recordsNumber sched i ≡ 0 → recordsNumber sched (i + 1) ≡ recordNumber sched i
+unfolding recordsNumber
+one-more sched i e = rw (add-one i) (first-past (recordsNumber sched i) _ e)
+
+-- a number that refuses the first i records refuses all of more
+refused-on : (sched : List ℕ) (i k : ℕ) → i ≤ k → 0 < recordsNumber sched i → recordsNumber sched k ≡ recordsNumber sched i
+unfolding recordsNumber
+refused-on sched i zero h p = let e : 0 ≡ i = omega arith in ap (recordsNumber sched) e
+refused-on sched i (suc k) h p = ⊎-elim (λ e. ap (recordsNumber sched) (sym e)) (λ l. go (refused-on sched i k (omega arith) p)) (eq-or-lt-of-le h)
+  where
+    go : recordsNumber sched k ≡ recordsNumber sched i → recordsNumber sched (suc k) ≡ recordsNumber sched i
+    go e = first-here (recordsNumber sched k) _ (rw e p) ∙ e
+
+pub refused-at : (sched : List ℕ) (i : ℕ) → length sched ≤ recordLength * maxRecords → length sched % recordLength ≡ 0 → i < recordCount sched → recordsNumber sched i ≡ 0
+    → (recordNumber sched i ≡ 0 → ⊥) → scheduleNumber sched ≡ recordNumber sched i
+refused-at sched i h e l z ne =
+    let p : 0 < recordsNumber sched (i + 1) = omega (arith, one-more sched i z) in
+    by-records sched h e ∙ refused-on sched (i + 1) (recordCount sched) (omega arith) p ∙ one-more sched i z
+
+-- The cycles of an accepted schedule rise strictly.
+in-order : (sched : List ℕ) (k i : ℕ) → recordsNumber sched k ≡ 0 → i < k → orderNumber sched i ≡ 0
+unfolding recordsNumber
+in-order sched zero i e h = absurd (omega arith)
+in-order sched (suc k) i e h =
+    let z = first-at _ e in
+    ⊎-elim (λ q. let p : i ≡ k = omega arith in rw p (z 2)) (λ l. in-order sched k i (z 0) (omega arith)) (eq-or-lt-of-le h)
+
+above-last : (sched : List ℕ) (i : ℕ) → orderNumber sched (suc i) ≡ 0 → recordCycle sched i < recordCycle sched (suc i)
+unfolding orderNumber
+above-last sched i e = ltb-true _ _ (passes (ltb (recordCycle sched i) (recordCycle sched (suc i))) 13 e)
+
+pub rises : (sched : List ℕ) → scheduleNumber sched ≡ 0 → (i k : ℕ) → i < k → k < recordCount sched → recordCycle sched i < recordCycle sched k
+unfolding scheduleNumber
+rises sched e i zero h l = absurd (omega arith)
+rises sched e i (suc k) h l =
+    let s = above-last sched k (in-order sched (recordCount sched) (suc k) (first-at _ e 2) l) in
+    ⊎-elim (λ q. let p : i ≡ k = omega arith in rw p s) (λ m. omega (arith, rises sched e i k (omega arith) (omega arith))) (eq-or-lt-of-le h)

@@ -1,0 +1,208 @@
+// The line schedule in code: which number refuses it, and a cursor that goes with a run and holds the lines of its cycle.
+// It may not know the chip's instructions, nor how a run goes.
+use runs::Outcome;
+use runs::Refusal;
+use upd546::Lines;
+ghost use mathlib.Core.Path.{_≡_};
+ghost use Prim.Native.Nat.{_+_, _<_, _≤_};
+ghost use Rattle.runs.specs.Numbers.{outcomeNumber};
+ghost use Rattle.runs.specs.TwoRunners.{cycleLimit};
+ghost use Rattle.upd546.specs.TheLineSchedule.{recordLength, recordCount, recordByte, recordCycle, recordLines, scheduleNumber};
+ghost use Rattle.schedule.specs.Cursor.{recordNumber, nextCycle, linesAfter, Counted, Stands};
+
+// A record's bytes: 0 to 5 the cycle, 6 ports A and B, 7 ports C and D, 8 the INT level, 9 zero.
+const RECORD_LENGTH: usize = 10;
+
+// 4,096 records.
+const MAX_LENGTH: usize = 40960;
+
+// u64's largest number; six bytes are below it.
+const NO_CYCLE: u64 = 18446744073709551615;
+
+// Where a run stands in its schedule at a cycle.
+pub struct Cursor {
+    // The number of records at or before the cycle.
+    pub index: usize,
+    // The cycle of record `index`, or `NO_CYCLE` where there is none.
+    pub next: u64,
+    pub lines: Lines,
+}
+
+// Byte k of record i.
+fn byte_at(sched: &[u8], i: usize, k: usize) -> u8
+    requires { ⌜ (i < recordCount (now sched)) × (k < recordLength) ⌝ }
+    ensures { λ r. ⌜ r ≡ recordByte (now (sched .entry)) i k ⌝ }
+{
+    sched[RECORD_LENGTH * i + k]
+}
+
+// The same, as a u64.
+fn wide_at(sched: &[u8], i: usize, k: usize) -> u64
+    requires { ⌜ (i < recordCount (now sched)) × (k < recordLength) ⌝ }
+    ensures { λ r. ⌜ (r ≡ recordByte (now (sched .entry)) i k) × (r < 256) ⌝ }
+{
+    byte_at(sched, i, k) as u64
+}
+
+// The cycle of record i.
+fn cycle_at(sched: &[u8], i: usize) -> u64
+    requires { ⌜ i < recordCount (now sched) ⌝ }
+    ensures { λ r. ⌜ r ≡ recordCycle (now (sched .entry)) i ⌝ }
+{
+    let b0 = wide_at(sched, i, 0);
+    let b1 = wide_at(sched, i, 1);
+    let b2 = wide_at(sched, i, 2);
+    let b3 = wide_at(sched, i, 3);
+    let b4 = wide_at(sched, i, 4);
+    let b5 = wide_at(sched, i, 5);
+    ((((b0 * 256 + b1) * 256 + b2) * 256 + b3) * 256 + b4) * 256 + b5
+}
+
+// The lines that record i sets.
+fn lines_at(sched: &[u8], i: usize) -> Lines
+    requires { ⌜ i < recordCount (now sched) ⌝ }
+    ensures { λ r. ⌜ r ≡ recordLines (now (sched .entry)) i ⌝ }
+{
+    let ab = byte_at(sched, i, 6);
+    let cd = byte_at(sched, i, 7);
+    let int = byte_at(sched, i, 8);
+    Lines {
+        a: ab / 16,
+        b: ab % 16,
+        c: cd / 16,
+        d: cd % 16,
+        int: int,
+    }
+}
+
+// Whether record i is accepted, where those before it are.
+fn record_check(sched: &[u8], i: usize) -> Outcome
+    requires { ⌜ i < recordCount (now sched) ⌝ }
+    ensures { λ r. ⌜ outcomeNumber r ≡ recordNumber (now (sched .entry)) i ⌝ }
+{
+    if 1 < byte_at(sched, i, 8) {
+        return Outcome::Refused(Refusal::RecordBytes);
+    }
+    if byte_at(sched, i, 9) != 0 {
+        return Outcome::Refused(Refusal::RecordBytes);
+    }
+    if i == 0 {
+        return Outcome::Done;
+    }
+    if cycle_at(sched, i) <= cycle_at(sched, i - 1) {
+        return Outcome::Refused(Refusal::RecordOrder);
+    }
+    Outcome::Done
+}
+
+// Whether a schedule is accepted, and if not, why.
+pub fn check(sched: &[u8]) -> Outcome
+    ensures { λ r. ⌜ outcomeNumber r ≡ scheduleNumber (now (sched .entry)) ⌝ }
+{
+    if MAX_LENGTH < sched.len() {
+        return Outcome::Refused(Refusal::ScheduleLong);
+    }
+    if sched.len() % RECORD_LENGTH != 0 {
+        return Outcome::Refused(Refusal::ScheduleLength);
+    }
+    let count = sched.len() / RECORD_LENGTH;
+    let mut i = 0;
+    while i < count {
+        let found = record_check(sched, i);
+        if runs::outcome_number(found) != 0 {
+            return found;
+        }
+        i += 1;
+    }
+    Outcome::Done
+}
+
+// The number of records at or before cycle n.
+fn records_until(sched: &[u8], n: u64) -> usize
+    ensures { λ r. ⌜ Counted (now (sched .entry)) n r ⌝ }
+{
+    let count = sched.len() / RECORD_LENGTH;
+    let mut i = 0;
+    while i < count {
+        if n < cycle_at(sched, i) {
+            return i;
+        }
+        i += 1;
+    }
+    i
+}
+
+// The cycle of record i, or `NO_CYCLE` where there is none.
+fn next_at(sched: &[u8], i: usize) -> u64
+    ensures { λ r. ⌜ r ≡ nextCycle (now (sched .entry)) i ⌝ }
+{
+    if i < sched.len() / RECORD_LENGTH {
+        cycle_at(sched, i)
+    } else {
+        NO_CYCLE
+    }
+}
+
+// The lines once the first i records have been taken.
+fn lines_after(sched: &[u8], i: usize) -> Lines
+    requires { ⌜ i ≤ recordCount (now sched) ⌝ }
+    ensures { λ r. ⌜ r ≡ linesAfter (now (sched .entry)) i ⌝ }
+{
+    if i == 0 {
+        Lines {
+            a: 0,
+            b: 0,
+            c: 0,
+            d: 0,
+            int: 1,
+        }
+    } else {
+        lines_at(sched, i - 1)
+    }
+}
+
+// The cursor at cycle n, found from the first record on.
+pub fn start(sched: &[u8], n: u64) -> Cursor
+    requires { ⌜ scheduleNumber (now sched) ≡ 0 ⌝ }
+    ensures { λ r. ⌜ Stands (now (sched .entry)) n r ⌝ }
+{
+    let index = records_until(sched, n);
+    let next = next_at(sched, index);
+    let lines = lines_after(sched, index);
+    Cursor { index, next, lines }
+}
+
+// The cursor one cycle on. Cycles rise, so at most one record falls on it.
+// Structs are made field by field, so that the optimiser keeps the fields apart.
+pub fn moved(sched: &[u8], cursor: Cursor, n: u64) -> Cursor
+    requires { ⌜ (scheduleNumber (now sched) ≡ 0) × Stands (now sched) n cursor × (n < cycleLimit) ⌝ }
+    ensures { λ r. ⌜ Stands (now (sched .entry)) (n + 1) r ⌝ }
+{
+    let index = cursor.index;
+    if n + 1 < cursor.next {
+        return Cursor {
+            index: index,
+            next: cursor.next,
+            lines: Lines {
+                a: cursor.lines.a,
+                b: cursor.lines.b,
+                c: cursor.lines.c,
+                d: cursor.lines.d,
+                int: cursor.lines.int,
+            },
+        };
+    }
+    let next = next_at(sched, index + 1);
+    let lines = lines_at(sched, index);
+    Cursor {
+        index: index + 1,
+        next: next,
+        lines: Lines {
+            a: lines.a,
+            b: lines.b,
+            c: lines.c,
+            d: lines.d,
+            int: lines.int,
+        },
+    }
+}
