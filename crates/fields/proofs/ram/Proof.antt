@@ -1,0 +1,26 @@
+-- `ram` tests all words. Assumes nothing.
+use mathlib.Core.Path.{_≡_}
+use mathlib.Core.Bool.{and-true}
+use lib.ListN.{length}
+use borrow.Author.Needs.{needs}
+use borrow.Author.Tests.{eq-eqb}
+use Rattle.upd546.specs.TheMachine.{ramLength}
+use Rattle.upd546.specs.Tests.{allOf}
+use Rattle.upd546.specs.StateImage.{ramSound}
+use Rattle.fields.proofs.ram.Statement.{statement}
+use Rattle.fields.proofs.ram.Tie as tie
+
+slice-aggregate-all-below : tie.Need-slice-aggregate-all-below
+slice-aggregate-all-below c = search needs
+
+all-below-requires : tie.Need-all-below-requires
+all-below-requires c κs = search needs
+
+returns : tie.Need-returns
+unfolding allOf ramSound
+returns c =
+    let count : length (c .before .before .args .t1) ≡ ramLength = search needs in
+    rw (eq-eqb _ _ count, c .all-below .ensures, and-true)
+
+pub ram-spec : {M : Type 1} → statement M
+ram-spec = tie.close (tie.spec slice-aggregate-all-below all-below-requires returns)
