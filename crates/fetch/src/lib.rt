@@ -11,10 +11,10 @@ ghost use Rattle.fetch.specs.Fetching.{FetchedAs, PassedAs};
 // The instruction at an address: its code and second byte (0: it has none), the address after it, its base cycles; or `stop`,
 // the number why it can't be begun (22 or 23; 0: it can).
 pub struct Fetched {
+    pub after: u16,
     pub stop: u8,
     pub code: u8,
     pub second: u8,
-    pub after: u16,
     pub cycles: u8,
 }
 

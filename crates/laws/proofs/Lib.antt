@@ -5,3 +5,4 @@ pub mod Lines
 pub mod Cycle
 pub mod Chip
 pub mod Timer
+pub mod Stops

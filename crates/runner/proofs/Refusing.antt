@@ -1,0 +1,90 @@
+-- What refuses a run, number by number, and what holds where none does. Assumes nothing.
+use mathlib.Core.Path.{_≡_, _∙_, refl, sym}
+use mathlib.Core.Bool.{true, false}
+use mathlib.Core.List.{List}
+use Prim.Native.Nat.{ℕ, zero, suc, _+_, _≤_}
+use lib.Dec.{eqb, leb}
+use lib.ListN.{length}
+use borrow.Author.Tests.{eq-eqb, ne-eqb, eqb-true, leb-true}
+use native.Mathlib.Omega.{arith}
+use Rattle.runs.specs.declared.Refusal.{Refusal}
+use Rattle.runs.specs.declared.Refusal.the-variants as why
+use Rattle.runs.specs.Numbers.{refusalNumber}
+use Rattle.runs.specs.TwoRunners.{refused, cycleLimit, firstOf, runNumber, plain}
+use Rattle.runs.proofs.Refusals.{first-at, passes}
+use Rattle.upd546.specs.declared.State.{State}
+use Rattle.upd546.specs.TheMachine.{romLength}
+use Rattle.upd546.specs.TheLineSchedule.{scheduleNumber}
+use Rattle.upd546.specs.StateImage.{stateNumber}
+use Rattle.upd546.specs.TwoRunners.{panelNumber, upd546}
+
+module _ (rom sched : List ℕ) (s : State) (n : ℕ) where
+  pub by-rom : (length rom ≡ romLength → ⊥) → 21 ≡ runNumber upd546 rom sched s n
+  unfolding runNumber panelNumber firstOf
+  by-rom h = rw (ne-eqb (length rom) romLength h)
+
+  module _ (r : length rom ≡ romLength) where
+    pub by-schedule : (k : ℕ) → k ≡ scheduleNumber sched → (k ≡ 0 → ⊥) → k ≡ runNumber upd546 rom sched s n
+    unfolding runNumber panelNumber firstOf
+    by-schedule zero e h = absurd (h refl)
+    by-schedule (suc k) e h = rw (eq-eqb (length rom) romLength r, ← e)
+
+    module _ (c : scheduleNumber sched ≡ 0) where
+      pub by-state : (k : ℕ) → k ≡ stateNumber s → (k ≡ 0 → ⊥) → k ≡ runNumber upd546 rom sched s n
+      unfolding runNumber panelNumber firstOf
+      by-state zero e h = absurd (h refl)
+      by-state (suc k) e h = rw (eq-eqb (length rom) romLength r, c, ← e)
+
+      module _ (v : stateNumber s ≡ 0) where
+        pub by-limit : leb (s .cycle .0 + n) cycleLimit ≡ false → 2 ≡ runNumber upd546 rom sched s n
+        unfolding runNumber panelNumber firstOf
+        by-limit h = rw (eq-eqb (length rom) romLength r, c, v, h)
+
+        pub by-none : leb (s .cycle .0 + n) cycleLimit ≡ true → 0 ≡ runNumber upd546 rom sched s n
+        unfolding runNumber panelNumber firstOf
+        by-none h = rw (eq-eqb (length rom) romLength r, c, v, h)
+
+-- a run that isn't refused
+pub record Taken (rom sched : List ℕ) (s : State) (n : ℕ) : Type 0 where
+  pub panel : panelNumber rom sched ≡ 0
+  pub rom-length : length rom ≡ romLength
+  pub schedule : scheduleNumber sched ≡ 0
+  pub state : stateNumber s ≡ 0
+  pub limit : s .cycle .0 + n ≤ cycleLimit
+
+pub run-taken : (rom sched : List ℕ) (s : State) (n : ℕ) → runNumber upd546 rom sched s n ≡ 0 → Taken rom sched s n
+unfolding runNumber panelNumber
+run-taken rom sched s n e =
+    let panel = first-at _ e 0 in
+    record {
+      panel = panel;
+      rom-length = eqb-true (length rom) romLength (passes (eqb (length rom) romLength) 20 (first-at _ panel 0));
+      schedule = first-at _ panel 1;
+      state = first-at _ e 1;
+      limit = leb-true (s .cycle .0 + n) cycleLimit (passes (leb (s .cycle .0 + n) cycleLimit) 1 (first-at _ e 2));
+    }
+
+-- every refusal has a number
+refusal-some : (w : Refusal) → refusalNumber w ≡ 0 → ⊥
+refusal-some why.BufferShort e = omega arith
+refusal-some why.CycleLimit e = omega arith
+refusal-some why.ScheduleLength e = omega arith
+refusal-some why.ScheduleLong e = omega arith
+refusal-some why.RecordBytes e = omega arith
+refusal-some why.RecordOrder e = omega arith
+refusal-some why.RomLength e = omega arith
+refusal-some why.ImageLength e = omega arith
+refusal-some why.ImageMark e = omega arith
+refusal-some why.ImageVersion e = omega arith
+refusal-some why.Field e = omega arith
+
+refused-by : (rom sched log : List ℕ) (s : State) (n k : ℕ) → k ≡ runNumber upd546 rom sched s n → (k ≡ 0 → ⊥)
+    → record { end = refused k; state = s; cycles = 0; clocks = 0; begun = 0; written = 0; steps = 0; log = log } ≡ plain upd546 rom sched s log n
+unfolding plain
+refused-by rom sched log s n zero e h = absurd (h refl)
+refused-by rom sched log s n (suc k) e h = rw (← e)
+
+-- the answer of a refused run
+pub tells-refused : (rom sched log : List ℕ) (s : State) (n : ℕ) (w : Refusal) → refusalNumber w ≡ runNumber upd546 rom sched s n
+    → record { end = refused (refusalNumber w); state = s; cycles = 0; clocks = 0; begun = 0; written = 0; steps = 0; log = log } ≡ plain upd546 rom sched s log n
+tells-refused rom sched log s n w e = refused-by rom sched log s n (refusalNumber w) e (refusal-some w)

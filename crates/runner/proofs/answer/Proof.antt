@@ -1,0 +1,13 @@
+-- Clock cycles are four per machine cycle. Assumes nothing.
+use borrow.Author.Needs.{needs}
+use Rattle.runner.proofs.answer.Statement.{statement}
+use Rattle.runner.proofs.answer.Tie as tie
+
+clocks-requires : tie.Need-clocks-requires
+clocks-requires c κs = search needs
+
+returns : tie.Need-returns
+returns c = rw (c .clocks .ensures)
+
+pub answer-spec : {M : Type 1} → statement M
+answer-spec = tie.close (tie.spec clocks-requires returns)

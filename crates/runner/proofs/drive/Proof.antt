@@ -1,0 +1,227 @@
+-- The loop: where it stands, a stop, a cycle that is begun, the finish. Assumes nothing.
+use mathlib.Core.Path.{_∙_, ap}
+use native.Mathlib.Nat.{add-zero}
+use native.Mathlib.Omega.{arith}
+use denote.Ref.{now}
+use Rattle.runs.specs.TwoRunners.{runNumber, plain}
+use Rattle.upd546.specs.declared.Core.{Core}
+use Rattle.upd546.specs.declared.State.{State}
+use Rattle.upd546.specs.TwoRunners.{upd546}
+use Rattle.runner.proofs.Refusing.{run-taken}
+use Rattle.runner.proofs.Driving.{starts, ready, finishes, stops, stop-length, stop-known, counts, goes-on}
+use borrow.Author.Needs.{needs}
+use Prim.Native.Nat.{_+_, _-_}
+use Rattle.cycle.specs.Landing.{stateOf}
+use Rattle.runner.proofs.Driving.{At}
+use Rattle.runner.proofs.drive.Statement.{statement}
+use Rattle.runner.proofs.drive.Tie as tie
+
+abbrev Inv-loop : tie.InvT-loop
+Inv-loop rom sched log₀ n table start core₀ ram₀ ports₀ cursor₀ at₀ done₀ begun₀ log core ram ports cursor at done begun =
+    At rom sched log₀ n (stateOf core₀ ram₀ ports₀ start) log (stateOf core ram ports (start + done)) cursor at done begun
+
+abbrev μ-loop : tie.MeasureT-loop
+μ-loop rom sched log₀ n table start core₀ ram₀ ports₀ cursor₀ at₀ done₀ begun₀ log core ram ports cursor at done begun = n - done
+
+instruction-table-requires : tie.Need-instruction-table-requires Inv-loop μ-loop
+instruction-table-requires c κs = search needs
+
+same-requires : tie.Need-same-requires Inv-loop μ-loop
+same-requires c κs = search needs
+
+start-requires : tie.Need-start-requires Inv-loop μ-loop
+start-requires c κs = run-taken (now (c .before .before .before .before .before .before .before .before .args .rom)) (now (c .before .before .before .before .before .before .before .before .args .sched)) (c .before .before .before .before .before .before .before .before .args .s) (c .before .before .before .before .before .before .before .before .args .n) (c .before .before .before .before .before .before .before .before .pre) .schedule
+
+loop-holds : tie.Need-loop-holds Inv-loop μ-loop
+loop-holds c =
+    let a = c .before .before .before .before .before .before .before .before .before .args in
+    let s₀ = stateOf (c .before .before .before .same .result) (a .s .ram) (a .s .ports) (a .s .cycle .0) in
+    let e = ap (λ (x : Core). stateOf x (a .s .ram) (a .s .ports) (a .s .cycle .0)) (c .before .before .before .same .ensures) in
+    let k = ap (λ (x : State). runNumber upd546 (now (a .rom)) (now (a .sched)) x (a .n)) e ∙ c .before .before .before .before .before .before .before .before .before .pre in
+    rw (add-zero (a .s .cycle .0)) (starts (now (a .rom)) (now (a .sched)) (now (a .log)) (a .n) s₀ (c .start .result) k (c .start .ensures))
+
+sub-one-cycle : tie.Need-sub-one-cycle Inv-loop μ-loop
+sub-one-cycle c = search needs
+
+part-one-cycle-start : tie.Need-part-one-cycle-start Inv-loop μ-loop
+part-one-cycle-start c = search needs
+
+part-one-cycle-end : tie.Need-part-one-cycle-end Inv-loop μ-loop
+part-one-cycle-end c = search needs
+
+add-one-cycle : tie.Need-add-one-cycle Inv-loop μ-loop
+add-one-cycle c = search needs
+
+one-cycle-requires : tie.Need-one-cycle-requires Inv-loop μ-loop
+one-cycle-requires c κs =
+    let a = c .before .before .before .before .before .before .before .before .before .before .before .before .before .before .before .args in
+    let s₀ = stateOf (c .before .before .before .before .before .before .before .before .before .same .result) (a .s .ram) (a .s .ports) (a .s .cycle .0) in
+    let l = c .before .before .before .before .before .loop in
+    let t = stateOf (l .core) (l .ram) (l .ports) (a .s .cycle .0 + l .done) in
+    let h = l .inv in
+    ready (now (a .rom)) (now (a .sched)) (now (a .log)) (a .n) s₀ (l .log) t (l .cursor) (l .at) (l .done) (l .begun) h (c .before .before .before .before .loop-test .taken) (c .before .before .before .before .before .before .before .before .before .before .before .instruction-table .result) (λ i. omega (arith, c .before .before .before .before .before .before .before .before .before .before .before .before .before .before .shared-slice-known .given i)) (λ i. omega (arith, c .before .before .before .before .before .before .before .before .before .before .before .before .before .shared-slice-known2 .given i)) (c .before .before .before .before .before .before .before .before .before .before .before .instruction-table .ensures)
+
+stop-of-requires : tie.Need-stop-of-requires Inv-loop μ-loop
+stop-of-requires c κs =
+    let a = c .before .before .before .before .before .before .before .before .before .before .before .before .before .before .before .before .before .before .before .before .args in
+    let s₀ = stateOf (c .before .before .before .before .before .before .before .before .before .before .before .before .before .before .same .result) (a .s .ram) (a .s .ports) (a .s .cycle .0) in
+    let l = c .before .before .before .before .before .before .before .before .before .before .loop in
+    let t = stateOf (l .core) (l .ram) (l .ports) (a .s .cycle .0 + l .done) in
+    let h = l .inv in
+    stop-known (now (a .rom)) (now (a .sched)) (now (a .log)) (a .n) s₀ (l .log) t (l .cursor) (l .at) (l .done) (l .begun) h (c .before .before .before .before .before .before .before .before .before .loop-test .taken) (c .before .before .before .before .one-cycle .result) (c .before .before .before .before .one-cycle .last .1 .1 .1 .0) (c .before .before .before .before .one-cycle .last .1 .1 .1 .1 .0) (c .before .before .before .before .one-cycle .last .1 .1 .1 .1 .1 .0) (c .before .before .before .before .one-cycle .ensures) (c .if1 .taken)
+
+add-state-of : tie.Need-add-state-of Inv-loop μ-loop
+add-state-of c =
+    let a = c .before .before .before .before .before .before .before .before .before .before .before .before .before .before .before .before .before .before .before .before .before .args in
+    let s₀ = stateOf (c .before .before .before .before .before .before .before .before .before .before .before .before .before .before .before .same .result) (a .s .ram) (a .s .ports) (a .s .cycle .0) in
+    let l = c .before .before .before .before .before .before .before .before .before .before .before .loop in
+    let t = stateOf (l .core) (l .ram) (l .ports) (a .s .cycle .0 + l .done) in
+    let h = l .inv in
+    omega (arith, run-taken (now (a .rom)) (now (a .sched)) s₀ (a .n) (h .number) .limit, h .not-past)
+
+state-of-requires : tie.Need-state-of-requires Inv-loop μ-loop
+state-of-requires c κs = search needs
+
+answer-requires : tie.Need-answer-requires Inv-loop μ-loop
+answer-requires c κs =
+    let a = c .before .before .before .before .before .before .before .before .before .before .before .before .before .before .before .before .before .before .before .before .before .before .args in
+    let s₀ = stateOf (c .before .before .before .before .before .before .before .before .before .before .before .before .before .before .before .before .same .result) (a .s .ram) (a .s .ports) (a .s .cycle .0) in
+    let l = c .before .before .before .before .before .before .before .before .before .before .before .before .loop in
+    let t = stateOf (l .core) (l .ram) (l .ports) (a .s .cycle .0 + l .done) in
+    let h = l .inv in
+    omega (arith, run-taken (now (a .rom)) (now (a .sched)) s₀ (a .n) (h .number) .limit, h .not-past)
+
+same-length : tie.Need-same-length Inv-loop μ-loop
+same-length c =
+    let a = c .before .before .before .before .before .before .before .before .before .before .before .before .before .before .before .before .before .before .before .before .before .before .before .args in
+    let s₀ = stateOf (c .before .before .before .before .before .before .before .before .before .before .before .before .before .before .before .before .before .same .result) (a .s .ram) (a .s .ports) (a .s .cycle .0) in
+    let l = c .before .before .before .before .before .before .before .before .before .before .before .before .before .loop in
+    let t = stateOf (l .core) (l .ram) (l .ports) (a .s .cycle .0 + l .done) in
+    let h = l .inv in
+    stop-length (now (a .rom)) (now (a .sched)) (now (a .log)) (a .n) s₀ (l .log) t (l .cursor) (l .at) (l .done) (l .begun) h (c .before .before .before .before .before .before .before .before .before .before .before .before .loop-test .taken) (c .before .before .before .before .before .before .before .one-cycle .result) (c .before .before .before .before .before .before .before .one-cycle .last .1 .1 .1 .0) (c .before .before .before .before .before .before .before .one-cycle .last .1 .1 .1 .1 .0) (c .before .before .before .before .before .before .before .one-cycle .last .1 .1 .1 .1 .1 .0) (c .before .before .before .before .before .before .before .one-cycle .ensures) (c .before .before .before .if1 .taken)
+
+returns : tie.Need-returns Inv-loop μ-loop
+returns c =
+    let a = c .before .before .before .before .before .before .before .before .before .before .before .before .before .before .before .before .before .before .before .before .before .before .before .args in
+    let s₀ = stateOf (c .before .before .before .before .before .before .before .before .before .before .before .before .before .before .before .before .before .same .result) (a .s .ram) (a .s .ports) (a .s .cycle .0) in
+    let l = c .before .before .before .before .before .before .before .before .before .before .before .before .before .loop in
+    let t = stateOf (l .core) (l .ram) (l .ports) (a .s .cycle .0 + l .done) in
+    let h = l .inv in
+    let e = ap (λ (x : Core). stateOf x (a .s .ram) (a .s .ports) (a .s .cycle .0)) (c .before .before .before .before .before .before .before .before .before .before .before .before .before .before .before .before .before .same .ensures) in
+    let r = c .answer .ensures in
+    let u = c .before .state-of .ensures in
+    let k = c .before .before .stop-of .ensures in
+    rw (r, k) (stops (now (a .rom)) (now (a .sched)) (now (a .log)) (a .n) s₀ (l .log) t (l .cursor) (l .at) (l .done) (l .begun) h (c .before .before .before .before .before .before .before .before .before .before .before .before .loop-test .taken) (c .before .before .before .before .before .before .before .one-cycle .result) (c .before .before .before .before .before .before .before .one-cycle .last .1 .1 .1 .0) (c .before .before .before .before .before .before .before .one-cycle .last .1 .1 .1 .1 .0) (c .before .before .before .before .before .before .before .one-cycle .last .1 .1 .1 .1 .1 .0) (c .before .before .before .before .before .before .before .one-cycle .ensures) (c .before .before .before .if1 .taken) u ∙ ap (λ (x : State). plain upd546 (now (a .rom)) (now (a .sched)) x (now (a .log)) (a .n)) e)
+
+same-requires-2 : tie.Need-same-requires-2 Inv-loop μ-loop
+same-requires-2 c κs = search needs
+
+add-at : tie.Need-add-at Inv-loop μ-loop
+add-at c =
+    let a = c .before .before .before .before .before .before .before .before .before .before .before .before .before .before .before .before .before .before .before .before .before .before .before .args in
+    let s₀ = stateOf (c .before .before .before .before .before .before .before .before .before .before .before .before .before .before .before .before .before .same .result) (a .s .ram) (a .s .ports) (a .s .cycle .0) in
+    let l = c .before .before .before .before .before .before .before .before .before .before .before .before .before .loop in
+    let t = stateOf (l .core) (l .ram) (l .ports) (a .s .cycle .0 + l .done) in
+    let h = l .inv in
+    omega (arith, counts (now (a .rom)) (now (a .sched)) (now (a .log)) (a .n) s₀ (l .log) t (l .cursor) (l .at) (l .done) (l .begun) h (c .before .before .before .before .before .before .before .before .before .before .before .before .loop-test .taken) (c .before .before .before .before .before .before .before .one-cycle .result) (c .before .before .before .before .before .before .before .one-cycle .last .1 .1 .1 .0) (c .before .before .before .before .before .before .before .one-cycle .last .1 .1 .1 .1 .0) (c .before .before .before .before .before .before .before .one-cycle .last .1 .1 .1 .1 .1 .0) (c .before .before .before .before .before .before .before .one-cycle .ensures) (λ i. omega (arith, c .before .before .before .before .before .before .before .before .before .before .before .before .before .before .before .before .before .before .before .before .before .before .shared-slice-known .given i)) (λ i. omega (arith, c .before .before .before .before .before .before .before .before .before .before .before .before .before .before .before .before .before .before .before .before .before .shared-slice-known2 .given i)) (c .before .before .before .if1 .left), c .before .before .before .before .before .before .before .before .before .before .before .before .before .before .before .before .before .before .before .before .before .before .before .good .1 .1 .1 .0 .0)
+
+add-begun : tie.Need-add-begun Inv-loop μ-loop
+add-begun c =
+    let a = c .before .before .before .before .before .before .before .before .before .before .before .before .before .before .before .before .before .before .before .before .before .before .before .before .args in
+    let s₀ = stateOf (c .before .before .before .before .before .before .before .before .before .before .before .before .before .before .before .before .before .before .same .result) (a .s .ram) (a .s .ports) (a .s .cycle .0) in
+    let l = c .before .before .before .before .before .before .before .before .before .before .before .before .before .before .loop in
+    let t = stateOf (l .core) (l .ram) (l .ports) (a .s .cycle .0 + l .done) in
+    let h = l .inv in
+    omega (arith, counts (now (a .rom)) (now (a .sched)) (now (a .log)) (a .n) s₀ (l .log) t (l .cursor) (l .at) (l .done) (l .begun) h (c .before .before .before .before .before .before .before .before .before .before .before .before .before .loop-test .taken) (c .before .before .before .before .before .before .before .before .one-cycle .result) (c .before .before .before .before .before .before .before .before .one-cycle .last .1 .1 .1 .0) (c .before .before .before .before .before .before .before .before .one-cycle .last .1 .1 .1 .1 .0) (c .before .before .before .before .before .before .before .before .one-cycle .last .1 .1 .1 .1 .1 .0) (c .before .before .before .before .before .before .before .before .one-cycle .ensures) (λ i. omega (arith, c .before .before .before .before .before .before .before .before .before .before .before .before .before .before .before .before .before .before .before .before .before .before .before .shared-slice-known .given i)) (λ i. omega (arith, c .before .before .before .before .before .before .before .before .before .before .before .before .before .before .before .before .before .before .before .before .before .before .shared-slice-known2 .given i)) (c .before .before .before .before .if1 .left), h .few, h .not-past, run-taken (now (a .rom)) (now (a .sched)) s₀ (a .n) (h .number) .limit)
+
+add-moved : tie.Need-add-moved Inv-loop μ-loop
+add-moved c =
+    let a = c .before .before .before .before .before .before .before .before .before .before .before .before .before .before .before .before .before .before .before .before .before .before .before .before .args in
+    let s₀ = stateOf (c .before .before .before .before .before .before .before .before .before .before .before .before .before .before .before .before .before .before .same .result) (a .s .ram) (a .s .ports) (a .s .cycle .0) in
+    let l = c .before .before .before .before .before .before .before .before .before .before .before .before .before .before .loop in
+    let t = stateOf (l .core) (l .ram) (l .ports) (a .s .cycle .0 + l .done) in
+    let h = l .inv in
+    omega (arith, run-taken (now (a .rom)) (now (a .sched)) s₀ (a .n) (h .number) .limit, h .not-past)
+
+moved-requires : tie.Need-moved-requires Inv-loop μ-loop
+moved-requires c κs =
+    let a = c .before .before .before .before .before .before .before .before .before .before .before .before .before .before .before .before .before .before .before .before .before .before .before .before .args in
+    let s₀ = stateOf (c .before .before .before .before .before .before .before .before .before .before .before .before .before .before .before .before .before .before .same .result) (a .s .ram) (a .s .ports) (a .s .cycle .0) in
+    let l = c .before .before .before .before .before .before .before .before .before .before .before .before .before .before .loop in
+    let t = stateOf (l .core) (l .ram) (l .ports) (a .s .cycle .0 + l .done) in
+    let h = l .inv in
+    let k = run-taken (now (a .rom)) (now (a .sched)) s₀ (a .n) (h .number) in
+    (k .schedule, h .stands, omega (arith, k .limit, (c .before .before .before .before .before .before .before .before .before .before .before .before .before .loop-test .taken)))
+
+add-done : tie.Need-add-done Inv-loop μ-loop
+add-done c = search needs
+
+loop-less : tie.Need-loop-less Inv-loop μ-loop
+loop-less c = omega (arith, c .before .before .before .before .before .before .before .before .before .before .before .before .before .before .loop-test .taken)
+
+loop-again : tie.Need-loop-again Inv-loop μ-loop
+loop-again c =
+    let a = c .before .before .before .before .before .before .before .before .before .before .before .before .before .before .before .before .before .before .before .before .before .before .before .before .before .args in
+    let s₀ = stateOf (c .before .before .before .before .before .before .before .before .before .before .before .before .before .before .before .before .before .before .before .same .result) (a .s .ram) (a .s .ports) (a .s .cycle .0) in
+    let l = c .before .before .before .before .before .before .before .before .before .before .before .before .before .before .before .loop in
+    let t = stateOf (l .core) (l .ram) (l .ports) (a .s .cycle .0 + l .done) in
+    let h = l .inv in
+    let x = ap (λ (x : Core). stateOf x (c .before .before .before .before .before .before .before .before .before .one-cycle .last .1 .1 .1 .0) (c .before .before .before .before .before .before .before .before .before .one-cycle .last .1 .1 .1 .1 .0) (a .s .cycle .0 + (l .done + 1))) (c .before .before .before .same2 .ensures) in
+    goes-on (now (a .rom)) (now (a .sched)) (now (a .log)) (a .n) s₀ (l .log) t (l .cursor) (l .at) (l .done) (l .begun) h (c .before .before .before .before .before .before .before .before .before .before .before .before .before .before .loop-test .taken) (c .before .before .before .before .before .before .before .before .before .one-cycle .result) (c .before .before .before .before .before .before .before .before .before .one-cycle .last .1 .1 .1 .0) (c .before .before .before .before .before .before .before .before .before .one-cycle .last .1 .1 .1 .1 .0) (c .before .before .before .before .before .before .before .before .before .one-cycle .last .1 .1 .1 .1 .1 .0) (c .before .before .before .before .before .before .before .before .before .one-cycle .ensures) (λ i. omega (arith, c .before .before .before .before .before .before .before .before .before .before .before .before .before .before .before .before .before .before .before .before .before .before .before .before .shared-slice-known .given i)) (λ i. omega (arith, c .before .before .before .before .before .before .before .before .before .before .before .before .before .before .before .before .before .before .before .before .before .before .before .shared-slice-known2 .given i)) (c .before .before .before .before .before .if1 .left) (c .moved .result) (c .moved .ensures) x
+
+add-state-of-2 : tie.Need-add-state-of-2 Inv-loop μ-loop
+add-state-of-2 c = search needs
+
+state-of-requires-2 : tie.Need-state-of-requires-2 Inv-loop μ-loop
+state-of-requires-2 c κs = search needs
+
+answer-requires-2 : tie.Need-answer-requires-2 Inv-loop μ-loop
+answer-requires-2 c κs = search needs
+
+same-length-2 : tie.Need-same-length-2 Inv-loop μ-loop
+same-length-2 c = search needs
+
+returns-2 : tie.Need-returns-2 Inv-loop μ-loop
+returns-2 c =
+    let a = c .before .before .before .before .before .before .before .before .before .before .before .before .before .args in
+    let s₀ = stateOf (c .before .before .before .before .before .before .before .same .result) (a .s .ram) (a .s .ports) (a .s .cycle .0) in
+    let l = c .before .before .before .loop in
+    let t = stateOf (l .core) (l .ram) (l .ports) (a .s .cycle .0 + l .done) in
+    let h = l .inv in
+    let e = ap (λ (x : Core). stateOf x (a .s .ram) (a .s .ports) (a .s .cycle .0)) (c .before .before .before .before .before .before .before .same .ensures) in
+    rw (c .answer2 .ensures, c .before .state-of2 .ensures) (finishes (now (a .rom)) (now (a .sched)) (now (a .log)) (a .n) s₀ (l .log) t (l .cursor) (l .at) (l .done) (l .begun) h (c .before .before .loop-test .left) ∙ ap (λ (x : State). plain upd546 (now (a .rom)) (now (a .sched)) x (now (a .log)) (a .n)) e)
+
+pub drive-spec : {M : Type 1} → statement M
+drive-spec =
+    tie.close
+    (tie.spec
+    Inv-loop
+    μ-loop
+    instruction-table-requires
+    same-requires
+    start-requires
+    loop-holds
+    sub-one-cycle
+    part-one-cycle-start
+    part-one-cycle-end
+    add-one-cycle
+    one-cycle-requires
+    stop-of-requires
+    add-state-of
+    state-of-requires
+    answer-requires
+    same-length
+    returns
+    same-requires-2
+    add-at
+    add-begun
+    add-moved
+    moved-requires
+    add-done
+    loop-less
+    loop-again
+    add-state-of-2
+    state-of-requires-2
+    answer-requires-2
+    same-length-2
+    returns-2)

@@ -1,0 +1,44 @@
+-- A refused run, and one that is driven. Assumes nothing.
+use mathlib.Core.Path.{_∙_, sym, ap}
+use denote.Ref.{now}
+use Rattle.runs.specs.Numbers.{outcomeNumber}
+use Rattle.runner.proofs.Refusing.{tells-refused}
+use borrow.Author.Needs.{needs}
+use Rattle.runner.proofs.run_plain.Statement.{statement}
+use Rattle.runner.proofs.run_plain.Tie as tie
+
+refusal-requires : tie.Need-refusal-requires
+refusal-requires c κs = search needs
+
+enum-known-by : tie.Need-enum-known-by
+enum-known-by c = search needs
+
+returns : tie.Need-returns
+returns c =
+    let a = c .before .before .before .before .before .before .before .args in
+    let w = c .before .by .given in
+    tells-refused (now (a .rom)) (now (a .sched)) (now (a .log)) (a .s) (a .n .0) (w .0 .0) (sym (ap outcomeNumber (w .1)) ∙ c .before .before .before .refusal .ensures)
+
+enum-told : tie.Need-enum-told
+enum-told c = search needs
+
+drive-requires : tie.Need-drive-requires
+drive-requires c κs = sym (c .before .before .before .refusal .ensures) ∙ ap outcomeNumber (c .before .enum-told .given .1)
+
+same-length : tie.Need-same-length
+same-length c = search needs
+
+returns-2 : tie.Need-returns-2
+returns-2 c = search needs
+
+pub run-plain-spec : {M : Type 1} → statement M
+run-plain-spec =
+    tie.close
+    (tie.spec
+    refusal-requires
+    enum-known-by
+    returns
+    enum-told
+    drive-requires
+    same-length
+    returns-2)

@@ -1,0 +1,160 @@
+// The plain runner: what refuses a run, and the loop over its cycles. The state goes in by value and comes back by value;
+// inside a run the core is a local and RAM, latches, log and tables are lent.
+// It may not know what a cycle does, only that it lands where its definition says.
+use runs::ClockCycles;
+use runs::MachineCycles;
+use runs::Outcome;
+use runs::Refusal;
+use runs::RunEnd;
+use runs::Stop;
+use upd546::Core;
+use upd546::Lines;
+use upd546::RunAnswer;
+use upd546::State;
+ghost use mathlib.Core.Path.{_≡_};
+ghost use Prim.Native.Nat.{_*_, _≤_};
+ghost use Rattle.runs.specs.Numbers.{stopNumber, outcomeNumber};
+ghost use Rattle.runs.specs.TwoRunners.{cycleLimit, runNumber, plain};
+ghost use Rattle.runs.specs.Laws.{Bytes};
+ghost use Rattle.upd546.specs.TwoRunners.{upd546, answerOf};
+ghost use Rattle.cycle.specs.Landing.{stateOf};
+ghost use Rattle.laws.proofs.Stops.{StopNumber};
+
+// What refuses a run: 21, then the schedule, then the state, then 2.
+fn refusal(rom: &[u8], sched: &[u8], s: State, n: MachineCycles) -> Outcome
+    ensures { λ r. ⌜ outcomeNumber r ≡ runNumber upd546 (now (rom .entry)) (now (sched .entry)) s (n .0) ⌝ }
+{
+    if rom.len() != 2000 {
+        return Outcome::Refused(Refusal::RomLength);
+    }
+    let by_schedule = schedule::check(sched);
+    if runs::outcome_number(by_schedule) != 0 {
+        return by_schedule;
+    }
+    let by_fields = fields::check(s);
+    if runs::outcome_number(by_fields) != 0 {
+        return by_fields;
+    }
+    let cycle = s.cycle;
+    if fields::within_limit(cycle, n) {
+        return Outcome::Done;
+    }
+    Outcome::Refused(Refusal::CycleLimit)
+}
+
+// The stop of a number.
+fn stop_of(k: u8) -> Stop
+    requires { ⌜ ((k ≡ 3 → ⊥) → StopNumber k) ⌝ }
+    ensures { λ r. ⌜ stopNumber r ≡ k ⌝ }
+{
+    match k {
+        3 => Stop::LogFull,
+        22 => Stop::RomEnd,
+        _ => Stop::NoInstruction,
+    }
+}
+
+fn state_of(core: Core, ram: [u8; 96], ports: [u8; 7], n: u64) -> State
+    ensures { λ r. ⌜ r ≡ stateOf core ram ports n ⌝ }
+{
+    State {
+        core,
+        ports,
+        ram,
+        cycle: MachineCycles(n),
+    }
+}
+
+// What a run answers that did so many cycles.
+fn answer(end: RunEnd, state: State, done: u64, begun: u64, written: usize) -> RunAnswer
+    requires { ⌜ done ≤ cycleLimit ⌝ }
+    ensures { λ r. ⌜ r ≡ record { end = end; state = state; cycles = record { 0 = done }; clocks = record { 0 = 4 * done }; begun = begun; written = written; steps = done } ⌝ }
+{
+    RunAnswer {
+        end,
+        state,
+        cycles: MachineCycles(done),
+        clocks: runs::clocks(MachineCycles(done)),
+        begun,
+        written,
+        steps: done,
+    }
+}
+
+// The cycles of a run that isn't refused.
+fn drive(rom: &[u8], sched: &[u8], s: State, log: &mut [u8], n: u64) -> RunAnswer
+    requires { ⌜ runNumber upd546 (now rom) (now sched) s n ≡ 0 ⌝ }
+    ensures { λ r. ⌜ answerOf r (now (log .exit)) ≡ plain upd546 (now (rom .entry)) (now (sched .entry)) s (now (log .entry)) n ⌝ }
+{
+    let table = tables::instruction_table();
+    let start = s.cycle.0;
+    let given = s.core;
+    let mut core = instructions::same(given);
+    let mut ram = s.ram;
+    let mut ports = s.ports;
+    let mut cursor = schedule::start(sched, start);
+    let mut at: usize = 0;
+    let mut done: u64 = 0;
+    let mut begun: u64 = 0;
+    while done < n {
+        let lines = Lines {
+            a: cursor.lines.a,
+            b: cursor.lines.b,
+            c: cursor.lines.c,
+            d: cursor.lines.d,
+            int: cursor.lines.int,
+        };
+        let o = cycle::one_cycle(
+            rom,
+            &table,
+            core,
+            &mut ram,
+            &mut ports,
+            &mut log[at..],
+            lines,
+            start + done,
+        );
+        if o.stop != 0 {
+            let stop = stop_of(o.stop);
+            return answer(
+                RunEnd::Stopped(stop),
+                state_of(core, ram, ports, start + done),
+                done,
+                begun,
+                at,
+            );
+        }
+        let next = o.core;
+        core = instructions::same(next);
+        at = at + o.bytes;
+        begun = begun + o.begun;
+        cursor = schedule::moved(sched, cursor, start + done);
+        done = done + 1;
+    }
+    answer(
+        RunEnd::Finished,
+        state_of(core, ram, ports, start + done),
+        done,
+        begun,
+        at,
+    )
+}
+
+// THE PLAIN RUNNER.
+pub fn run_plain(rom: &[u8], sched: &[u8], s: State, log: &mut [u8], n: MachineCycles) -> RunAnswer
+    ensures { λ r. ⌜ answerOf r (now (log .exit)) ≡ plain upd546 (now (rom .entry)) (now (sched .entry)) s (now (log .entry)) (n .0) ⌝ }
+{
+    let by = refusal(rom, sched, s, n);
+    if let Outcome::Refused(why) = by {
+        return RunAnswer {
+            end: RunEnd::Refused(why),
+            state: s,
+            cycles: MachineCycles(0),
+            clocks: ClockCycles(0),
+            begun: 0,
+            written: 0,
+            steps: 0,
+        };
+    }
+    drive(rom, sched, s, log, n.0)
+}
