@@ -121,8 +121,8 @@ fn after(pc: u16) -> u16 {
     pc & 0x700 | (pc + 1) & 0x0FF
 }
 
-/// A straight program of nine parts. Each sets DP, M, Acc and C, executes the code, and puts Acc, DPL
-/// and M into the log, whose cycles show the skips.
+/// A straight program of nine parts. Each sets DP, M, Acc and C, executes the code, and puts Acc,
+/// DPL and M into the log, whose cycles show the skips.
 fn series(code: u8, draw: &mut Draw) -> Case {
     let mut program = Vec::new();
     for part in 0..9 {

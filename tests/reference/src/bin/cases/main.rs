@@ -53,11 +53,12 @@
 //!
 //! # The text
 //!
-//! A line of titles, a line for each case, and a line with how many there were. A case's line has its
-//! place (from 0), its number (0, or that of the stop or refusal), cycles, clock cycles, instructions
-//! begun, log bytes written, steps, and a digest of the state and of the whole log, also of the bytes
-//! past its records. A digest is h = 0, and for each byte x, h = (257 h + x + 1) modulo 1,000,000,007.
-//! A state's bytes are PC, stack, the 13 registers of the head, ports, RAM and cycle number.
+//! A line of titles, a line for each case, and a line with how many there were. A case's line has
+//! its place (from 0), its number (0, or that of the stop or refusal), cycles, clock cycles,
+//! instructions begun, log bytes written, steps, and a digest of the state and of the whole log,
+//! also of the bytes past its records. A digest is h = 0, and for each byte x,
+//! h = (257 h + x + 1) modulo 1,000,000,007. A state's bytes are PC, stack, the 13 registers of the
+//! head, ports, RAM and cycle number.
 
 mod bench;
 mod case;
