@@ -1,0 +1,338 @@
+//! One case: how it is told, laid out in the file, and run.
+
+use reference::{run_counted, Answer, Coverage, Runner, State};
+
+/// The filters of a ROM.
+pub const NO_STOPS: u8 = 1;
+pub const FEW_JCP: u8 = 2;
+pub const INSIDE: u8 = 4;
+pub const FEW_JUMPS: u8 = 8;
+pub const NO_PORTS: u8 = 16;
+
+/// ROM bytes and log bytes where a case says nothing else.
+const ROM: u16 = 2_000;
+const LOG: u32 = 64;
+
+/// A run of a list of patches has at most so many bytes.
+const RUN: usize = 250;
+
+/// The longest case that a reader takes.
+const LONGEST: usize = 65_536;
+
+/// A run of bytes at an address.
+type Patch = (u16, Vec<u8>);
+
+#[derive(Clone)]
+pub struct Case {
+    pub name: String,
+    /// The number that it has to end with, where that is told.
+    pub ends: Option<u8>,
+    filter: u8,
+    rom_length: u16,
+    rom_seed: u32,
+    rom_patches: Vec<Patch>,
+    schedule_length: u16,
+    gap: u16,
+    schedule_seed: u32,
+    first: u64,
+    schedule_patches: Vec<Patch>,
+    ram_seed: u32,
+    ram_patches: Vec<Patch>,
+    /// All of the state but its RAM.
+    state: State,
+    log_length: u32,
+    n: u64,
+}
+
+impl Case {
+    /// A fresh state, a ROM of NOPs, no schedule and no cycles.
+    pub fn new(name: impl Into<String>) -> Case {
+        Case {
+            name: name.into(),
+            ends: None,
+            filter: 0,
+            rom_length: ROM,
+            rom_seed: 0,
+            rom_patches: Vec::new(),
+            schedule_length: 0,
+            gap: 0,
+            schedule_seed: 0,
+            first: 0,
+            schedule_patches: Vec::new(),
+            ram_seed: 0,
+            ram_patches: Vec::new(),
+            state: State::fresh(),
+            log_length: LOG,
+            n: 0,
+        }
+    }
+
+    pub fn ends(mut self, number: u8) -> Case {
+        self.ends = Some(number);
+        self
+    }
+
+    pub fn made_rom(mut self, seed: u32, filter: u8) -> Case {
+        self.rom_seed = seed;
+        self.filter = filter;
+        self
+    }
+
+    pub fn rom(mut self, address: u16, bytes: &[u8]) -> Case {
+        self.rom_patches.extend(runs(address, bytes));
+        self
+    }
+
+    pub fn rom_length(mut self, length: u16) -> Case {
+        self.rom_length = length;
+        self
+    }
+
+    /// A schedule of these records: cycle, A and B, C and D, INT.
+    pub fn schedule(mut self, records: &[(u64, u8, u8, u8)]) -> Case {
+        let mut bytes = Vec::new();
+        for &(cycle, ab, cd, int) in records {
+            bytes.extend_from_slice(&cycle.to_be_bytes()[2..]);
+            bytes.extend([ab, cd, int, 0]);
+        }
+        self.schedule_length = bytes.len() as u16;
+        self.schedule_patches = runs(0, &bytes);
+        self
+    }
+
+    /// A schedule of the generator: length in bytes, seed, gap and first cycle.
+    pub fn made_schedule(mut self, length: u16, seed: u32, gap: u16, first: u64) -> Case {
+        self.schedule_length = length;
+        self.schedule_seed = seed;
+        self.gap = gap;
+        self.first = first;
+        self
+    }
+
+    pub fn schedule_bytes(mut self, address: u16, bytes: &[u8]) -> Case {
+        self.schedule_patches.extend(runs(address, bytes));
+        self
+    }
+
+    pub fn state(mut self, state: State) -> Case {
+        self.state = state;
+        self
+    }
+
+    pub fn with(mut self, change: impl FnOnce(&mut State)) -> Case {
+        change(&mut self.state);
+        self
+    }
+
+    pub fn made_ram(mut self, seed: u32) -> Case {
+        self.ram_seed = seed;
+        self
+    }
+
+    pub fn ram(mut self, place: u16, words: &[u8]) -> Case {
+        self.ram_patches.extend(runs(place, words));
+        self
+    }
+
+    pub fn log(mut self, length: u32) -> Case {
+        self.log_length = length;
+        self
+    }
+
+    pub fn n(mut self, n: u64) -> Case {
+        self.n = n;
+        self
+    }
+
+    /// Runs the case, and answers its log too.
+    pub fn run(&self, coverage: &mut Coverage) -> (Answer, Vec<u8>) {
+        let rom = self.made_rom_bytes();
+        let schedule = self.made_schedule_bytes();
+        let mut state = self.state.clone();
+        state.ram = self.made_ram_words();
+        let mut log: Vec<u8> = (0..self.log_length)
+            .map(|place| (7 * place + 13) as u8)
+            .collect();
+        let answer = run_counted(
+            Runner::Plain,
+            &rom,
+            &schedule,
+            &state,
+            &mut log,
+            self.n,
+            coverage,
+        );
+        (answer, log)
+    }
+
+    /// The case as the file has it.
+    pub fn bytes(&self) -> Vec<u8> {
+        let lists = [&self.rom_patches, &self.schedule_patches, &self.ram_patches]
+            .map(|patches| list(patches));
+        let mut bytes = vec![0, self.filter];
+        bytes.extend(self.rom_length.to_be_bytes());
+        bytes.extend(self.rom_seed.to_be_bytes());
+        bytes.extend(self.schedule_length.to_be_bytes());
+        bytes.extend(self.gap.to_be_bytes());
+        bytes.extend(self.schedule_seed.to_be_bytes());
+        bytes.extend(self.first.to_be_bytes());
+        bytes.extend(self.ram_seed.to_be_bytes());
+        bytes.extend(self.log_length.to_be_bytes());
+        bytes.extend(self.n.to_be_bytes());
+        bytes.extend(self.state.cycle.to_be_bytes());
+        bytes.extend(registers(&self.state));
+        bytes.extend(self.state.ports);
+        for list in &lists {
+            let length = u16::try_from(list.len()).expect("a list's length has two bytes");
+            bytes.extend(length.to_be_bytes());
+        }
+        bytes.extend(lists.concat());
+        assert!(bytes.len() <= LONGEST, "{}", self.name);
+        bytes
+    }
+
+    fn made_rom_bytes(&self) -> Vec<u8> {
+        let mut rom = vec![0; usize::from(self.rom_length)];
+        let mut s = self.rom_seed;
+        if s != 0 {
+            for (at, byte) in rom.iter_mut().enumerate() {
+                s = next(s);
+                *byte = filtered(s, self.filter, at);
+            }
+        }
+        lay(&mut rom, &self.rom_patches);
+        rom
+    }
+
+    fn made_schedule_bytes(&self) -> Vec<u8> {
+        let mut schedule = vec![0; usize::from(self.schedule_length)];
+        let mut s = self.schedule_seed;
+        let mut cycle = self.first;
+        if s != 0 {
+            for record in schedule.chunks_mut(10) {
+                s = next(s);
+                let t = next(s);
+                let mut whole = cycle.to_be_bytes()[2..].to_vec();
+                whole.extend([top(s), below_top(s), top(t) >> 7, 0]);
+                record.copy_from_slice(&whole[..record.len()]);
+                cycle = cycle % (1 << 48) + 1;
+                if self.gap > 0 {
+                    cycle += u64::from(t >> 16) % u64::from(self.gap);
+                }
+                s = t;
+            }
+        }
+        lay(&mut schedule, &self.schedule_patches);
+        schedule
+    }
+
+    fn made_ram_words(&self) -> [u8; 96] {
+        let mut ram = [0; 96];
+        let mut s = self.ram_seed;
+        if s != 0 {
+            for word in &mut ram {
+                s = next(s);
+                *word = top(s) >> 4;
+            }
+        }
+        lay(&mut ram, &self.ram_patches);
+        ram
+    }
+}
+
+/// The generator.
+fn next(s: u32) -> u32 {
+    s.wrapping_mul(1_664_525).wrapping_add(1_013_904_223)
+}
+
+fn top(s: u32) -> u8 {
+    (s >> 24) as u8
+}
+
+fn below_top(s: u32) -> u8 {
+    (s >> 16) as u8
+}
+
+fn filtered(s: u32, filter: u8, at: usize) -> u8 {
+    let mut x = top(s);
+    let y = below_top(s);
+    if filter & FEW_JCP != 0 && x >= 0xC0 && !y.is_multiple_of(8) {
+        x -= 64 * (1 + y % 3);
+    }
+    if filter & FEW_JUMPS != 0
+        && matches!(x, 0x41 | 0x48 | 0x49 | 0xA0..=0xBF)
+        && !y.is_multiple_of(8)
+    {
+        x = y % 64;
+    }
+    if filter & NO_PORTS != 0 && matches!(x, 0x0E | 0x1E | 0x44 | 0x60..=0x67 | 0x70..=0x77) {
+        x = 0x80 + y % 32;
+    }
+    if filter & NO_STOPS != 0 && matches!(x, 0x1C | 0x45) {
+        x = 0;
+    }
+    if filter & INSIDE != 0 {
+        match at {
+            0x7CE => x = 0xA0,
+            0x7C0.. => x = 0,
+            _ if matches!(x, 0xA7 | 0xAF) => x = 0,
+            _ => {}
+        }
+    }
+    x
+}
+
+fn runs(address: u16, bytes: &[u8]) -> Vec<Patch> {
+    bytes
+        .chunks(RUN)
+        .enumerate()
+        .map(|(place, run)| (address + (place * RUN) as u16, run.to_vec()))
+        .collect()
+}
+
+fn list(patches: &[Patch]) -> Vec<u8> {
+    let mut bytes = Vec::new();
+    for (address, run) in patches {
+        bytes.extend(address.to_be_bytes());
+        bytes.push(run.len() as u8);
+        bytes.extend(run);
+    }
+    bytes
+}
+
+fn lay(target: &mut [u8], patches: &[Patch]) {
+    for (address, run) in patches {
+        for (place, &byte) in run.iter().enumerate() {
+            if let Some(under) = target.get_mut(usize::from(*address) + place) {
+                *under = byte;
+            }
+        }
+    }
+}
+
+/// PC, stack and the 13 registers.
+fn registers(state: &State) -> Vec<u8> {
+    let mut bytes = state.pc.to_be_bytes().to_vec();
+    for address in state.stack {
+        bytes.extend(address.to_be_bytes());
+    }
+    bytes.extend([state.acc, state.carry, state.saved, state.dph, state.dpl]);
+    bytes.extend([state.int, state.inte, state.tm, state.level]);
+    bytes.extend([state.mark, state.owed, state.register, state.counter]);
+    bytes
+}
+
+/// The bytes of a state that are digested.
+pub fn state_bytes(state: &State) -> Vec<u8> {
+    let mut bytes = registers(state);
+    bytes.extend(state.ports);
+    bytes.extend(state.ram);
+    bytes.extend(state.cycle.to_be_bytes());
+    bytes
+}
+
+pub fn digest(bytes: &[u8]) -> u64 {
+    bytes
+        .iter()
+        .fold(0, |h, &x| (257 * h + u64::from(x) + 1) % 1_000_000_007)
+}

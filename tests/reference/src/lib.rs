@@ -1,0 +1,17 @@
+//! A reference interpreter of the uPD546 as document 01 defines it: one machine cycle after the
+//! other, on a state that is changed in place.
+
+mod image;
+mod instructions;
+mod log;
+mod machine;
+pub mod numbers;
+mod runners;
+mod schedule;
+mod timer;
+mod trace;
+
+pub use image::{restore, save};
+pub use machine::State;
+pub use runners::{run, run_counted, Answer, Coverage, Runner};
+pub use trace::trace;

@@ -1,0 +1,232 @@
+//! "The machine": the state, its widths, its stack and its RAM.
+
+/// "Mark: other, LDI, EI or STM, the kind of the last instruction begun", in the image's order.
+pub(crate) const OTHER: u8 = 0;
+pub(crate) const LDI: u8 = 1;
+pub(crate) const EI: u8 = 2;
+pub(crate) const STM: u8 = 3;
+
+/// "Cycle number, at most 2^48 - 1".
+pub(crate) const LAST_CYCLE: u64 = (1 << 48) - 1;
+
+/// Where the interrupt leads: "PC becomes 03C".
+const INTERRUPT: u16 = 0x03C;
+
+/// The RAM array's columns of row 7: "word 79 is the flag word; Z, W, S, R, Y, X are 7A to 7F".
+pub(crate) const FLAG: usize = 0x59;
+pub(crate) const Z: usize = 0x5A;
+pub(crate) const W: usize = 0x5B;
+pub(crate) const S: usize = 0x5C;
+pub(crate) const R: usize = 0x5D;
+pub(crate) const Y: usize = 0x5E;
+pub(crate) const X: usize = 0x5F;
+
+/// Where each row begins in the RAM array; rows 5 and 6 don't exist.
+const ROWS: [Option<u8>; 8] = [
+    Some(0x00),
+    Some(0x10),
+    Some(0x20),
+    Some(0x30),
+    Some(0x40),
+    None,
+    None,
+    Some(0x50),
+];
+
+/// The state of one machine. Flags are 0 or 1.
+#[derive(Clone, PartialEq, Eq, Debug)]
+pub struct State {
+    /// Field (top 3 bits), page (2), address (6).
+    pub pc: u16,
+    /// Three PCs, newest first.
+    pub stack: [u16; 3],
+    pub acc: u8,
+    /// C.
+    pub carry: u8,
+    /// C', the saved carry.
+    pub saved: u8,
+    pub dph: u8,
+    pub dpl: u8,
+    /// The INT flip-flop.
+    pub int: u8,
+    /// The INTE flip-flop.
+    pub inte: u8,
+    /// The timer flip-flop.
+    pub tm: u8,
+    /// The INT level last seen, 1 for high.
+    pub level: u8,
+    /// Other 0, LDI 1, EI 2, STM 3.
+    pub mark: u8,
+    /// Cycles that the last instruction begun still takes.
+    pub owed: u8,
+    /// The timer's polynomial register, 0 when stopped.
+    pub register: u8,
+    /// The timer's binary counter, 0 when stopped.
+    pub counter: u8,
+    /// Output latches C to I.
+    pub ports: [u8; 7],
+    /// Rows 0 to 4 and 7, 16 words each.
+    pub ram: [u8; 96],
+    /// The number of the next machine cycle.
+    pub cycle: u64,
+}
+
+impl State {
+    /// "Fresh state: all zero, level high, mark other, timer stopped".
+    pub fn fresh() -> State {
+        State {
+            pc: 0,
+            stack: [0; 3],
+            acc: 0,
+            carry: 0,
+            saved: 0,
+            dph: 0,
+            dpl: 0,
+            int: 0,
+            inte: 0,
+            tm: 0,
+            level: 1,
+            mark: OTHER,
+            owed: 0,
+            register: 0,
+            counter: 0,
+            ports: [0; 7],
+            ram: [0; 96],
+            cycle: 0,
+        }
+    }
+
+    /// Whether no field is "above its width or rule". The one rule across fields is that the
+    /// counter is 0 when the timer is stopped.
+    pub(crate) fn is_valid(&self) -> bool {
+        let flags = [
+            self.carry, self.saved, self.int, self.inte, self.tm, self.level,
+        ];
+        self.pc <= 0x7FF
+            && self.stack.iter().all(|&address| address <= 0x7FF)
+            && self.acc <= 15
+            && flags.iter().all(|&flag| flag <= 1)
+            && self.dph <= 7
+            && self.dpl <= 15
+            && self.mark <= STM
+            && self.owed <= 3
+            && self.register <= 63
+            && self.counter <= 63
+            && (self.register != 0 || self.counter == 0)
+            && self.ports[..6].iter().all(|&latch| latch <= 15)
+            && self.ports[6] <= 7
+            && self.ram.iter().all(|&word| word <= 15)
+            && self.cycle <= LAST_CYCLE
+    }
+
+    /// "A push shifts down and loses the oldest".
+    #[inline]
+    pub(crate) fn push(&mut self, address: u16) {
+        self.stack = [address, self.stack[0], self.stack[1]];
+    }
+
+    /// "A pop shifts up and the lowest keeps its value".
+    #[inline]
+    pub(crate) fn pop(&mut self) -> u16 {
+        let newest = self.stack[0];
+        self.stack = [self.stack[1], self.stack[2], self.stack[2]];
+        newest
+    }
+
+    /// M, "the 4-bit RAM word at DP"; "rows 5 and 6 read 0".
+    #[inline]
+    pub(crate) fn m(&self) -> u8 {
+        match ROWS[usize::from(self.dph & 7)] {
+            Some(row) => self.ram[usize::from(row + (self.dpl & 15))],
+            None => 0,
+        }
+    }
+
+    /// Stores into M; rows 5 and 6 "lose writes".
+    #[inline]
+    pub(crate) fn set_m(&mut self, value: u8) {
+        if let Some(row) = ROWS[usize::from(self.dph & 7)] {
+            self.ram[usize::from(row + (self.dpl & 15))] = value;
+        }
+    }
+
+    /// Whether step a accepts the interrupt: "if owed is 0, INTE and INT are 1 and the mark isn't
+    /// EI".
+    #[inline]
+    pub(crate) fn accepts(&self) -> bool {
+        self.owed == 0 && self.inte == 1 && self.int == 1 && self.mark != EI
+    }
+
+    /// Step a: "push PC, PC becomes 03C, INT and INTE become 0, mark other".
+    #[inline]
+    pub(crate) fn accept(&mut self) {
+        self.push(self.pc);
+        self.pc = INTERRUPT;
+        self.int = 0;
+        self.inte = 0;
+        self.mark = OTHER;
+    }
+
+    /// Step b: "a fall of INT sets the INT flip-flop".
+    #[inline]
+    pub(crate) fn see(&mut self, line: u8) {
+        if self.level > line {
+            self.int = 1;
+        }
+        self.level = line;
+    }
+}
+
+/// The address after this one: "only the low 8 bits count up, so 0FF is followed by 000".
+#[inline]
+pub(crate) fn following(address: u16) -> u16 {
+    (address & 0x700) | ((address + 1) & 0x0FF)
+}
+
+#[cfg(test)]
+mod tests {
+    use super::*;
+
+    #[test]
+    fn only_the_low_8_bits_of_pc_count_up() {
+        assert_eq!(following(0x000), 0x001);
+        assert_eq!(following(0x03F), 0x040);
+        assert_eq!(following(0x0FF), 0x000);
+        assert_eq!(following(0x1FF), 0x100);
+        assert_eq!(following(0x7CF), 0x7D0);
+        assert_eq!(following(0x7FF), 0x700);
+    }
+
+    #[test]
+    fn a_pop_keeps_the_lowest_and_a_push_loses_the_oldest() {
+        let mut state = State::fresh();
+        state.stack = [1, 2, 3];
+        assert_eq!(state.pop(), 1);
+        assert_eq!(state.stack, [2, 3, 3]);
+        state.push(9);
+        assert_eq!(state.stack, [9, 2, 3]);
+    }
+
+    #[test]
+    fn rows_5_and_6_read_0_and_lose_writes() {
+        let mut state = State::fresh();
+        for row in 0..8 {
+            for column in 0..16 {
+                state.dph = row;
+                state.dpl = column;
+                state.set_m((row + column) & 15);
+            }
+        }
+        for row in 0..8 {
+            for column in 0..16 {
+                state.dph = row;
+                state.dpl = column;
+                let exists = row != 5 && row != 6;
+                assert_eq!(state.m(), if exists { (row + column) & 15 } else { 0 });
+            }
+        }
+        for (word, column) in [FLAG, Z, W, S, R, Y, X].into_iter().zip(9..) {
+            assert_eq!(state.ram[word], (7 + column) & 15);
+        }
+    }
+}

@@ -1,0 +1,40 @@
+//! "Numbers, by whose hand": the refusals and the stops.
+
+/// A run that finished its n cycles, or a call that was carried out.
+pub const FINISHED: u8 = 0;
+
+// The caller.
+/// Refusal: image buffer under 81 bytes.
+pub const SHORT_BUFFER: u8 = 1;
+/// Refusal: cycle number + n above 2^48 - 1.
+pub const CYCLE_LIMIT: u8 = 2;
+/// Stop: the log lacks the 8 or 16 bytes of the next instruction.
+pub const LOG_FULL: u8 = 3;
+
+// Whoever wrote the schedule.
+/// Refusal: length no multiple of 10.
+pub const SCHEDULE_LENGTH: u8 = 11;
+/// Refusal: over 40,960 bytes.
+pub const SCHEDULE_LONG: u8 = 12;
+/// Refusal: bad INT or last byte.
+pub const RECORD_BYTES: u8 = 13;
+/// Refusal: cycle not above the last.
+pub const RECORD_CYCLE: u8 = 14;
+
+// Whoever read the ROM.
+/// Refusal: not 2,000 bytes.
+pub const ROM_LENGTH: u8 = 21;
+/// Stop: a byte above 7CF is needed.
+pub const ABOVE_ROM: u8 = 22;
+/// Stop: code 1C or 45 due.
+pub const NO_INSTRUCTION: u8 = 23;
+
+// Whoever kept the image.
+/// Refusal: length not 81.
+pub const IMAGE_LENGTH: u8 = 31;
+/// Refusal: bytes 0 to 2.
+pub const IMAGE_MARK: u8 = 32;
+/// Refusal: version.
+pub const IMAGE_VERSION: u8 = 33;
+/// Refusal: a field, also in a state given as a value.
+pub const FIELD: u8 = 34;

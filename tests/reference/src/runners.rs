@@ -1,0 +1,368 @@
+//! "Two runners": the plain one and the timer-skipping one.
+
+use crate::instructions::{execute, FORMS, JCP, RTS, TTM};
+use crate::log::Log;
+use crate::machine::{following, State, LAST_CYCLE, OTHER, STM};
+use crate::numbers::{ABOVE_ROM, CYCLE_LIMIT, FIELD, FINISHED, ROM_LENGTH};
+use crate::schedule::{self, Cursor};
+
+/// "ROM: 2,000 bytes, 000 to 7CF."
+pub(crate) const ROM_BYTES: usize = 2_000;
+const LAST_ADDRESS: u16 = 0x7CF;
+
+/// "A run also gives clock cycles, four per machine cycle".
+const CLOCKS: u64 = 4;
+
+/// Which of the two runners.
+#[derive(Clone, Copy, PartialEq, Eq, Debug)]
+pub enum Runner {
+    Plain,
+    Skipping,
+}
+
+/// What a run answers.
+#[derive(Clone, PartialEq, Eq, Debug)]
+pub struct Answer {
+    /// 0 if it finished, else the number of the stop or refusal.
+    pub number: u8,
+    pub refused: bool,
+    pub state: State,
+    /// Machine cycles of this run.
+    pub cycles: u64,
+    /// Clock cycles of this run.
+    pub clocks: u64,
+    /// Instructions begun.
+    pub begun: u64,
+    /// Log bytes written.
+    pub written: usize,
+    pub steps: u64,
+}
+
+/// How often an instruction with each code was begun without, and with, a skip taken.
+#[derive(Clone, PartialEq, Eq, Debug)]
+pub struct Coverage {
+    pub plain: [u64; 256],
+    pub skipped: [u64; 256],
+}
+
+impl Coverage {
+    pub fn new() -> Coverage {
+        Coverage {
+            plain: [0; 256],
+            skipped: [0; 256],
+        }
+    }
+}
+
+impl Default for Coverage {
+    fn default() -> Coverage {
+        Coverage::new()
+    }
+}
+
+/// Is told of each instruction begun.
+trait Observer {
+    fn begun(&mut self, code: u8, skipped: bool, times: u64);
+}
+
+/// Counts nothing and costs nothing.
+struct Nobody;
+
+impl Observer for Nobody {
+    #[inline(always)]
+    fn begun(&mut self, _code: u8, _skipped: bool, _times: u64) {}
+}
+
+impl Observer for &mut Coverage {
+    fn begun(&mut self, code: u8, skipped: bool, times: u64) {
+        let counts = if skipped {
+            &mut self.skipped
+        } else {
+            &mut self.plain
+        };
+        counts[usize::from(code)] += times;
+    }
+}
+
+/// Runs n machine cycles, or up to a stop. A refused run changes nothing and answers the state
+/// given.
+pub fn run(
+    runner: Runner,
+    rom: &[u8],
+    schedule: &[u8],
+    state: &State,
+    log: &mut [u8],
+    n: u64,
+) -> Answer {
+    run_observed(runner, rom, schedule, state, log, n, Nobody)
+}
+
+/// The same, counting the instructions begun by code and skip.
+pub fn run_counted(
+    runner: Runner,
+    rom: &[u8],
+    schedule: &[u8],
+    state: &State,
+    log: &mut [u8],
+    n: u64,
+    cov: &mut Coverage,
+) -> Answer {
+    run_observed(runner, rom, schedule, state, log, n, cov)
+}
+
+fn run_observed<O: Observer>(
+    runner: Runner,
+    rom: &[u8],
+    schedule: &[u8],
+    state: &State,
+    log: &mut [u8],
+    n: u64,
+    observer: O,
+) -> Answer {
+    match admit(rom, schedule, state, n) {
+        Ok(rom) => Run {
+            rom,
+            schedule: Cursor::new(schedule),
+            state: state.clone(),
+            log: Log::new(log),
+            begun: 0,
+            observer,
+        }
+        .go_by(runner, n),
+        Err(number) => Answer {
+            number,
+            refused: true,
+            state: state.clone(),
+            cycles: 0,
+            clocks: 0,
+            begun: 0,
+            written: 0,
+            steps: 0,
+        },
+    }
+}
+
+/// "A run checks 21, 12, 11, 13/14, 34, 2".
+fn admit<'a>(
+    rom: &'a [u8],
+    schedule: &[u8],
+    state: &State,
+    n: u64,
+) -> Result<&'a [u8; ROM_BYTES], u8> {
+    let rom = rom.try_into().map_err(|_| ROM_LENGTH)?;
+    match schedule::refusal(schedule) {
+        FINISHED => {}
+        number => return Err(number),
+    }
+    if !state.is_valid() {
+        return Err(FIELD);
+    }
+    if n > LAST_CYCLE - state.cycle {
+        return Err(CYCLE_LIMIT);
+    }
+    Ok(rom)
+}
+
+/// A run that isn't refused, on its way.
+struct Run<'a, O> {
+    rom: &'a [u8; ROM_BYTES],
+    schedule: Cursor<'a>,
+    state: State,
+    log: Log<'a>,
+    begun: u64,
+    observer: O,
+}
+
+impl<O: Observer> Run<'_, O> {
+    fn go_by(self, runner: Runner, n: u64) -> Answer {
+        match runner {
+            Runner::Plain => self.go::<false>(n),
+            Runner::Skipping => self.go::<true>(n),
+        }
+    }
+
+    fn go<const SKIPPING: bool>(mut self, n: u64) -> Answer {
+        let mut cycles = 0;
+        let mut steps = 0;
+        let mut number = FINISHED;
+        while cycles < n {
+            let jump = if SKIPPING {
+                self.jump_length(n - cycles)
+            } else {
+                0
+            };
+            if jump >= 2 {
+                self.jump(jump);
+                cycles += jump;
+            } else {
+                if let Err(stop) = self.cycle() {
+                    number = stop;
+                    break;
+                }
+                cycles += 1;
+            }
+            steps += 1;
+        }
+        Answer {
+            number,
+            refused: false,
+            state: self.state,
+            cycles,
+            clocks: CLOCKS * cycles,
+            begun: self.begun,
+            written: self.log.written(),
+            steps,
+        }
+    }
+
+    /// "One machine cycle n". With a stop "the cycle isn't begun, and the answer stands at its
+    /// boundary".
+    #[inline(always)]
+    fn cycle(&mut self) -> Result<(), u8> {
+        self.schedule.go_to(self.state.cycle);
+        let line = self.schedule.lines().int;
+        let state = &mut self.state;
+
+        if state.owed > 0 {
+            // b and c.
+            state.see(line);
+            state.owed -= 1;
+        } else if state.accepts() {
+            // a, then b: a fall counts also in an acceptance cycle.
+            state.accept();
+            state.see(line);
+        } else {
+            // b and c; a stop takes b back.
+            let (level, int) = (state.level, state.int);
+            state.see(line);
+            if let Err(stop) = self.instruction() {
+                self.state.level = level;
+                self.state.int = int;
+                return Err(stop);
+            }
+        }
+
+        // d.
+        let state = &mut self.state;
+        if state.register != 0 && state.mark != STM {
+            state.step_timer();
+        }
+        state.cycle += 1;
+        Ok(())
+    }
+
+    /// "One instruction has all its effects and owed becomes its cycles less 1." A stop leaves
+    /// everything as it was: "22, 23 and 3, in that order but 23 before a second byte".
+    #[inline(always)]
+    fn instruction(&mut self) -> Result<(), u8> {
+        let at = self.state.pc;
+        let code = self.fetch(at)?;
+        let form = FORMS[usize::from(code)];
+        let mut after = following(at);
+        let mut second = 0;
+        if form.bytes == 2 {
+            second = self.fetch(after)?;
+            after = following(after);
+        }
+
+        // Where a skip would begin; above the ROM the instruction must not skip.
+        let landing = if code == RTS {
+            self.state.stack[0]
+        } else {
+            after
+        };
+        if landing > LAST_ADDRESS && self.would_skip(code, second, after) {
+            return Err(ABOVE_ROM);
+        }
+
+        let skip = execute(
+            &mut self.state,
+            code,
+            second,
+            after,
+            self.schedule.lines(),
+            &mut self.log,
+        )?;
+        self.state.owed = form.cycles - 1;
+        if skip {
+            self.skip();
+        }
+        self.begun += 1;
+        self.observer.begun(code, skip, 1);
+        Ok(())
+    }
+
+    /// "A skip passes over one instruction and costs its bytes in further cycles; only its first
+    /// byte is read." That byte lies in the ROM.
+    fn skip(&mut self) {
+        let code = self.rom[usize::from(self.state.pc)];
+        let bytes = FORMS[usize::from(code)].bytes;
+        for _ in 0..bytes {
+            self.state.pc = following(self.state.pc);
+        }
+        self.state.owed += bytes;
+    }
+
+    /// Whether the instruction at PC would skip in this cycle: tried on a copy. One that writes to
+    /// the log never skips, so the copy needs no log.
+    #[cold]
+    fn would_skip(&self, code: u8, second: u8, after: u16) -> bool {
+        let mut copy = self.state.clone();
+        let mut no_log = Log::new(&mut []);
+        let lines = self.schedule.lines();
+        execute(&mut copy, code, second, after, lines, &mut no_log) == Ok(true)
+    }
+
+    /// Stop 22: "a byte above 7CF is needed".
+    fn fetch(&self, address: u16) -> Result<u8, u8> {
+        match self.rom.get(usize::from(address)) {
+            Some(&byte) => Ok(byte),
+            None => Err(ABOVE_ROM),
+        }
+    }
+
+    /// j, how far the timer-skipping runner may jump; under 2 it steps one cycle.
+    fn jump_length(&mut self, left: u64) -> u64 {
+        let state = &self.state;
+        if state.owed != 0
+            || state.tm == 1
+            || state.register == 0
+            || (state.int == 1 && state.inte == 1)
+            || self.waiting_loop().is_none()
+        {
+            return 0;
+        }
+        self.schedule.go_to(state.cycle);
+        if self.schedule.lines().int != state.level {
+            return 0;
+        }
+        // "The largest even number at most r and the cycles left, with no schedule record in the
+        // j - 1 cycles after the present one".
+        let no_record = self.schedule.next() - state.cycle;
+        state.ticks_left().min(left).min(no_record) & !1
+    }
+
+    /// The JCP of the loop: "the byte at PC is TTM and the next address holds a JCP back to it".
+    fn waiting_loop(&self) -> Option<u8> {
+        let pc = self.state.pc;
+        let next = following(pc);
+        if self.fetch(pc) != Ok(TTM) {
+            return None;
+        }
+        let back = self.fetch(next).ok()?;
+        let target = next & 0x7C0 | u16::from(back & 63);
+        (back >= JCP && target == pc).then_some(back)
+    }
+
+    /// j cycles in one step: TTM and JCP in turn, a timer step in each.
+    fn jump(&mut self, j: u64) {
+        if let Some(back) = self.waiting_loop() {
+            self.observer.begun(TTM, false, j / 2);
+            self.observer.begun(back, false, j / 2);
+        }
+        self.state.step_timer_by(j);
+        self.state.mark = OTHER;
+        self.state.cycle += j;
+        self.begun += j;
+    }
+}

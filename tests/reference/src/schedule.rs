@@ -1,0 +1,124 @@
+//! "The line schedule": what the lines A to D and INT show at each cycle.
+
+use crate::numbers::{FINISHED, RECORD_BYTES, RECORD_CYCLE, SCHEDULE_LENGTH, SCHEDULE_LONG};
+
+/// "Records of 10 bytes"; "at most 4,096 records".
+const RECORD: usize = 10;
+const LONGEST: usize = 4_096 * RECORD;
+
+/// The lines of one cycle.
+#[derive(Clone, Copy)]
+pub(crate) struct Lines {
+    /// Ports A to D.
+    pub ports: [u8; 4],
+    /// The INT level, 1 for high.
+    pub int: u8,
+}
+
+impl Lines {
+    /// The line port that DPL names; "IP and TPB read lines A to D, else 0".
+    #[inline]
+    pub(crate) fn named(&self, dpl: u8) -> u8 {
+        self.ports.get(usize::from(dpl)).copied().unwrap_or(0)
+    }
+}
+
+/// The refusal of a schedule, 0 if there is none: "12 over 40,960 bytes; 11 length no multiple of
+/// 10; then by record 13 bad INT or last byte, 14 cycle not above the last".
+pub(crate) fn refusal(schedule: &[u8]) -> u8 {
+    if schedule.len() > LONGEST {
+        return SCHEDULE_LONG;
+    }
+    if !schedule.len().is_multiple_of(RECORD) {
+        return SCHEDULE_LENGTH;
+    }
+    let mut last = None;
+    for record in schedule.chunks_exact(RECORD) {
+        if record[8] > 1 || record[9] != 0 {
+            return RECORD_BYTES;
+        }
+        let cycle = cycle_of(record);
+        if last.is_some_and(|last| cycle <= last) {
+            return RECORD_CYCLE;
+        }
+        last = Some(cycle);
+    }
+    FINISHED
+}
+
+fn cycle_of(record: &[u8]) -> u64 {
+    record[..6]
+        .iter()
+        .fold(0, |cycle, &byte| cycle << 8 | u64::from(byte))
+}
+
+fn lines_of(record: &[u8]) -> Lines {
+    Lines {
+        ports: [
+            record[6] >> 4,
+            record[6] & 15,
+            record[7] >> 4,
+            record[7] & 15,
+        ],
+        int: record[8],
+    }
+}
+
+/// A place in a schedule without faults; it only moves forward.
+pub(crate) struct Cursor<'a> {
+    /// "The last record at or before n; with none, ports 0 and INT high".
+    lines: Lines,
+    /// The cycle of the record after it; with none, a cycle that is never reached.
+    next: u64,
+    /// The schedule from that record on.
+    rest: &'a [u8],
+}
+
+impl<'a> Cursor<'a> {
+    pub(crate) fn new(schedule: &'a [u8]) -> Cursor<'a> {
+        let mut cursor = Cursor {
+            lines: Lines {
+                ports: [0; 4],
+                int: 1,
+            },
+            next: 0,
+            rest: schedule,
+        };
+        cursor.look_ahead();
+        cursor
+    }
+
+    /// Moves to this cycle, which lies nowhere before the last one.
+    #[inline]
+    pub(crate) fn go_to(&mut self, cycle: u64) {
+        while cycle >= self.next {
+            self.pass();
+        }
+    }
+
+    /// The lines of the cycle last gone to.
+    #[inline]
+    pub(crate) fn lines(&self) -> &Lines {
+        &self.lines
+    }
+
+    /// The cycle of the first record after the one last gone to.
+    pub(crate) fn next(&self) -> u64 {
+        self.next
+    }
+
+    #[cold]
+    fn pass(&mut self) {
+        self.lines = lines_of(self.rest);
+        self.rest = &self.rest[RECORD..];
+        self.look_ahead();
+    }
+
+    fn look_ahead(&mut self) {
+        self.next = if self.rest.is_empty() {
+            u64::MAX
+        } else {
+            cycle_of(self.rest)
+        };
+    }
+}
