@@ -1,12 +1,14 @@
 // The plain runner: what refuses a run, and the loop over its cycles. The state goes in by value and comes back by value;
 // inside a run the core is a local and RAM, latches, log and tables are lent.
 // It may not know what a cycle does, only that it lands where its definition says.
+use cycle::one_cycle;
 use runs::ClockCycles;
 use runs::MachineCycles;
 use runs::Outcome;
 use runs::Refusal;
 use runs::RunEnd;
 use runs::Stop;
+use schedule::Cursor;
 use upd546::Core;
 use upd546::Lines;
 use upd546::RunAnswer;
@@ -65,6 +67,19 @@ fn state_of(core: Core, ram: [u8; 96], ports: [u8; 7], n: u64) -> State
     }
 }
 
+// The lines that the cursor holds, field by field.
+fn lines_of(c: Cursor) -> Lines
+    ensures { λ r. ⌜ r ≡ c .lines ⌝ }
+{
+    Lines {
+        a: c.lines.a,
+        b: c.lines.b,
+        c: c.lines.c,
+        d: c.lines.d,
+        int: c.lines.int,
+    }
+}
+
 // What a run answers that did so many cycles.
 fn answer(end: RunEnd, state: State, done: u64, begun: u64, written: usize) -> RunAnswer
     requires { ⌜ done ≤ cycleLimit ⌝ }
@@ -97,14 +112,9 @@ fn drive(rom: &[u8], sched: &[u8], s: State, log: &mut [u8], n: u64) -> RunAnswe
     let mut done: u64 = 0;
     let mut begun: u64 = 0;
     while done < n {
-        let lines = Lines {
-            a: cursor.lines.a,
-            b: cursor.lines.b,
-            c: cursor.lines.c,
-            d: cursor.lines.d,
-            int: cursor.lines.int,
-        };
-        let o = cycle::one_cycle(
+        let number = start + done;
+        let lines = lines_of(cursor);
+        let o = one_cycle(
             rom,
             &table,
             core,
@@ -112,23 +122,17 @@ fn drive(rom: &[u8], sched: &[u8], s: State, log: &mut [u8], n: u64) -> RunAnswe
             &mut ports,
             &mut log[at..],
             lines,
-            start + done,
+            number,
         );
         if o.stop != 0 {
-            let stop = stop_of(o.stop);
-            return answer(
-                RunEnd::Stopped(stop),
-                state_of(core, ram, ports, start + done),
-                done,
-                begun,
-                at,
-            );
+            let stop = RunEnd::Stopped(stop_of(o.stop));
+            return answer(stop, state_of(core, ram, ports, number), done, begun, at);
         }
         let next = o.core;
         core = instructions::same(next);
         at = at + o.bytes;
         begun = begun + o.begun;
-        cursor = schedule::moved(sched, cursor, start + done);
+        cursor = schedule::moved(sched, cursor, number);
         done = done + 1;
     }
     answer(

@@ -40,6 +40,18 @@ loop-holds c =
     let k = ap (λ (x : State). runNumber upd546 (now (a .rom)) (now (a .sched)) x (a .n)) e ∙ c .before .before .before .before .before .before .before .before .before .pre in
     rw (add-zero (a .s .cycle .0)) (starts (now (a .rom)) (now (a .sched)) (now (a .log)) (a .n) s₀ (c .start .result) k (c .start .ensures))
 
+add-number : tie.Need-add-number Inv-loop μ-loop
+add-number c =
+    let a = c .before .before .before .before .before .before .before .before .before .before .before .args in
+    let s₀ = stateOf (c .before .before .before .before .before .same .result) (a .s .ram) (a .s .ports) (a .s .cycle .0) in
+    let l = c .before .loop in
+    let t = stateOf (l .core) (l .ram) (l .ports) (a .s .cycle .0 + l .done) in
+    let h = l .inv in
+    omega (arith, run-taken (now (a .rom)) (now (a .sched)) s₀ (a .n) (h .number) .limit, h .not-past, (c .loop-test .taken))
+
+lines-of-requires : tie.Need-lines-of-requires Inv-loop μ-loop
+lines-of-requires c κs = search needs
+
 sub-one-cycle : tie.Need-sub-one-cycle Inv-loop μ-loop
 sub-one-cycle c = search needs
 
@@ -49,128 +61,113 @@ part-one-cycle-start c = search needs
 part-one-cycle-end : tie.Need-part-one-cycle-end Inv-loop μ-loop
 part-one-cycle-end c = search needs
 
-add-one-cycle : tie.Need-add-one-cycle Inv-loop μ-loop
-add-one-cycle c = search needs
-
 one-cycle-requires : tie.Need-one-cycle-requires Inv-loop μ-loop
 one-cycle-requires c κs =
-    let a = c .before .before .before .before .before .before .before .before .before .before .before .before .before .before .before .args in
-    let s₀ = stateOf (c .before .before .before .before .before .before .before .before .before .same .result) (a .s .ram) (a .s .ports) (a .s .cycle .0) in
-    let l = c .before .before .before .before .before .loop in
+    let a = c .before .before .before .before .before .before .before .before .before .before .before .before .before .before .before .before .args in
+    let s₀ = stateOf (c .before .before .before .before .before .before .before .before .before .before .same .result) (a .s .ram) (a .s .ports) (a .s .cycle .0) in
+    let l = c .before .before .before .before .before .before .loop in
     let t = stateOf (l .core) (l .ram) (l .ports) (a .s .cycle .0 + l .done) in
     let h = l .inv in
-    ready (now (a .rom)) (now (a .sched)) (now (a .log)) (a .n) s₀ (l .log) t (l .cursor) (l .at) (l .done) (l .begun) h (c .before .before .before .before .loop-test .taken) (c .before .before .before .before .before .before .before .before .before .before .before .instruction-table .result) (λ i. omega (arith, c .before .before .before .before .before .before .before .before .before .before .before .before .before .before .shared-slice-known .given i)) (λ i. omega (arith, c .before .before .before .before .before .before .before .before .before .before .before .before .before .shared-slice-known2 .given i)) (c .before .before .before .before .before .before .before .before .before .before .before .instruction-table .ensures)
+    rw (c .before .before .before .before .lines-of .ensures) (ready (now (a .rom)) (now (a .sched)) (now (a .log)) (a .n) s₀ (l .log) t (l .cursor) (l .at) (l .done) (l .begun) h (c .before .before .before .before .before .loop-test .taken) (c .before .before .before .before .before .before .before .before .before .before .before .before .instruction-table .result) (λ i. omega (arith, c .before .before .before .before .before .before .before .before .before .before .before .before .before .before .before .shared-slice-known .given i)) (λ i. omega (arith, c .before .before .before .before .before .before .before .before .before .before .before .before .before .before .shared-slice-known2 .given i)) (c .before .before .before .before .before .before .before .before .before .before .before .before .instruction-table .ensures))
 
 stop-of-requires : tie.Need-stop-of-requires Inv-loop μ-loop
 stop-of-requires c κs =
-    let a = c .before .before .before .before .before .before .before .before .before .before .before .before .before .before .before .before .before .before .before .before .args in
-    let s₀ = stateOf (c .before .before .before .before .before .before .before .before .before .before .before .before .before .before .same .result) (a .s .ram) (a .s .ports) (a .s .cycle .0) in
-    let l = c .before .before .before .before .before .before .before .before .before .before .loop in
-    let t = stateOf (l .core) (l .ram) (l .ports) (a .s .cycle .0 + l .done) in
-    let h = l .inv in
-    stop-known (now (a .rom)) (now (a .sched)) (now (a .log)) (a .n) s₀ (l .log) t (l .cursor) (l .at) (l .done) (l .begun) h (c .before .before .before .before .before .before .before .before .before .loop-test .taken) (c .before .before .before .before .one-cycle .result) (c .before .before .before .before .one-cycle .last .1 .1 .1 .0) (c .before .before .before .before .one-cycle .last .1 .1 .1 .1 .0) (c .before .before .before .before .one-cycle .last .1 .1 .1 .1 .1 .0) (c .before .before .before .before .one-cycle .ensures) (c .if1 .taken)
-
-add-state-of : tie.Need-add-state-of Inv-loop μ-loop
-add-state-of c =
     let a = c .before .before .before .before .before .before .before .before .before .before .before .before .before .before .before .before .before .before .before .before .before .args in
     let s₀ = stateOf (c .before .before .before .before .before .before .before .before .before .before .before .before .before .before .before .same .result) (a .s .ram) (a .s .ports) (a .s .cycle .0) in
     let l = c .before .before .before .before .before .before .before .before .before .before .before .loop in
     let t = stateOf (l .core) (l .ram) (l .ports) (a .s .cycle .0 + l .done) in
     let h = l .inv in
-    omega (arith, run-taken (now (a .rom)) (now (a .sched)) s₀ (a .n) (h .number) .limit, h .not-past)
+    stop-known (now (a .rom)) (now (a .sched)) (now (a .log)) (a .n) s₀ (l .log) t (l .cursor) (l .at) (l .done) (l .begun) h (c .before .before .before .before .before .before .before .before .before .before .loop-test .taken) (c .before .before .before .before .one-cycle .result) (c .before .before .before .before .one-cycle .last .1 .1 .1 .0) (c .before .before .before .before .one-cycle .last .1 .1 .1 .1 .0) (c .before .before .before .before .one-cycle .last .1 .1 .1 .1 .1 .0) (rw (c .before .before .before .before .before .before .before .before .before .lines-of .ensures) at (c .before .before .before .before .one-cycle .ensures)) (c .if1 .taken)
 
 state-of-requires : tie.Need-state-of-requires Inv-loop μ-loop
 state-of-requires c κs = search needs
 
 answer-requires : tie.Need-answer-requires Inv-loop μ-loop
 answer-requires c κs =
-    let a = c .before .before .before .before .before .before .before .before .before .before .before .before .before .before .before .before .before .before .before .before .before .before .args in
-    let s₀ = stateOf (c .before .before .before .before .before .before .before .before .before .before .before .before .before .before .before .before .same .result) (a .s .ram) (a .s .ports) (a .s .cycle .0) in
-    let l = c .before .before .before .before .before .before .before .before .before .before .before .before .loop in
+    let a = c .before .before .before .before .before .before .before .before .before .before .before .before .before .before .before .before .before .before .before .before .before .before .before .args in
+    let s₀ = stateOf (c .before .before .before .before .before .before .before .before .before .before .before .before .before .before .before .before .before .same .result) (a .s .ram) (a .s .ports) (a .s .cycle .0) in
+    let l = c .before .before .before .before .before .before .before .before .before .before .before .before .before .loop in
     let t = stateOf (l .core) (l .ram) (l .ports) (a .s .cycle .0 + l .done) in
     let h = l .inv in
     omega (arith, run-taken (now (a .rom)) (now (a .sched)) s₀ (a .n) (h .number) .limit, h .not-past)
 
 same-length : tie.Need-same-length Inv-loop μ-loop
 same-length c =
-    let a = c .before .before .before .before .before .before .before .before .before .before .before .before .before .before .before .before .before .before .before .before .before .before .before .args in
-    let s₀ = stateOf (c .before .before .before .before .before .before .before .before .before .before .before .before .before .before .before .before .before .same .result) (a .s .ram) (a .s .ports) (a .s .cycle .0) in
-    let l = c .before .before .before .before .before .before .before .before .before .before .before .before .before .loop in
+    let a = c .before .before .before .before .before .before .before .before .before .before .before .before .before .before .before .before .before .before .before .before .before .before .before .before .args in
+    let s₀ = stateOf (c .before .before .before .before .before .before .before .before .before .before .before .before .before .before .before .before .before .before .same .result) (a .s .ram) (a .s .ports) (a .s .cycle .0) in
+    let l = c .before .before .before .before .before .before .before .before .before .before .before .before .before .before .loop in
     let t = stateOf (l .core) (l .ram) (l .ports) (a .s .cycle .0 + l .done) in
     let h = l .inv in
-    stop-length (now (a .rom)) (now (a .sched)) (now (a .log)) (a .n) s₀ (l .log) t (l .cursor) (l .at) (l .done) (l .begun) h (c .before .before .before .before .before .before .before .before .before .before .before .before .loop-test .taken) (c .before .before .before .before .before .before .before .one-cycle .result) (c .before .before .before .before .before .before .before .one-cycle .last .1 .1 .1 .0) (c .before .before .before .before .before .before .before .one-cycle .last .1 .1 .1 .1 .0) (c .before .before .before .before .before .before .before .one-cycle .last .1 .1 .1 .1 .1 .0) (c .before .before .before .before .before .before .before .one-cycle .ensures) (c .before .before .before .if1 .taken)
+    stop-length (now (a .rom)) (now (a .sched)) (now (a .log)) (a .n) s₀ (l .log) t (l .cursor) (l .at) (l .done) (l .begun) h (c .before .before .before .before .before .before .before .before .before .before .before .before .before .loop-test .taken) (c .before .before .before .before .before .before .before .one-cycle .result) (c .before .before .before .before .before .before .before .one-cycle .last .1 .1 .1 .0) (c .before .before .before .before .before .before .before .one-cycle .last .1 .1 .1 .1 .0) (c .before .before .before .before .before .before .before .one-cycle .last .1 .1 .1 .1 .1 .0) (rw (c .before .before .before .before .before .before .before .before .before .before .before .before .lines-of .ensures) at (c .before .before .before .before .before .before .before .one-cycle .ensures)) (c .before .before .before .if1 .taken)
 
 returns : tie.Need-returns Inv-loop μ-loop
 returns c =
-    let a = c .before .before .before .before .before .before .before .before .before .before .before .before .before .before .before .before .before .before .before .before .before .before .before .args in
-    let s₀ = stateOf (c .before .before .before .before .before .before .before .before .before .before .before .before .before .before .before .before .before .same .result) (a .s .ram) (a .s .ports) (a .s .cycle .0) in
-    let l = c .before .before .before .before .before .before .before .before .before .before .before .before .before .loop in
+    let a = c .before .before .before .before .before .before .before .before .before .before .before .before .before .before .before .before .before .before .before .before .before .before .before .before .args in
+    let s₀ = stateOf (c .before .before .before .before .before .before .before .before .before .before .before .before .before .before .before .before .before .before .same .result) (a .s .ram) (a .s .ports) (a .s .cycle .0) in
+    let l = c .before .before .before .before .before .before .before .before .before .before .before .before .before .before .loop in
     let t = stateOf (l .core) (l .ram) (l .ports) (a .s .cycle .0 + l .done) in
     let h = l .inv in
-    let e = ap (λ (x : Core). stateOf x (a .s .ram) (a .s .ports) (a .s .cycle .0)) (c .before .before .before .before .before .before .before .before .before .before .before .before .before .before .before .before .before .same .ensures) in
+    let e = ap (λ (x : Core). stateOf x (a .s .ram) (a .s .ports) (a .s .cycle .0)) (c .before .before .before .before .before .before .before .before .before .before .before .before .before .before .before .before .before .before .same .ensures) in
     let r = c .answer .ensures in
     let u = c .before .state-of .ensures in
     let k = c .before .before .stop-of .ensures in
-    rw (r, k) (stops (now (a .rom)) (now (a .sched)) (now (a .log)) (a .n) s₀ (l .log) t (l .cursor) (l .at) (l .done) (l .begun) h (c .before .before .before .before .before .before .before .before .before .before .before .before .loop-test .taken) (c .before .before .before .before .before .before .before .one-cycle .result) (c .before .before .before .before .before .before .before .one-cycle .last .1 .1 .1 .0) (c .before .before .before .before .before .before .before .one-cycle .last .1 .1 .1 .1 .0) (c .before .before .before .before .before .before .before .one-cycle .last .1 .1 .1 .1 .1 .0) (c .before .before .before .before .before .before .before .one-cycle .ensures) (c .before .before .before .if1 .taken) u ∙ ap (λ (x : State). plain upd546 (now (a .rom)) (now (a .sched)) x (now (a .log)) (a .n)) e)
+    rw (r, k) (stops (now (a .rom)) (now (a .sched)) (now (a .log)) (a .n) s₀ (l .log) t (l .cursor) (l .at) (l .done) (l .begun) h (c .before .before .before .before .before .before .before .before .before .before .before .before .before .loop-test .taken) (c .before .before .before .before .before .before .before .one-cycle .result) (c .before .before .before .before .before .before .before .one-cycle .last .1 .1 .1 .0) (c .before .before .before .before .before .before .before .one-cycle .last .1 .1 .1 .1 .0) (c .before .before .before .before .before .before .before .one-cycle .last .1 .1 .1 .1 .1 .0) (rw (c .before .before .before .before .before .before .before .before .before .before .before .before .lines-of .ensures) at (c .before .before .before .before .before .before .before .one-cycle .ensures)) (c .before .before .before .if1 .taken) u ∙ ap (λ (x : State). plain upd546 (now (a .rom)) (now (a .sched)) x (now (a .log)) (a .n)) e)
 
 same-requires-2 : tie.Need-same-requires-2 Inv-loop μ-loop
 same-requires-2 c κs = search needs
 
 add-at : tie.Need-add-at Inv-loop μ-loop
 add-at c =
-    let a = c .before .before .before .before .before .before .before .before .before .before .before .before .before .before .before .before .before .before .before .before .before .before .before .args in
-    let s₀ = stateOf (c .before .before .before .before .before .before .before .before .before .before .before .before .before .before .before .before .before .same .result) (a .s .ram) (a .s .ports) (a .s .cycle .0) in
-    let l = c .before .before .before .before .before .before .before .before .before .before .before .before .before .loop in
+    let a = c .before .before .before .before .before .before .before .before .before .before .before .before .before .before .before .before .before .before .before .before .before .before .before .before .args in
+    let s₀ = stateOf (c .before .before .before .before .before .before .before .before .before .before .before .before .before .before .before .before .before .before .same .result) (a .s .ram) (a .s .ports) (a .s .cycle .0) in
+    let l = c .before .before .before .before .before .before .before .before .before .before .before .before .before .before .loop in
     let t = stateOf (l .core) (l .ram) (l .ports) (a .s .cycle .0 + l .done) in
     let h = l .inv in
-    omega (arith, counts (now (a .rom)) (now (a .sched)) (now (a .log)) (a .n) s₀ (l .log) t (l .cursor) (l .at) (l .done) (l .begun) h (c .before .before .before .before .before .before .before .before .before .before .before .before .loop-test .taken) (c .before .before .before .before .before .before .before .one-cycle .result) (c .before .before .before .before .before .before .before .one-cycle .last .1 .1 .1 .0) (c .before .before .before .before .before .before .before .one-cycle .last .1 .1 .1 .1 .0) (c .before .before .before .before .before .before .before .one-cycle .last .1 .1 .1 .1 .1 .0) (c .before .before .before .before .before .before .before .one-cycle .ensures) (λ i. omega (arith, c .before .before .before .before .before .before .before .before .before .before .before .before .before .before .before .before .before .before .before .before .before .before .shared-slice-known .given i)) (λ i. omega (arith, c .before .before .before .before .before .before .before .before .before .before .before .before .before .before .before .before .before .before .before .before .before .shared-slice-known2 .given i)) (c .before .before .before .if1 .left), c .before .before .before .before .before .before .before .before .before .before .before .before .before .before .before .before .before .before .before .before .before .before .before .good .1 .1 .1 .0 .0)
+    omega (arith, counts (now (a .rom)) (now (a .sched)) (now (a .log)) (a .n) s₀ (l .log) t (l .cursor) (l .at) (l .done) (l .begun) h (c .before .before .before .before .before .before .before .before .before .before .before .before .before .loop-test .taken) (c .before .before .before .before .before .before .before .one-cycle .result) (c .before .before .before .before .before .before .before .one-cycle .last .1 .1 .1 .0) (c .before .before .before .before .before .before .before .one-cycle .last .1 .1 .1 .1 .0) (c .before .before .before .before .before .before .before .one-cycle .last .1 .1 .1 .1 .1 .0) (rw (c .before .before .before .before .before .before .before .before .before .before .before .before .lines-of .ensures) at (c .before .before .before .before .before .before .before .one-cycle .ensures)) (λ i. omega (arith, c .before .before .before .before .before .before .before .before .before .before .before .before .before .before .before .before .before .before .before .before .before .before .before .shared-slice-known .given i)) (λ i. omega (arith, c .before .before .before .before .before .before .before .before .before .before .before .before .before .before .before .before .before .before .before .before .before .before .shared-slice-known2 .given i)) (c .before .before .before .if1 .left), c .before .before .before .before .before .before .before .before .before .before .before .before .before .before .before .before .before .before .before .before .before .before .before .before .good .1 .1 .1 .0 .0)
 
 add-begun : tie.Need-add-begun Inv-loop μ-loop
 add-begun c =
-    let a = c .before .before .before .before .before .before .before .before .before .before .before .before .before .before .before .before .before .before .before .before .before .before .before .before .args in
-    let s₀ = stateOf (c .before .before .before .before .before .before .before .before .before .before .before .before .before .before .before .before .before .before .same .result) (a .s .ram) (a .s .ports) (a .s .cycle .0) in
-    let l = c .before .before .before .before .before .before .before .before .before .before .before .before .before .before .loop in
-    let t = stateOf (l .core) (l .ram) (l .ports) (a .s .cycle .0 + l .done) in
-    let h = l .inv in
-    omega (arith, counts (now (a .rom)) (now (a .sched)) (now (a .log)) (a .n) s₀ (l .log) t (l .cursor) (l .at) (l .done) (l .begun) h (c .before .before .before .before .before .before .before .before .before .before .before .before .before .loop-test .taken) (c .before .before .before .before .before .before .before .before .one-cycle .result) (c .before .before .before .before .before .before .before .before .one-cycle .last .1 .1 .1 .0) (c .before .before .before .before .before .before .before .before .one-cycle .last .1 .1 .1 .1 .0) (c .before .before .before .before .before .before .before .before .one-cycle .last .1 .1 .1 .1 .1 .0) (c .before .before .before .before .before .before .before .before .one-cycle .ensures) (λ i. omega (arith, c .before .before .before .before .before .before .before .before .before .before .before .before .before .before .before .before .before .before .before .before .before .before .before .shared-slice-known .given i)) (λ i. omega (arith, c .before .before .before .before .before .before .before .before .before .before .before .before .before .before .before .before .before .before .before .before .before .before .shared-slice-known2 .given i)) (c .before .before .before .before .if1 .left), h .few, h .not-past, run-taken (now (a .rom)) (now (a .sched)) s₀ (a .n) (h .number) .limit)
-
-add-moved : tie.Need-add-moved Inv-loop μ-loop
-add-moved c =
-    let a = c .before .before .before .before .before .before .before .before .before .before .before .before .before .before .before .before .before .before .before .before .before .before .before .before .args in
-    let s₀ = stateOf (c .before .before .before .before .before .before .before .before .before .before .before .before .before .before .before .before .before .before .same .result) (a .s .ram) (a .s .ports) (a .s .cycle .0) in
-    let l = c .before .before .before .before .before .before .before .before .before .before .before .before .before .before .loop in
-    let t = stateOf (l .core) (l .ram) (l .ports) (a .s .cycle .0 + l .done) in
-    let h = l .inv in
-    omega (arith, run-taken (now (a .rom)) (now (a .sched)) s₀ (a .n) (h .number) .limit, h .not-past)
-
-moved-requires : tie.Need-moved-requires Inv-loop μ-loop
-moved-requires c κs =
-    let a = c .before .before .before .before .before .before .before .before .before .before .before .before .before .before .before .before .before .before .before .before .before .before .before .before .args in
-    let s₀ = stateOf (c .before .before .before .before .before .before .before .before .before .before .before .before .before .before .before .before .before .before .same .result) (a .s .ram) (a .s .ports) (a .s .cycle .0) in
-    let l = c .before .before .before .before .before .before .before .before .before .before .before .before .before .before .loop in
-    let t = stateOf (l .core) (l .ram) (l .ports) (a .s .cycle .0 + l .done) in
-    let h = l .inv in
-    let k = run-taken (now (a .rom)) (now (a .sched)) s₀ (a .n) (h .number) in
-    (k .schedule, h .stands, omega (arith, k .limit, (c .before .before .before .before .before .before .before .before .before .before .before .before .before .loop-test .taken)))
-
-add-done : tie.Need-add-done Inv-loop μ-loop
-add-done c = search needs
-
-loop-less : tie.Need-loop-less Inv-loop μ-loop
-loop-less c = omega (arith, c .before .before .before .before .before .before .before .before .before .before .before .before .before .before .loop-test .taken)
-
-loop-again : tie.Need-loop-again Inv-loop μ-loop
-loop-again c =
     let a = c .before .before .before .before .before .before .before .before .before .before .before .before .before .before .before .before .before .before .before .before .before .before .before .before .before .args in
     let s₀ = stateOf (c .before .before .before .before .before .before .before .before .before .before .before .before .before .before .before .before .before .before .before .same .result) (a .s .ram) (a .s .ports) (a .s .cycle .0) in
     let l = c .before .before .before .before .before .before .before .before .before .before .before .before .before .before .before .loop in
     let t = stateOf (l .core) (l .ram) (l .ports) (a .s .cycle .0 + l .done) in
     let h = l .inv in
-    let x = ap (λ (x : Core). stateOf x (c .before .before .before .before .before .before .before .before .before .one-cycle .last .1 .1 .1 .0) (c .before .before .before .before .before .before .before .before .before .one-cycle .last .1 .1 .1 .1 .0) (a .s .cycle .0 + (l .done + 1))) (c .before .before .before .same2 .ensures) in
-    goes-on (now (a .rom)) (now (a .sched)) (now (a .log)) (a .n) s₀ (l .log) t (l .cursor) (l .at) (l .done) (l .begun) h (c .before .before .before .before .before .before .before .before .before .before .before .before .before .before .loop-test .taken) (c .before .before .before .before .before .before .before .before .before .one-cycle .result) (c .before .before .before .before .before .before .before .before .before .one-cycle .last .1 .1 .1 .0) (c .before .before .before .before .before .before .before .before .before .one-cycle .last .1 .1 .1 .1 .0) (c .before .before .before .before .before .before .before .before .before .one-cycle .last .1 .1 .1 .1 .1 .0) (c .before .before .before .before .before .before .before .before .before .one-cycle .ensures) (λ i. omega (arith, c .before .before .before .before .before .before .before .before .before .before .before .before .before .before .before .before .before .before .before .before .before .before .before .before .shared-slice-known .given i)) (λ i. omega (arith, c .before .before .before .before .before .before .before .before .before .before .before .before .before .before .before .before .before .before .before .before .before .before .before .shared-slice-known2 .given i)) (c .before .before .before .before .before .if1 .left) (c .moved .result) (c .moved .ensures) x
+    omega (arith, counts (now (a .rom)) (now (a .sched)) (now (a .log)) (a .n) s₀ (l .log) t (l .cursor) (l .at) (l .done) (l .begun) h (c .before .before .before .before .before .before .before .before .before .before .before .before .before .before .loop-test .taken) (c .before .before .before .before .before .before .before .before .one-cycle .result) (c .before .before .before .before .before .before .before .before .one-cycle .last .1 .1 .1 .0) (c .before .before .before .before .before .before .before .before .one-cycle .last .1 .1 .1 .1 .0) (c .before .before .before .before .before .before .before .before .one-cycle .last .1 .1 .1 .1 .1 .0) (rw (c .before .before .before .before .before .before .before .before .before .before .before .before .before .lines-of .ensures) at (c .before .before .before .before .before .before .before .before .one-cycle .ensures)) (λ i. omega (arith, c .before .before .before .before .before .before .before .before .before .before .before .before .before .before .before .before .before .before .before .before .before .before .before .before .shared-slice-known .given i)) (λ i. omega (arith, c .before .before .before .before .before .before .before .before .before .before .before .before .before .before .before .before .before .before .before .before .before .before .before .shared-slice-known2 .given i)) (c .before .before .before .before .if1 .left), h .few, h .not-past, run-taken (now (a .rom)) (now (a .sched)) s₀ (a .n) (h .number) .limit)
 
-add-state-of-2 : tie.Need-add-state-of-2 Inv-loop μ-loop
-add-state-of-2 c = search needs
+moved-requires : tie.Need-moved-requires Inv-loop μ-loop
+moved-requires c κs =
+    let a = c .before .before .before .before .before .before .before .before .before .before .before .before .before .before .before .before .before .before .before .before .before .before .before .before .before .args in
+    let s₀ = stateOf (c .before .before .before .before .before .before .before .before .before .before .before .before .before .before .before .before .before .before .before .same .result) (a .s .ram) (a .s .ports) (a .s .cycle .0) in
+    let l = c .before .before .before .before .before .before .before .before .before .before .before .before .before .before .before .loop in
+    let t = stateOf (l .core) (l .ram) (l .ports) (a .s .cycle .0 + l .done) in
+    let h = l .inv in
+    let k = run-taken (now (a .rom)) (now (a .sched)) s₀ (a .n) (h .number) in
+    (k .schedule, h .stands, omega (arith, k .limit, (c .before .before .before .before .before .before .before .before .before .before .before .before .before .before .loop-test .taken)))
+
+add-done : tie.Need-add-done Inv-loop μ-loop
+add-done c = search needs
+
+loop-less : tie.Need-loop-less Inv-loop μ-loop
+loop-less c = omega (arith, c .before .before .before .before .before .before .before .before .before .before .before .before .before .before .before .loop-test .taken)
+
+loop-again : tie.Need-loop-again Inv-loop μ-loop
+loop-again c =
+    let a = c .before .before .before .before .before .before .before .before .before .before .before .before .before .before .before .before .before .before .before .before .before .before .before .before .before .before .args in
+    let s₀ = stateOf (c .before .before .before .before .before .before .before .before .before .before .before .before .before .before .before .before .before .before .before .before .same .result) (a .s .ram) (a .s .ports) (a .s .cycle .0) in
+    let l = c .before .before .before .before .before .before .before .before .before .before .before .before .before .before .before .before .loop in
+    let t = stateOf (l .core) (l .ram) (l .ports) (a .s .cycle .0 + l .done) in
+    let h = l .inv in
+    let x = ap (λ (x : Core). stateOf x (c .before .before .before .before .before .before .before .before .before .one-cycle .last .1 .1 .1 .0) (c .before .before .before .before .before .before .before .before .before .one-cycle .last .1 .1 .1 .1 .0) (a .s .cycle .0 + (l .done + 1))) (c .before .before .before .same2 .ensures) in
+    goes-on (now (a .rom)) (now (a .sched)) (now (a .log)) (a .n) s₀ (l .log) t (l .cursor) (l .at) (l .done) (l .begun) h (c .before .before .before .before .before .before .before .before .before .before .before .before .before .before .before .loop-test .taken) (c .before .before .before .before .before .before .before .before .before .one-cycle .result) (c .before .before .before .before .before .before .before .before .before .one-cycle .last .1 .1 .1 .0) (c .before .before .before .before .before .before .before .before .before .one-cycle .last .1 .1 .1 .1 .0) (c .before .before .before .before .before .before .before .before .before .one-cycle .last .1 .1 .1 .1 .1 .0) (rw (c .before .before .before .before .before .before .before .before .before .before .before .before .before .before .lines-of .ensures) at (c .before .before .before .before .before .before .before .before .before .one-cycle .ensures)) (λ i. omega (arith, c .before .before .before .before .before .before .before .before .before .before .before .before .before .before .before .before .before .before .before .before .before .before .before .before .before .shared-slice-known .given i)) (λ i. omega (arith, c .before .before .before .before .before .before .before .before .before .before .before .before .before .before .before .before .before .before .before .before .before .before .before .before .shared-slice-known2 .given i)) (c .before .before .before .before .before .if1 .left) (c .moved .result) (c .moved .ensures) x
+
+add-state-of : tie.Need-add-state-of Inv-loop μ-loop
+add-state-of c =
+    let a = c .before .before .before .before .before .before .before .before .before .before .before .args in
+    let s₀ = stateOf (c .before .before .before .before .before .same .result) (a .s .ram) (a .s .ports) (a .s .cycle .0) in
+    let l = c .before .loop in
+    let t = stateOf (l .core) (l .ram) (l .ports) (a .s .cycle .0 + l .done) in
+    let h = l .inv in
+    omega (arith, run-taken (now (a .rom)) (now (a .sched)) s₀ (a .n) (h .number) .limit, h .not-past)
 
 state-of-requires-2 : tie.Need-state-of-requires-2 Inv-loop μ-loop
 state-of-requires-2 c κs = search needs
@@ -201,13 +198,13 @@ drive-spec =
     same-requires
     start-requires
     loop-holds
+    add-number
+    lines-of-requires
     sub-one-cycle
     part-one-cycle-start
     part-one-cycle-end
-    add-one-cycle
     one-cycle-requires
     stop-of-requires
-    add-state-of
     state-of-requires
     answer-requires
     same-length
@@ -215,12 +212,11 @@ drive-spec =
     same-requires-2
     add-at
     add-begun
-    add-moved
     moved-requires
     add-done
     loop-less
     loop-again
-    add-state-of-2
+    add-state-of
     state-of-requires-2
     answer-requires-2
     same-length-2
