@@ -15,6 +15,8 @@ use runs::MachineCycles;
 use upd546::Core;
 use upd546::Flow;
 use upd546::Interrupt;
+use upd546::LATCHES;
+use upd546::RAM_WORDS;
 use upd546::Registers;
 use upd546::State;
 use upd546::Timer;
@@ -43,7 +45,7 @@ pub fn cycles(case: &[u8]) -> MachineCycles {
 }
 
 pub fn start_state(case: &[u8]) -> State {
-    let mut ram = [0u8; 96];
+    let mut ram = [0u8; RAM_WORDS];
     fill(&mut ram, long(case, 24));
     let from = HEAD + wide(word(case, 76)) + wide(word(case, 78));
     patch(&mut ram, case, from, from + wide(word(case, 80)));
@@ -83,7 +85,7 @@ fn core(case: &[u8]) -> Core {
     }
 }
 
-fn ports(case: &[u8]) -> [u8; 7] {
+fn ports(case: &[u8]) -> [u8; LATCHES] {
     [
         byte(case, 69),
         byte(case, 70),

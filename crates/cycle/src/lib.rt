@@ -4,7 +4,9 @@ use effect::Effect;
 use instructions::Given;
 use tables::InstructionTable;
 use upd546::Core;
+use upd546::LATCHES;
 use upd546::Lines;
+use upd546::RAM_WORDS;
 ghost use mathlib.Core.Path.{_≡_};
 ghost use Prim.Native.Nat.{_<_};
 ghost use lib.ListN.{length, set};
@@ -34,11 +36,11 @@ fn held(core: Core, stop: u8) -> Stepped
     }
 }
 
-fn store(ram: &mut [u8; 96], at: usize, word: u8)
+fn store(ram: &mut [u8; RAM_WORDS], at: usize, word: u8)
     requires { ⌜ length (now ram) ≡ ramLength ⌝ }
     ensures { λ _. ⌜ now (ram .exit) ≡ set (now (ram .entry)) at word ⌝ }
 {
-    if at < 96 {
+    if at < RAM_WORDS {
         ram[at] = word;
     }
 }
@@ -60,8 +62,8 @@ fn execute(
     table: &InstructionTable,
     before: Core,
     c: Core,
-    ram: &mut [u8; 96],
-    ports: &mut [u8; 7],
+    ram: &mut [u8; RAM_WORDS],
+    ports: &mut [u8; LATCHES],
     log: &mut [u8],
     lines: Lines,
     n: u64,
@@ -105,8 +107,8 @@ pub fn one_cycle(
     rom: &[u8],
     table: &InstructionTable,
     c: Core,
-    ram: &mut [u8; 96],
-    ports: &mut [u8; 7],
+    ram: &mut [u8; RAM_WORDS],
+    ports: &mut [u8; LATCHES],
     log: &mut [u8],
     lines: Lines,
     n: u64,

@@ -11,6 +11,9 @@ use instructions::Summed;
 use instructions::Worked;
 use upd546::Core;
 use upd546::Interrupt;
+use upd546::LATCHES;
+use upd546::MARK_OTHER;
+use upd546::RAM_WORDS;
 use upd546::Registers;
 ghost use mathlib.Core.Path.{_≡_};
 ghost use mathlib.Core.List.{List};
@@ -33,11 +36,11 @@ pub struct Effect {
     pub value: u8,
 }
 
-fn load(ram: &[u8; 96], at: usize) -> u8
+fn load(ram: &[u8; RAM_WORDS], at: usize) -> u8
     requires { ⌜ length (now ram) ≡ ramLength ⌝ }
     ensures { λ r. ⌜ r ≡ getD (now (ram .entry)) at 0 ⌝ }
 {
-    if at < 96 {
+    if at < RAM_WORDS {
         return ram[at];
     }
     0
@@ -51,7 +54,7 @@ fn next(g: Given) -> Core
     let mut c = instructions::same(core);
     let pc = g.after;
     c.flow.pc = pc;
-    c.mark = 0;
+    c.mark = MARK_OTHER;
     c
 }
 
@@ -128,7 +131,7 @@ fn after_jump(g: Given, r: Jumped) -> Effect
     c.flow = flow;
     Effect {
         core: c,
-        at: 96,
+        at: RAM_WORDS,
         word: 0,
         skip: r.skip,
         port: 0,
@@ -149,7 +152,7 @@ fn after_control(g: Given, r: Controlled) -> Effect
     c.mark = r.mark;
     Effect {
         core: c,
-        at: 96,
+        at: RAM_WORDS,
         word: 0,
         skip: r.skip,
         port: 0,
@@ -164,7 +167,7 @@ fn after_port(g: Given, r: Ported) -> Effect
     c.registers.acc = r.acc;
     Effect {
         core: c,
-        at: 96,
+        at: RAM_WORDS,
         word: 0,
         skip: r.skip,
         port: r.port,
@@ -173,7 +176,7 @@ fn after_port(g: Given, r: Ported) -> Effect
 }
 
 // What the instruction of g's code does.
-pub fn effect_of(g: Given, ram: &[u8; 96], ports: &[u8; 7]) -> Effect
+pub fn effect_of(g: Given, ram: &[u8; RAM_WORDS], ports: &[u8; LATCHES]) -> Effect
     requires { ⌜ Scalars (g .core) × ValidRam (now ram) × ValidPorts (now ports) ⌝ }
     ensures { λ e. ⌜ Does g (now (ram .entry)) (now (ports .entry)) e ⌝ }
 {

@@ -1,6 +1,7 @@
 // What is read of the ROM: the instruction at PC, and what a skip passes over. Nothing of it changes the machine.
 // It may not know what an instruction does, nor how a run goes.
 use tables::InstructionTable;
+use upd546::LAST_ADDRESS;
 ghost use mathlib.Core.Path.{_≡_};
 ghost use Prim.Native.Nat.{_<_};
 ghost use lib.ListN.{length};
@@ -49,7 +50,7 @@ pub fn fetch_at(rom: &[u8], table: &InstructionTable, pc: u16) -> Fetched
     requires { ⌜ (length (now rom) ≡ romLength) × (now table ≡ instructionTable) ⌝ }
     ensures { λ r. ⌜ FetchedAs (now (rom .entry)) pc r ⌝ }
 {
-    if 1999 < pc {
+    if LAST_ADDRESS < pc {
         return stopped(22);
     }
     let code = byte_at(rom, pc);
@@ -67,7 +68,7 @@ pub fn fetch_at(rom: &[u8], table: &InstructionTable, pc: u16) -> Fetched
             cycles: size.cycles,
         };
     }
-    if 1999 < next {
+    if LAST_ADDRESS < next {
         return stopped(22);
     }
     Fetched {
@@ -91,7 +92,7 @@ pub fn pass_over(rom: &[u8], table: &InstructionTable, skip: bool, to: u16) -> P
             over: 0,
         };
     }
-    if 1999 < to {
+    if LAST_ADDRESS < to {
         return Passed {
             stop: 22,
             pc: 0,

@@ -7,6 +7,9 @@ use runs::Refusal;
 use upd546::Core;
 use upd546::Flow;
 use upd546::Interrupt;
+use upd546::LATCHES;
+use upd546::MARK_STM;
+use upd546::RAM_WORDS;
 use upd546::Registers;
 use upd546::State;
 use upd546::Timer;
@@ -58,7 +61,7 @@ fn core(c: Core) -> bool
         & flow(c.flow)
         & interrupt(c.interrupt)
         & timer(c.timer)
-        & (c.mark <= 3)
+        & (c.mark <= MARK_STM)
         & (c.owed <= 3)
 }
 
@@ -76,13 +79,13 @@ fn all_below(entries: &[u8], bound: u8) -> bool
 }
 
 // Port I, the last, has 3 bits.
-fn ports(latches: [u8; 7]) -> bool
+fn ports(latches: [u8; LATCHES]) -> bool
     ensures { λ b. ⌜ b ≡ portsSound latches ⌝ }
 {
     all_below(&latches, 16) & (latches[6] < 8)
 }
 
-fn ram(words: [u8; 96]) -> bool
+fn ram(words: [u8; RAM_WORDS]) -> bool
     ensures { λ b. ⌜ b ≡ ramSound words ⌝ }
 {
     all_below(&words, 16)

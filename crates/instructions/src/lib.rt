@@ -14,7 +14,12 @@ use decode::Working;
 use upd546::Core;
 use upd546::Flow;
 use upd546::Interrupt;
+use upd546::LATCHES;
 use upd546::Lines;
+use upd546::MARK_EI;
+use upd546::MARK_LDI;
+use upd546::MARK_OTHER;
+use upd546::MARK_STM;
 use upd546::Registers;
 use upd546::Timer;
 ghost use mathlib.Core.Path.{_≡_};
@@ -391,12 +396,12 @@ fn ldi(g: Given, word: u8) -> Pointed
     let acc = g.core.registers.acc;
     let dph = g.core.registers.dph;
     let dpl = g.core.registers.dpl;
-    if g.core.mark == 1 {
+    if g.core.mark == MARK_LDI {
         return Pointed {
             acc,
             dph,
             dpl,
-            mark: 1,
+            mark: MARK_LDI,
             word,
             skip: false,
         };
@@ -405,7 +410,7 @@ fn ldi(g: Given, word: u8) -> Pointed
         acc,
         dph: g.second % 128 / 16,
         dpl: g.second % 16,
-        mark: 1,
+        mark: MARK_LDI,
         word,
         skip: false,
     }
@@ -426,7 +431,7 @@ pub fn pointer_group(op: Pointer, g: Given, word: u8) -> Pointed
             acc,
             dph,
             dpl: acc,
-            mark: 0,
+            mark: MARK_OTHER,
             word,
             skip: false,
         },
@@ -434,7 +439,7 @@ pub fn pointer_group(op: Pointer, g: Given, word: u8) -> Pointed
             acc: dpl,
             dph,
             dpl,
-            mark: 0,
+            mark: MARK_OTHER,
             word,
             skip: false,
         },
@@ -444,7 +449,7 @@ pub fn pointer_group(op: Pointer, g: Given, word: u8) -> Pointed
                 acc,
                 dph,
                 dpl: v,
-                mark: 0,
+                mark: MARK_OTHER,
                 word,
                 skip: v == 15,
             }
@@ -454,7 +459,7 @@ pub fn pointer_group(op: Pointer, g: Given, word: u8) -> Pointed
             acc,
             dph,
             dpl,
-            mark: 0,
+            mark: MARK_OTHER,
             word,
             skip: dpl == k,
         },
@@ -462,7 +467,7 @@ pub fn pointer_group(op: Pointer, g: Given, word: u8) -> Pointed
             acc: word,
             dph: dph ^ b,
             dpl,
-            mark: 0,
+            mark: MARK_OTHER,
             word: acc,
             skip: false,
         },
@@ -472,7 +477,7 @@ pub fn pointer_group(op: Pointer, g: Given, word: u8) -> Pointed
                 acc: word,
                 dph: dph ^ b,
                 dpl: v,
-                mark: 0,
+                mark: MARK_OTHER,
                 word: acc,
                 skip: v == 15,
             }
@@ -483,7 +488,7 @@ pub fn pointer_group(op: Pointer, g: Given, word: u8) -> Pointed
                 acc,
                 dph,
                 dpl: v,
-                mark: 0,
+                mark: MARK_OTHER,
                 word,
                 skip: v == 0,
             }
@@ -492,7 +497,7 @@ pub fn pointer_group(op: Pointer, g: Given, word: u8) -> Pointed
             acc: word,
             dph: dph ^ b,
             dpl,
-            mark: 0,
+            mark: MARK_OTHER,
             word,
             skip: false,
         },
@@ -502,7 +507,7 @@ pub fn pointer_group(op: Pointer, g: Given, word: u8) -> Pointed
                 acc: word,
                 dph: dph ^ b,
                 dpl: v,
-                mark: 0,
+                mark: MARK_OTHER,
                 word: acc,
                 skip: v == 0,
             }
@@ -511,7 +516,7 @@ pub fn pointer_group(op: Pointer, g: Given, word: u8) -> Pointed
             acc,
             dph: 0,
             dpl: g.code % 16,
-            mark: 0,
+            mark: MARK_OTHER,
             word,
             skip: false,
         },
@@ -693,7 +698,7 @@ pub fn control_group(op: Control, g: Given) -> Controlled
             int,
             inte,
             timer,
-            mark: 0,
+            mark: MARK_OTHER,
             skip: false,
         },
         Control::None => Controlled {
@@ -702,7 +707,7 @@ pub fn control_group(op: Control, g: Given) -> Controlled
             int,
             inte,
             timer,
-            mark: 0,
+            mark: MARK_OTHER,
             skip: false,
         },
         Control::Di => Controlled {
@@ -711,7 +716,7 @@ pub fn control_group(op: Control, g: Given) -> Controlled
             int,
             inte: 0,
             timer,
-            mark: 0,
+            mark: MARK_OTHER,
             skip: false,
         },
         Control::Ei => Controlled {
@@ -720,7 +725,7 @@ pub fn control_group(op: Control, g: Given) -> Controlled
             int,
             inte: 1,
             timer,
-            mark: 2,
+            mark: MARK_EI,
             skip: false,
         },
         Control::Tit => Controlled {
@@ -729,7 +734,7 @@ pub fn control_group(op: Control, g: Given) -> Controlled
             int: 0,
             inte,
             timer,
-            mark: 0,
+            mark: MARK_OTHER,
             skip: int == 1,
         },
         Control::Tc => Controlled {
@@ -738,7 +743,7 @@ pub fn control_group(op: Control, g: Given) -> Controlled
             int,
             inte,
             timer,
-            mark: 0,
+            mark: MARK_OTHER,
             skip: carry == 1,
         },
         Control::Ttm => Controlled {
@@ -747,7 +752,7 @@ pub fn control_group(op: Control, g: Given) -> Controlled
             int,
             inte,
             timer,
-            mark: 0,
+            mark: MARK_OTHER,
             skip: g.core.timer.tm == 1,
         },
         Control::Xc => Controlled {
@@ -756,7 +761,7 @@ pub fn control_group(op: Control, g: Given) -> Controlled
             int,
             inte,
             timer,
-            mark: 0,
+            mark: MARK_OTHER,
             skip: false,
         },
         Control::Stm => Controlled {
@@ -769,7 +774,7 @@ pub fn control_group(op: Control, g: Given) -> Controlled
                 register: 1,
                 counter: g.second % 64,
             },
-            mark: 3,
+            mark: MARK_STM,
             skip: false,
         },
     }
@@ -796,7 +801,7 @@ fn output_port(p: u8, v: u8) -> Output
 }
 
 // What SPB and RPB write.
-fn output_bit(ports: &[u8; 7], p: u8, b: u8, v: u8) -> Output
+fn output_bit(ports: &[u8; LATCHES], p: u8, b: u8, v: u8) -> Output
     requires { ⌜ ValidPorts (now ports) × (b < 4) × (v < 2) ⌝ }
     ensures { λ r. ⌜ writesOf (r .port) (r .value) ≡ bitOutputs (now (ports .entry)) p b v ⌝ }
 {
@@ -823,7 +828,7 @@ fn output_bit(ports: &[u8; 7], p: u8, b: u8, v: u8) -> Output
 }
 
 // Ports.
-pub fn port_group(op: Port, g: Given, ports: &[u8; 7]) -> Ported
+pub fn port_group(op: Port, g: Given, ports: &[u8; LATCHES]) -> Ported
     requires { ⌜ Scalars (g .core) × ValidPorts (now ports) ⌝ }
     ensures { λ r. ⌜ ((word : ℕ) → namedPort op .effect (chipGiven g word (now (ports .entry))) ≡ ported (chipGiven g word (now (ports .entry))) r) ⌝ }
 {

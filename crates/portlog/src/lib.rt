@@ -1,5 +1,6 @@
 // The port log: what an effective write appends to the part of the log that is still empty, and what it leaves in the latches.
 // It may not know which instruction writes, nor how a run goes.
+use upd546::LATCHES;
 ghost use mathlib.Core.Path.{_≡_};
 ghost use mathlib.Core.List.{_++_};
 ghost use Prim.Native.Nat.{ℕ, _-_, _*_, _≤_};
@@ -38,7 +39,7 @@ pub fn room(port: u8) -> usize
 }
 
 // The latch of a port becomes a value.
-fn latch(ports: &mut [u8; 7], port: u8, value: u8)
+fn latch(ports: &mut [u8; LATCHES], port: u8, value: u8)
     requires { ⌜ (2 ≤ port) × (port ≤ 8) ⌝ }
     ensures { λ _. ⌜ now (ports .exit) ≡ set (now (ports .entry)) (port - 2) value ⌝ }
 {
@@ -47,7 +48,7 @@ fn latch(ports: &mut [u8; 7], port: u8, value: u8)
 }
 
 // Appends the writes that `port` and `value` stand for, in cycle n, and answers their bytes.
-pub fn output(log: &mut [u8], ports: &mut [u8; 7], n: u64, port: u8, value: u8) -> usize
+pub fn output(log: &mut [u8], ports: &mut [u8; LATCHES], n: u64, port: u8, value: u8) -> usize
     requires { ⌜ (8 * length (writesOf port value) ≤ length (now log)) × All ValidWrite (writesOf port value) ⌝ }
     ensures { λ r. ⌜ Written (now (log .entry)) (now (ports .entry)) n (writesOf port value) (now (log .exit)) (now (ports .exit)) r ⌝ }
 {

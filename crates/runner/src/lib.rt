@@ -10,7 +10,10 @@ use runs::RunEnd;
 use runs::Stop;
 use schedule::Cursor;
 use upd546::Core;
+use upd546::LATCHES;
 use upd546::Lines;
+use upd546::RAM_WORDS;
+use upd546::ROM_LENGTH;
 use upd546::RunAnswer;
 use upd546::State;
 ghost use mathlib.Core.Path.{_≡_};
@@ -26,7 +29,7 @@ ghost use Rattle.laws.proofs.Stops.{StopNumber};
 fn refusal(rom: &[u8], sched: &[u8], s: State, n: MachineCycles) -> Outcome
     ensures { λ r. ⌜ outcomeNumber r ≡ runNumber upd546 (now (rom .entry)) (now (sched .entry)) s (n .0) ⌝ }
 {
-    if rom.len() != 2000 {
+    if rom.len() != ROM_LENGTH {
         return Outcome::Refused(Refusal::RomLength);
     }
     let by_schedule = schedule::check(sched);
@@ -56,7 +59,7 @@ fn stop_of(k: u8) -> Stop
     }
 }
 
-fn state_of(core: Core, ram: [u8; 96], ports: [u8; 7], n: u64) -> State
+fn state_of(core: Core, ram: [u8; RAM_WORDS], ports: [u8; LATCHES], n: u64) -> State
     ensures { λ r. ⌜ r ≡ stateOf core ram ports n ⌝ }
 {
     State {

@@ -3,12 +3,18 @@
 use upd546::Core;
 use upd546::Flow;
 use upd546::Lines;
+use upd546::MARK_EI;
+use upd546::MARK_OTHER;
+use upd546::MARK_STM;
 use upd546::Timer;
 ghost use mathlib.Core.Path.{_≡_};
 ghost use Prim.Native.Nat.{_<_, _≤_};
 ghost use Rattle.upd546.specs.TheMachine.{follows as followsOf, past};
 ghost use Rattle.upd546.specs.Timer.{stepRegister, tick as tickOf};
 ghost use Rattle.upd546.specs.OneMachineCycle.{accepts as acceptsOf, accepted as acceptedOf, taken as takenOf, paid as paidOf, ticked as tickedOf};
+
+// 03C: where an accepted interrupt goes.
+const INTERRUPT_ADDRESS: u16 = 60;
 
 // The address that follows: only the low 8 bits count up.
 pub fn follows(a: u16) -> u16
@@ -75,7 +81,7 @@ pub fn ticked(c: Core) -> Core
     requires { ⌜ c .timer .register < 64 ⌝ }
     ensures { λ r. ⌜ r ≡ tickedOf c ⌝ }
 {
-    if c.mark == 3 {
+    if c.mark == MARK_STM {
         return c;
     }
     let mut d = c;
@@ -112,7 +118,7 @@ pub fn paid(c: Core) -> Core
 pub fn accepts(c: Core) -> bool
     ensures { λ r. ⌜ r ≡ acceptsOf c ⌝ }
 {
-    (c.owed == 0) & (c.interrupt.inte == 1) & (c.interrupt.int == 1) & (c.mark != 2)
+    (c.owed == 0) & (c.interrupt.inte == 1) & (c.interrupt.int == 1) & (c.mark != MARK_EI)
 }
 
 pub fn accepted(c: Core) -> Core
@@ -120,13 +126,13 @@ pub fn accepted(c: Core) -> Core
 {
     let stack = c.flow.stack;
     let flow = Flow {
-        pc: 60,
+        pc: INTERRUPT_ADDRESS,
         stack: [c.flow.pc, stack[0], stack[1]],
     };
     let mut d = c;
     d.flow = flow;
     d.interrupt.int = 0;
     d.interrupt.inte = 0;
-    d.mark = 0;
+    d.mark = MARK_OTHER;
     d
 }

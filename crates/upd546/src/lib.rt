@@ -7,6 +7,26 @@ use runs::RunEnd;
 ghost use mathlib.Core.Path.{_≡_};
 ghost use Rattle.upd546.specs.TheMachine.{fresh};
 
+// The sizes of the chip. `romLength`, `lastAddress`, `ramLength`, `stackDepth` and `latches` are the same numbers.
+pub const ROM_LENGTH: usize = 2000;
+
+pub const LAST_ADDRESS: u16 = 1999;
+
+pub const RAM_WORDS: usize = 96;
+
+pub const STACK_DEPTH: usize = 3;
+
+pub const LATCHES: usize = 7;
+
+// The mark: the kind of the last instruction begun.
+pub const MARK_OTHER: u8 = 0;
+
+pub const MARK_LDI: u8 = 1;
+
+pub const MARK_EI: u8 = 2;
+
+pub const MARK_STM: u8 = 3;
+
 // Acc, C, C' and DP. Flags are 0 or 1.
 pub struct Registers {
     pub acc: u8,
@@ -19,7 +39,7 @@ pub struct Registers {
 // PC and the stack, newest first.
 pub struct Flow {
     pub pc: u16,
-    pub stack: [u16; 3],
+    pub stack: [u16; STACK_DEPTH],
 }
 
 // The flip-flops INT and INTE, and the INT level last seen.
@@ -49,8 +69,8 @@ pub struct Core {
 // The whole machine: the core, the output latches of ports C to I, the RAM (rows 0 to 4 and 7) and the cycle number.
 pub struct State {
     pub core: Core,
-    pub ports: [u8; 7],
-    pub ram: [u8; 96],
+    pub ports: [u8; LATCHES],
+    pub ram: [u8; RAM_WORDS],
     pub cycle: MachineCycles,
 }
 
@@ -110,8 +130,8 @@ pub fn fresh_state() -> State
             mark: 0,
             owed: 0,
         },
-        ports: [0; 7],
-        ram: [0; 96],
+        ports: [0; LATCHES],
+        ram: [0; RAM_WORDS],
         cycle: MachineCycles(0),
     }
 }
