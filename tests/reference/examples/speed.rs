@@ -1,83 +1,81 @@
-//! Machine cycles per second on random ROMs with a full schedule, the best of several rounds.
+//! The same runs as crates/speed, by this interpreter: reads the same 8 bytes (a seed, a load, a runner, the number of slices)
+//! and writes the same line.
 
-use std::time::Instant;
+use std::io::Read;
 
 use reference::{run, Runner, State};
 
-const ROUNDS: usize = 3;
-const ROMS: u64 = 8;
-const SLICES: u64 = 10;
-const SLICE: u64 = 1_000_000;
+const SLICE: u64 = 100_000;
 
-fn next(seed: &mut u64) -> u64 {
-    *seed ^= *seed << 13;
-    *seed ^= *seed >> 7;
-    *seed ^= *seed << 17;
-    *seed >> 16
+struct Generator(u32);
+
+impl Generator {
+    fn next(&mut self) -> u8 {
+        self.0 = self.0.wrapping_mul(1_664_525).wrapping_add(1_013_904_223);
+        (self.0 >> 24) as u8
+    }
 }
 
-/// Random bytes that lead nowhere above the ROM and to no code that is none. With few JCP a run
-/// goes far before it goes round.
-fn random_rom(seed: &mut u64, few_jcp: bool) -> Vec<u8> {
-    let mut rom: Vec<u8> = (0..2_000).map(|_| next(seed) as u8).collect();
-    for byte in &mut rom {
-        if few_jcp && *byte >= 0xC0 && !next(seed).is_multiple_of(8) {
-            *byte = (next(seed) % 0xC0) as u8;
-        }
-        if matches!(*byte, 0x1C | 0x45 | 0xA7 | 0xAF) {
-            *byte = 0;
-        }
+fn make_rom(from: &mut Generator, load: u8) -> Vec<u8> {
+    let mut rom: Vec<u8> = (0..2_000).map(|_| staying(code(load, from.next()))).collect();
+    if load == 2 {
+        rom[..5].copy_from_slice(&[0x14, 0xBF, 0x05, 0xC2, 0xC0]);
     }
-    rom[0x7C0..0x7CE].fill(0);
-    rom[0x7CE..].copy_from_slice(&[0xA0, 0x00]);
     rom
 }
 
-/// 4,096 records, spread over the run.
-fn full_schedule(seed: &mut u64) -> Vec<u8> {
+fn code(load: u8, x: u8) -> u8 {
+    if load == 1 && x >= 0xC0 {
+        x - 0xC0
+    } else {
+        x
+    }
+}
+
+fn staying(x: u8) -> u8 {
+    match x {
+        0x1C | 0x45 => 0,
+        0xA7 => 0xA6,
+        0xAF => 0xAE,
+        _ => x,
+    }
+}
+
+fn make_schedule(from: &mut Generator) -> Vec<u8> {
     let mut schedule = Vec::new();
     let mut cycle = 0;
     for _ in 0..4_096 {
+        cycle += 1 + 16 * u64::from(from.next());
         schedule.extend_from_slice(&u64::to_be_bytes(cycle)[2..]);
-        let lines = next(seed);
-        schedule.extend([lines as u8, (lines >> 8) as u8, (lines >> 16) as u8 & 1, 0]);
-        cycle += 1 + next(seed) % (2 * SLICES * SLICE / 4_096);
+        schedule.extend([from.next(), from.next(), from.next() % 2, 0]);
     }
     schedule
 }
 
 fn main() {
-    let mut log = vec![0; 8 * SLICE as usize + 8];
-    for (few_jcp, kind) in [(false, "random"), (true, "random with few JCP")] {
-        for runner in [Runner::Plain, Runner::Skipping] {
-            let mut best = f64::INFINITY;
-            let (mut cycles, mut begun, mut records) = (0, 0, 0);
-            for _ in 0..ROUNDS {
-                let mut seed = 0x1978_0546;
-                let mut seconds = 0.0;
-                (cycles, begun, records) = (0, 0, 0);
-                for _ in 0..ROMS {
-                    let rom = random_rom(&mut seed, few_jcp);
-                    let schedule = full_schedule(&mut seed);
-                    let mut state = State::fresh();
-                    let clock = Instant::now();
-                    for _ in 0..SLICES {
-                        let answer = run(runner, &rom, &schedule, &state, &mut log, SLICE);
-                        assert_eq!(answer.number, 0);
-                        cycles += answer.cycles;
-                        begun += answer.begun;
-                        records += answer.written / 8;
-                        state = answer.state;
-                    }
-                    seconds += clock.elapsed().as_secs_f64();
-                }
-                best = best.min(seconds);
-            }
-            let speed = cycles as f64 / best / 1e6;
-            println!(
-                "{kind}, {runner:?}: {speed:.0} million cycles per second \
-                 ({cycles} cycles, {begun} instructions, {records} records)"
-            );
+    let mut input = [0; 8];
+    std::io::stdin().read_exact(&mut input).expect("8 bytes");
+    let [s0, s1, s2, s3, load, runner, n1, n0] = input;
+    let runner = match runner {
+        0 => Runner::Plain,
+        _ => return println!("no such runner"),
+    };
+    let mut from = Generator(u32::from_be_bytes([s0, s1, s2, s3]));
+    let rom = make_rom(&mut from, load);
+    let schedule = make_schedule(&mut from);
+    let mut log = vec![0; 8 * SLICE as usize + 8_008];
+    let mut state = State::fresh();
+    let (mut cycles, mut begun, mut bytes, mut digest) = (0, 0, 0, 0);
+    for _ in 0..u16::from_be_bytes([n1, n0]) {
+        let answer = run(runner, &rom, &schedule, &state, &mut log, SLICE);
+        cycles += answer.cycles;
+        begun += answer.begun;
+        bytes += answer.written;
+        if let Some(at) = answer.written.checked_sub(8) {
+            let last = 256 * u64::from(log[at + 5]) + u64::from(log[at + 7]);
+            digest = (digest * 31 + last) % 1_000_000_007;
         }
+        state = answer.state;
     }
+    println!("{cycles} {begun} {bytes} {digest} {}", state.pc);
 }
