@@ -21,12 +21,13 @@ use upd546::MARK_LDI;
 use upd546::MARK_OTHER;
 use upd546::MARK_STM;
 use upd546::Registers;
+use upd546::STACK_DEPTH;
 use upd546::Timer;
 ghost use mathlib.Core.Path.{_≡_};
 ghost use mathlib.Core.Bool.{false};
 ghost use mathlib.Core.List.{List};
 ghost use Prim.Native.Nat.{ℕ, _+_, _*_, _^_, _<_};
-ghost use Rattle.upd546.specs.TheMachine.{placeOf};
+ghost use Rattle.upd546.specs.TheMachine.{placeOf, markOther};
 ghost use Rattle.upd546.specs.Bytes.{bitAt, withBit};
 ghost use Rattle.upd546.specs.Ports.{readPort, outputs, bitWritten, bitOutputs, portE};
 ghost use Rattle.decode.specs.Named.{namedSum, namedBit, namedPointer, namedWorking, namedFlag, namedJump, namedControl, namedPort};
@@ -328,6 +329,17 @@ pub fn sum_group(op: Sum, g: Given, word: u8) -> Summed
     }
 }
 
+fn sum_left(acc: u8, carry: u8, word: u8, skip: bool) -> Summed
+    ensures { λ r. ⌜ r ≡ record { acc = acc; carry = carry; word = word; skip = skip } ⌝ }
+{
+    Summed {
+        acc,
+        carry,
+        word,
+        skip,
+    }
+}
+
 // Bits of Acc and M, and constants.
 pub fn bit_group(op: Bit, g: Given, word: u8) -> Summed
     requires { ⌜ Scalars (g .core) × (word < 16) ⌝ }
@@ -338,54 +350,14 @@ pub fn bit_group(op: Bit, g: Given, word: u8) -> Summed
     let b = g.code % 4;
     let k = g.second % 16;
     match op {
-        Bit::Tab => Summed {
-            acc,
-            carry,
-            word,
-            skip: bit(acc, b) == 1,
-        },
-        Bit::Rar => Summed {
-            acc: acc / 2 + 8 * carry,
-            carry: acc % 2,
-            word,
-            skip: false,
-        },
-        Bit::Cmb => Summed {
-            acc,
-            carry,
-            word,
-            skip: bit(acc, b) == bit(word, b),
-        },
-        Bit::Tmb => Summed {
-            acc,
-            carry,
-            word,
-            skip: bit(word, b) == 1,
-        },
-        Bit::Rmb => Summed {
-            acc,
-            carry,
-            word: with_bit(word, b, 0),
-            skip: false,
-        },
-        Bit::Smb => Summed {
-            acc,
-            carry,
-            word: with_bit(word, b, 1),
-            skip: false,
-        },
-        Bit::Li => Summed {
-            acc: g.code % 16,
-            carry,
-            word,
-            skip: false,
-        },
-        Bit::Ci => Summed {
-            acc,
-            carry,
-            word,
-            skip: acc == k,
-        },
+        Bit::Tab => sum_left(acc, carry, word, bit(acc, b) == 1),
+        Bit::Rar => sum_left(acc / 2 + 8 * carry, acc % 2, word, false),
+        Bit::Cmb => sum_left(acc, carry, word, bit(acc, b) == bit(word, b)),
+        Bit::Tmb => sum_left(acc, carry, word, bit(word, b) == 1),
+        Bit::Rmb => sum_left(acc, carry, with_bit(word, b, 0), false),
+        Bit::Smb => sum_left(acc, carry, with_bit(word, b, 1), false),
+        Bit::Li => sum_left(g.code % 16, carry, word, false),
+        Bit::Ci => sum_left(acc, carry, word, acc == k),
     }
 }
 
@@ -416,6 +388,19 @@ fn ldi(g: Given, word: u8) -> Pointed
     }
 }
 
+fn pointer_left(acc: u8, dph: u8, dpl: u8, word: u8, skip: bool) -> Pointed
+    ensures { λ r. ⌜ r ≡ record { acc = acc; dph = dph; dpl = dpl; mark = markOther; word = word; skip = skip } ⌝ }
+{
+    Pointed {
+        acc,
+        dph,
+        dpl,
+        mark: MARK_OTHER,
+        word,
+        skip,
+    }
+}
+
 // DP, and M with it.
 pub fn pointer_group(op: Pointer, g: Given, word: u8) -> Pointed
     requires { ⌜ Scalars (g .core) × (word < 16) ⌝ }
@@ -425,101 +410,29 @@ pub fn pointer_group(op: Pointer, g: Given, word: u8) -> Pointed
     let dph = g.core.registers.dph;
     let dpl = g.core.registers.dpl;
     let b = g.code % 4;
-    let k = g.second % 16;
     match op {
-        Pointer::Tal => Pointed {
-            acc,
-            dph,
-            dpl: acc,
-            mark: MARK_OTHER,
-            word,
-            skip: false,
-        },
-        Pointer::Tla => Pointed {
-            acc: dpl,
-            dph,
-            dpl,
-            mark: MARK_OTHER,
-            word,
-            skip: false,
-        },
-        Pointer::Ded => {
-            let v = (dpl + 15) % 16;
-            Pointed {
-                acc,
-                dph,
-                dpl: v,
-                mark: MARK_OTHER,
-                word,
-                skip: v == 15,
-            }
-        }
+        Pointer::Tal => pointer_left(acc, dph, acc, word, false),
+        Pointer::Tla => pointer_left(dpl, dph, dpl, word, false),
+        Pointer::Ded => pointer_left(acc, dph, (dpl + 15) % 16, word, (dpl + 15) % 16 == 15),
         Pointer::Ldi => ldi(g, word),
-        Pointer::Cli => Pointed {
-            acc,
-            dph,
-            dpl,
-            mark: MARK_OTHER,
-            word,
-            skip: dpl == k,
-        },
-        Pointer::Xm => Pointed {
-            acc: word,
-            dph: dph ^ b,
-            dpl,
-            mark: MARK_OTHER,
-            word: acc,
-            skip: false,
-        },
-        Pointer::Xmd => {
-            let v = (dpl + 15) % 16;
-            Pointed {
-                acc: word,
-                dph: dph ^ b,
-                dpl: v,
-                mark: MARK_OTHER,
-                word: acc,
-                skip: v == 15,
-            }
-        }
-        Pointer::Ind => {
-            let v = (dpl + 1) % 16;
-            Pointed {
-                acc,
-                dph,
-                dpl: v,
-                mark: MARK_OTHER,
-                word,
-                skip: v == 0,
-            }
-        }
-        Pointer::Lm => Pointed {
-            acc: word,
-            dph: dph ^ b,
-            dpl,
-            mark: MARK_OTHER,
-            word,
-            skip: false,
-        },
-        Pointer::Xmi => {
-            let v = (dpl + 1) % 16;
-            Pointed {
-                acc: word,
-                dph: dph ^ b,
-                dpl: v,
-                mark: MARK_OTHER,
-                word: acc,
-                skip: v == 0,
-            }
-        }
-        Pointer::Ldz => Pointed {
-            acc,
-            dph: 0,
-            dpl: g.code % 16,
-            mark: MARK_OTHER,
-            word,
-            skip: false,
-        },
+        Pointer::Cli => pointer_left(acc, dph, dpl, word, dpl == g.second % 16),
+        Pointer::Xm => pointer_left(word, dph ^ b, dpl, acc, false),
+        Pointer::Xmd => pointer_left(word, dph ^ b, (dpl + 15) % 16, acc, (dpl + 15) % 16 == 15),
+        Pointer::Ind => pointer_left(acc, dph, (dpl + 1) % 16, word, (dpl + 1) % 16 == 0),
+        Pointer::Lm => pointer_left(word, dph ^ b, dpl, word, false),
+        Pointer::Xmi => pointer_left(word, dph ^ b, (dpl + 1) % 16, acc, (dpl + 1) % 16 == 0),
+        Pointer::Ldz => pointer_left(acc, 0, g.code % 16, word, false),
+    }
+}
+
+fn working_left(acc: u8, dph: u8, dpl: u8, word: u8) -> Worked
+    ensures { λ r. ⌜ r ≡ record { acc = acc; dph = dph; dpl = dpl; word = word } ⌝ }
+{
+    Worked {
+        acc,
+        dph,
+        dpl,
+        word,
     }
 }
 
@@ -532,66 +445,16 @@ pub fn working_group(op: Working, g: Given, word: u8) -> Worked
     let dph = g.core.registers.dph;
     let dpl = g.core.registers.dpl;
     match op {
-        Working::Taz => Worked {
-            acc,
-            dph,
-            dpl,
-            word: acc,
-        },
-        Working::Taw => Worked {
-            acc,
-            dph,
-            dpl,
-            word: acc,
-        },
-        Working::Tly => Worked {
-            acc,
-            dph,
-            dpl,
-            word: dpl,
-        },
-        Working::Thx => Worked {
-            acc,
-            dph,
-            dpl,
-            word: dph,
-        },
-        Working::Xaz => Worked {
-            acc: word,
-            dph,
-            dpl,
-            word: acc,
-        },
-        Working::Xaw => Worked {
-            acc: word,
-            dph,
-            dpl,
-            word: acc,
-        },
-        Working::Xls => Worked {
-            acc,
-            dph,
-            dpl: word,
-            word: dpl,
-        },
-        Working::Xhr => Worked {
-            acc,
-            dph: word % 8,
-            dpl,
-            word: dph,
-        },
-        Working::Xly => Worked {
-            acc,
-            dph,
-            dpl: word,
-            word: dpl,
-        },
-        Working::Xhx => Worked {
-            acc,
-            dph: word % 8,
-            dpl,
-            word: dph,
-        },
+        Working::Taz => working_left(acc, dph, dpl, acc),
+        Working::Taw => working_left(acc, dph, dpl, acc),
+        Working::Tly => working_left(acc, dph, dpl, dpl),
+        Working::Thx => working_left(acc, dph, dpl, dph),
+        Working::Xaz => working_left(word, dph, dpl, acc),
+        Working::Xaw => working_left(word, dph, dpl, acc),
+        Working::Xls => working_left(acc, dph, word, dpl),
+        Working::Xhr => working_left(acc, word % 8, dpl, dph),
+        Working::Xly => working_left(acc, dph, word, dpl),
+        Working::Xhx => working_left(acc, word % 8, dpl, dph),
     }
 }
 
@@ -621,6 +484,15 @@ pub fn flag_group(op: Flag, g: Given, word: u8) -> Flagged
     }
 }
 
+fn jump_left(pc: u16, stack: [u16; STACK_DEPTH], skip: bool) -> Jumped
+    ensures { λ r. ⌜ r ≡ record { flow = record { pc = pc; stack = stack }; skip = skip } ⌝ }
+{
+    Jumped {
+        flow: Flow { pc, stack },
+        skip,
+    }
+}
+
 // PC and the stack.
 pub fn jump_group(op: Jump, g: Given) -> Jumped
     requires { ⌜ Scalars (g .core) ⌝ }
@@ -633,52 +505,13 @@ pub fn jump_group(op: Jump, g: Given) -> Jumped
     let page = g.core.flow.pc / 64 * 64;
     let target = 256 * ((g.code % 8) as u16) + (g.second as u16);
     match op {
-        Jump::Jpa => Jumped {
-            flow: Flow {
-                pc: page + 4 * (g.core.registers.acc as u16),
-                stack,
-            },
-            skip: false,
-        },
-        Jump::Rt => Jumped {
-            flow: Flow {
-                pc: s0,
-                stack: [s1, s2, s2],
-            },
-            skip: false,
-        },
-        Jump::Rts => Jumped {
-            flow: Flow {
-                pc: s0,
-                stack: [s1, s2, s2],
-            },
-            skip: true,
-        },
-        Jump::Jmp => Jumped {
-            flow: Flow { pc: target, stack },
-            skip: false,
-        },
-        Jump::Cal => Jumped {
-            flow: Flow {
-                pc: target,
-                stack: [g.after, s0, s1],
-            },
-            skip: false,
-        },
-        Jump::Czp => Jumped {
-            flow: Flow {
-                pc: 4 * ((g.code % 16) as u16),
-                stack: [g.after, s0, s1],
-            },
-            skip: false,
-        },
-        Jump::Jcp => Jumped {
-            flow: Flow {
-                pc: page + ((g.code % 64) as u16),
-                stack,
-            },
-            skip: false,
-        },
+        Jump::Jpa => jump_left(page + 4 * (g.core.registers.acc as u16), stack, false),
+        Jump::Rt => jump_left(s0, [s1, s2, s2], false),
+        Jump::Rts => jump_left(s0, [s1, s2, s2], true),
+        Jump::Jmp => jump_left(target, stack, false),
+        Jump::Cal => jump_left(target, [g.after, s0, s1], false),
+        Jump::Czp => jump_left(4 * ((g.code % 16) as u16), [g.after, s0, s1], false),
+        Jump::Jcp => jump_left(page + ((g.code % 64) as u16), stack, false),
     }
 }
 
@@ -827,67 +660,14 @@ fn output_bit(ports: &[u8; LATCHES], p: u8, b: u8, v: u8) -> Output
     Output { port: 0, value: 0 }
 }
 
-// Ports.
-pub fn port_group(op: Port, g: Given, ports: &[u8; LATCHES]) -> Ported
-    requires { ⌜ Scalars (g .core) × ValidPorts (now ports) ⌝ }
-    ensures { λ r. ⌜ ((word : ℕ) → namedPort op .effect (chipGiven g word (now (ports .entry))) ≡ ported (chipGiven g word (now (ports .entry))) r) ⌝ }
+fn port_left(acc: u8, skip: bool, port: u8, value: u8) -> Ported
+    ensures { λ r. ⌜ r ≡ record { acc = acc; skip = skip; port = port; value = value } ⌝ }
 {
-    let acc = g.core.registers.acc;
-    let dpl = g.core.registers.dpl;
-    let b = g.code % 4;
-    let l = g.lines;
-    match op {
-        Port::Op => written(acc, output_port(dpl, acc)),
-        Port::Ocd => Ported {
-            acc,
-            skip: false,
-            port: 9,
-            value: g.second,
-        },
-        Port::Oe => Ported {
-            acc,
-            skip: false,
-            port: 4,
-            value: acc,
-        },
-        Port::Rpb => written(acc, output_bit(ports, dpl, b, 0)),
-        Port::Reb => Ported {
-            acc,
-            skip: false,
-            port: 4,
-            value: with_bit(ports[2], b, 0),
-        },
-        Port::Spb => written(acc, output_bit(ports, dpl, b, 1)),
-        Port::Seb => Ported {
-            acc,
-            skip: false,
-            port: 4,
-            value: with_bit(ports[2], b, 1),
-        },
-        Port::Ip => Ported {
-            acc: read_port(l, dpl),
-            skip: false,
-            port: 0,
-            value: 0,
-        },
-        Port::Ia => Ported {
-            acc: g.lines.a,
-            skip: false,
-            port: 0,
-            value: 0,
-        },
-        Port::Tpb => Ported {
-            acc,
-            skip: bit(read_port(l, dpl), b) == 1,
-            port: 0,
-            value: 0,
-        },
-        Port::Tpa => Ported {
-            acc,
-            skip: bit(g.lines.a, b) == 1,
-            port: 0,
-            value: 0,
-        },
+    Ported {
+        acc,
+        skip,
+        port,
+        value,
     }
 }
 
@@ -899,5 +679,29 @@ fn written(acc: u8, o: Output) -> Ported
         skip: false,
         port: o.port,
         value: o.value,
+    }
+}
+
+// Ports.
+pub fn port_group(op: Port, g: Given, ports: &[u8; LATCHES]) -> Ported
+    requires { ⌜ Scalars (g .core) × ValidPorts (now ports) ⌝ }
+    ensures { λ r. ⌜ ((word : ℕ) → namedPort op .effect (chipGiven g word (now (ports .entry))) ≡ ported (chipGiven g word (now (ports .entry))) r) ⌝ }
+{
+    let acc = g.core.registers.acc;
+    let dpl = g.core.registers.dpl;
+    let b = g.code % 4;
+    let l = g.lines;
+    match op {
+        Port::Op => written(acc, output_port(dpl, acc)),
+        Port::Ocd => port_left(acc, false, 9, g.second),
+        Port::Oe => port_left(acc, false, 4, acc),
+        Port::Rpb => written(acc, output_bit(ports, dpl, b, 0)),
+        Port::Reb => port_left(acc, false, 4, with_bit(ports[2], b, 0)),
+        Port::Spb => written(acc, output_bit(ports, dpl, b, 1)),
+        Port::Seb => port_left(acc, false, 4, with_bit(ports[2], b, 1)),
+        Port::Ip => port_left(read_port(l, dpl), false, 0, 0),
+        Port::Ia => port_left(g.lines.a, false, 0, 0),
+        Port::Tpb => port_left(acc, bit(read_port(l, dpl), b) == 1, 0, 0),
+        Port::Tpa => port_left(acc, bit(g.lines.a, b) == 1, 0, 0),
     }
 }

@@ -30,65 +30,86 @@ add-target c = search needs
 enum-told : tie.Need-enum-told
 enum-told c = search needs
 
-cast-t20 : tie.Need-cast-t20
-cast-t20 c = search needs
+cast-jump-left : tie.Need-cast-jump-left
+cast-jump-left c = search needs
 
-mul-t21 : tie.Need-mul-t21
-mul-t21 c = search needs
+mul-jump-left : tie.Need-mul-jump-left
+mul-jump-left c = search needs
 
-add-t22 : tie.Need-add-t22
-add-t22 c = search needs
+add-jump-left : tie.Need-add-jump-left
+add-jump-left c = search needs
+
+jump-left-requires : tie.Need-jump-left-requires
+jump-left-requires c κs = search needs
 
 enum-told-2 : tie.Need-enum-told-2
 enum-told-2 c = search needs
 
+jump-left-requires-2 : tie.Need-jump-left-requires-2
+jump-left-requires-2 c κs = search needs
+
 enum-told-3 : tie.Need-enum-told-3
 enum-told-3 c = search needs
+
+jump-left-requires-3 : tie.Need-jump-left-requires-3
+jump-left-requires-3 c κs = search needs
 
 enum-told-4 : tie.Need-enum-told-4
 enum-told-4 c = search needs
 
+jump-left-requires-4 : tie.Need-jump-left-requires-4
+jump-left-requires-4 c κs = search needs
+
 enum-told-5 : tie.Need-enum-told-5
 enum-told-5 c = search needs
+
+jump-left-requires-5 : tie.Need-jump-left-requires-5
+jump-left-requires-5 c κs = search needs
 
 enum-told-6 : tie.Need-enum-told-6
 enum-told-6 c = search needs
 
-cast-t34 : tie.Need-cast-t34
-cast-t34 c = search needs
+cast-jump-left-2 : tie.Need-cast-jump-left-2
+cast-jump-left-2 c = search needs
 
-mul-t35 : tie.Need-mul-t35
-mul-t35 c = search needs
+mul-jump-left-2 : tie.Need-mul-jump-left-2
+mul-jump-left-2 c = search needs
+
+jump-left-requires-6 : tie.Need-jump-left-requires-6
+jump-left-requires-6 c κs = search needs
 
 enum-told-7 : tie.Need-enum-told-7
 enum-told-7 c = search needs
 
-cast-t39 : tie.Need-cast-t39
-cast-t39 c = search needs
+cast-jump-left-3 : tie.Need-cast-jump-left-3
+cast-jump-left-3 c = search needs
 
-add-t40 : tie.Need-add-t40
-add-t40 c = search needs
+add-jump-left-2 : tie.Need-add-jump-left-2
+add-jump-left-2 c = search needs
+
+jump-left-requires-7 : tie.Need-jump-left-requires-7
+jump-left-requires-7 c κs = search needs
 
 returns : tie.Need-returns
-returns c word ports = rw (c .before .enum-told .given .1)
+returns c word ports = rw (c .before .before .enum-told .given .1, c .jump-left .ensures)
 
 returns-2 : tie.Need-returns-2
-returns-2 c word ports = rw (c .enum-told2 .given .1)
+returns-2 c word ports = rw (c .before .enum-told2 .given .1, c .jump-left2 .ensures)
 
 returns-3 : tie.Need-returns-3
-returns-3 c word ports = rw (c .enum-told3 .given .1)
+returns-3 c word ports = rw (c .before .enum-told3 .given .1, c .jump-left3 .ensures)
 
 returns-4 : tie.Need-returns-4
-returns-4 c word ports = rw (c .enum-told4 .given .1)
+returns-4 c word ports = rw (c .before .enum-told4 .given .1, c .jump-left4 .ensures)
 
 returns-5 : tie.Need-returns-5
-returns-5 c word ports = rw (c .enum-told5 .given .1)
+returns-5 c word ports = rw (c .before .enum-told5 .given .1, c .jump-left5 .ensures)
 
 returns-6 : tie.Need-returns-6
-returns-6 c word ports = rw (c .before .enum-told6 .given .1)
+returns-6 c word ports = rw (c .before .before .enum-told6 .given .1, c .jump-left6 .ensures)
 
 returns-7 : tie.Need-returns-7
-returns-7 c word ports = rw (c .before .enum-told7 .given .1)
+returns-7 c word ports = rw (c .before .before .enum-told7 .given .1, c .jump-left7 .ensures)
 
 pub jump-group-spec : {M : Type 1} → statement M
 jump-group-spec =
@@ -103,19 +124,26 @@ jump-group-spec =
     cast-target-2
     add-target
     enum-told
-    cast-t20
-    mul-t21
-    add-t22
+    cast-jump-left
+    mul-jump-left
+    add-jump-left
+    jump-left-requires
     enum-told-2
+    jump-left-requires-2
     enum-told-3
+    jump-left-requires-3
     enum-told-4
+    jump-left-requires-4
     enum-told-5
+    jump-left-requires-5
     enum-told-6
-    cast-t34
-    mul-t35
+    cast-jump-left-2
+    mul-jump-left-2
+    jump-left-requires-6
     enum-told-7
-    cast-t39
-    add-t40
+    cast-jump-left-3
+    add-jump-left-2
+    jump-left-requires-7
     returns
     returns-2
     returns-3
