@@ -18,12 +18,16 @@ held-requires c κs = search needs
 
 returns : tie.Need-returns
 returns c =
-    let a = c .before .before .before .before .before .before .args in
+    let at-if1 = c .before in
+    let at-fetch-at = at-if1 .before .before in
+    let at-entry = at-fetch-at .before .before .before in
+    let a = at-entry .args in
     let rom = now (a .rom) in
     let s = stateOf (a .before) (now (a .ram)) (now (a .ports)) (a .n) in
     let log = now (a .log) in
-    let f = c .before .before .before .fetch-at .ensures in
-    rw (c .held .ensures) (holds-fetch rom (a .lines) s (a .c) log (c .before .before .before .fetch-at .result .stop) (c .before .if1 .taken) (f .stop))
+    let f = at-fetch-at .fetch-at .ensures in
+    rw (c .held .ensures)
+    (holds-fetch rom (a .lines) s (a .c) log (at-fetch-at .fetch-at .result .stop) (at-if1 .if1 .taken) (f .stop))
 
 effect-of-requires : tie.Need-effect-of-requires
 effect-of-requires c κs = search needs
@@ -36,16 +40,24 @@ held-requires-2 c κs = search needs
 
 returns-2 : tie.Need-returns-2
 returns-2 c =
-    let a = c .before .before .before .before .before .before .before .before .before .before .before .before .args in
+    let at-if2 = c .before in
+    let at-pass-over = at-if2 .before .before in
+    let at-effect-of = at-pass-over .before in
+    let at-if1 = at-effect-of .before .before .before in
+    let at-fetch-at = at-if1 .before .before in
+    let at-entry = at-fetch-at .before .before .before in
+    let a = at-entry .args in
     let rom = now (a .rom) in
     let s = stateOf (a .before) (now (a .ram)) (now (a .ports)) (a .n) in
     let log = now (a .log) in
-    let f = c .before .before .before .before .before .before .before .before .before .fetch-at .ensures in
-    let z = sym (f .stop) ∙ c .before .before .before .before .before .before .before .if1 .left in
-    let b = f .begins (c .before .before .before .before .before .before .before .if1 .left) in
-    let e = c .before .before .before .before .effect-of .result in
-    let d = does-due rom (a .lines) s (a .c) (c .before .before .before .before .before .before .before .before .before .fetch-at .result) b e (c .before .before .before .before .effect-of .ensures) in
-    rw (c .held2 .ensures) (holds-skip rom (a .lines) s (a .c) log (c .before .before .before .before .before .before .before .before .before .fetch-at .result) b z e d (c .before .before .before .pass-over .result) (c .before .before .before .pass-over .ensures) (c .before .if2 .taken))
+    let f = at-fetch-at .fetch-at .ensures in
+    let z = sym (f .stop) ∙ at-if1 .if1 .left in
+    let b = f .begins (at-if1 .if1 .left) in
+    let e = at-effect-of .effect-of .result in
+    let d = does-due rom (a .lines) s (a .c) (at-fetch-at .fetch-at .result) b e (at-effect-of .effect-of .ensures) in
+    rw (c .held2 .ensures)
+    (holds-skip rom (a .lines) s (a .c) log (at-fetch-at .fetch-at .result) b z e d (at-pass-over .pass-over .result)
+    (at-pass-over .pass-over .ensures) (at-if2 .if2 .taken))
 
 room-requires : tie.Need-room-requires
 room-requires c κs = search needs
@@ -55,92 +67,143 @@ held-requires-3 c κs = search needs
 
 returns-3 : tie.Need-returns-3
 returns-3 c =
-    let a = c .before .before .before .before .before .before .before .before .before .before .before .before .before .before .args in
+    let at-if3 = c .before in
+    let at-room = at-if3 .before in
+    let at-if2 = at-room .before in
+    let at-pass-over = at-if2 .before .before in
+    let at-effect-of = at-pass-over .before in
+    let at-if1 = at-effect-of .before .before .before in
+    let at-fetch-at = at-if1 .before .before in
+    let at-entry = at-fetch-at .before .before .before in
+    let a = at-entry .args in
     let rom = now (a .rom) in
     let s = stateOf (a .before) (now (a .ram)) (now (a .ports)) (a .n) in
     let log = now (a .log) in
-    let f = c .before .before .before .before .before .before .before .before .before .before .before .fetch-at .ensures in
-    let z = sym (f .stop) ∙ c .before .before .before .before .before .before .before .before .before .if1 .left in
-    let b = f .begins (c .before .before .before .before .before .before .before .before .before .if1 .left) in
-    let e = c .before .before .before .before .before .before .effect-of .result in
-    let d = does-due rom (a .lines) s (a .c) (c .before .before .before .before .before .before .before .before .before .before .before .fetch-at .result) b e (c .before .before .before .before .before .before .effect-of .ensures) in
+    let f = at-fetch-at .fetch-at .ensures in
+    let z = sym (f .stop) ∙ at-if1 .if1 .left in
+    let b = f .begins (at-if1 .if1 .left) in
+    let e = at-effect-of .effect-of .result in
+    let d = does-due rom (a .lines) s (a .c) (at-fetch-at .fetch-at .result) b e (at-effect-of .effect-of .ensures) in
     rw (c .held3 .ensures)
-    (holds-room rom (a .lines) s (a .c) log (c .before .before .before .before .before .before .before .before .before .before .before .fetch-at .result) b z e d (c .before .before .before .before .before .pass-over .result) (c .before .before .before .before .before .pass-over .ensures) (c .before .before .before .if2 .left)
-    (rw (c .before .before .room .ensures (e .value)) at (c .before .if3 .taken)))
+    (holds-room rom (a .lines) s (a .c) log (at-fetch-at .fetch-at .result) b z e d (at-pass-over .pass-over .result)
+    (at-pass-over .pass-over .ensures) (at-if2 .if2 .left)
+    (rw (at-room .room .ensures (e .value)) at (at-if3 .if3 .taken)))
 
 output-requires : tie.Need-output-requires
 output-requires c κs =
-    let a = c .before .before .before .before .before .before .before .before .before .before .before .before .before .before .before .args in
+    let at-if3 = c .before .before in
+    let at-room = at-if3 .before in
+    let at-effect-of = at-room .before .before .before .before in
+    let at-if1 = at-effect-of .before .before .before in
+    let at-fetch-at = at-if1 .before .before in
+    let at-entry = at-fetch-at .before .before .before in
+    let a = at-entry .args in
     let rom = now (a .rom) in
     let s = stateOf (a .before) (now (a .ram)) (now (a .ports)) (a .n) in
     let log = now (a .log) in
-    let f = c .before .before .before .before .before .before .before .before .before .before .before .before .fetch-at .ensures in
-    let z = sym (f .stop) ∙ c .before .before .before .before .before .before .before .before .before .before .if1 .left in
-    let b = f .begins (c .before .before .before .before .before .before .before .before .before .before .if1 .left) in
-    let e = c .before .before .before .before .before .before .before .effect-of .result in
-    let d = does-due rom (a .lines) s (a .c) (c .before .before .before .before .before .before .before .before .before .before .before .before .fetch-at .result) b e (c .before .before .before .before .before .before .before .effect-of .ensures) in
-    (rw (c .before .before .before .room .ensures (e .value)) at (c .before .before .if3 .left), rw (d .writes) (due-valid rom (now (a .table)) (a .lines) s (a .c) (c .before .before .before .before .before .before .before .before .before .before .before .before .before .before .before .pre .0) (c .before .before .before .before .before .before .before .before .before .before .before .before .before .before .before .pre .1) .writes))
+    let f = at-fetch-at .fetch-at .ensures in
+    let z = sym (f .stop) ∙ at-if1 .if1 .left in
+    let b = f .begins (at-if1 .if1 .left) in
+    let e = at-effect-of .effect-of .result in
+    let d = does-due rom (a .lines) s (a .c) (at-fetch-at .fetch-at .result) b e (at-effect-of .effect-of .ensures) in
+    (rw (at-room .room .ensures (e .value)) at (at-if3 .if3 .left), rw (d .writes) (due-valid rom (now (a .table)) (a .lines) s (a .c) (at-entry .pre .0) (at-entry .pre .1) .writes))
 
 store-requires : tie.Need-store-requires
-store-requires c κs = c .before .before .before .before .before .before .before .before .before .before .before .before .before .before .before .before .before .before .before .pre .0 .valid .ram .count
+store-requires c κs =
+    let at-entry = c .before .before .before .before .before .before .before .before .before .before .before .before .before .before .before .before .before .before .before in
+    at-entry .pre .0 .valid .ram .count
 
 sub-finished : tie.Need-sub-finished
 sub-finished c =
-    let a = c .before .before .before .before .before .before .before .before .before .before .before .before .before .before .before .before .before .before .before .before .before .before .args in
+    let at-effect-of = c .before .before .before .before .before .before .before .before .before .before .before .before .before .before in
+    let at-if1 = at-effect-of .before .before .before in
+    let at-fetch-at = at-if1 .before .before in
+    let at-entry = at-fetch-at .before .before .before in
+    let a = at-entry .args in
     let rom = now (a .rom) in
     let s = stateOf (a .before) (now (a .ram)) (now (a .ports)) (a .n) in
     let log = now (a .log) in
-    let f = c .before .before .before .before .before .before .before .before .before .before .before .before .before .before .before .before .before .before .before .fetch-at .ensures in
-    let z = sym (f .stop) ∙ c .before .before .before .before .before .before .before .before .before .before .before .before .before .before .before .before .before .if1 .left in
-    let b = f .begins (c .before .before .before .before .before .before .before .before .before .before .before .before .before .before .before .before .before .if1 .left) in
-    let e = c .before .before .before .before .before .before .before .before .before .before .before .before .before .before .effect-of .result in
-    let d = does-due rom (a .lines) s (a .c) (c .before .before .before .before .before .before .before .before .before .before .before .before .before .before .before .before .before .before .before .fetch-at .result) b e (c .before .before .before .before .before .before .before .before .before .before .before .before .before .before .effect-of .ensures) in
+    let f = at-fetch-at .fetch-at .ensures in
+    let z = sym (f .stop) ∙ at-if1 .if1 .left in
+    let b = f .begins (at-if1 .if1 .left) in
+    let e = at-effect-of .effect-of .result in
+    let d = does-due rom (a .lines) s (a .c) (at-fetch-at .fetch-at .result) b e (at-effect-of .effect-of .ensures) in
     let some = cycles-some rom (a .lines) s (a .c) log z in
     omega (arith, some, b .cycles)
 
 add-finished : tie.Need-add-finished
 add-finished c =
-    let a = c .before .before .before .before .before .before .before .before .before .before .before .before .before .before .before .before .before .before .before .before .before .before .before .args in
+    let at-if2 = c .before .before .before .before .before .before .before .before .before .before .before .before in
+    let at-pass-over = at-if2 .before .before in
+    let at-effect-of = at-pass-over .before in
+    let at-if1 = at-effect-of .before .before .before in
+    let at-fetch-at = at-if1 .before .before in
+    let at-entry = at-fetch-at .before .before .before in
+    let a = at-entry .args in
     let rom = now (a .rom) in
     let s = stateOf (a .before) (now (a .ram)) (now (a .ports)) (a .n) in
     let log = now (a .log) in
-    let f = c .before .before .before .before .before .before .before .before .before .before .before .before .before .before .before .before .before .before .before .before .fetch-at .ensures in
-    let z = sym (f .stop) ∙ c .before .before .before .before .before .before .before .before .before .before .before .before .before .before .before .before .before .before .if1 .left in
-    let b = f .begins (c .before .before .before .before .before .before .before .before .before .before .before .before .before .before .before .before .before .before .if1 .left) in
-    let e = c .before .before .before .before .before .before .before .before .before .before .before .before .before .before .before .effect-of .result in
-    let d = does-due rom (a .lines) s (a .c) (c .before .before .before .before .before .before .before .before .before .before .before .before .before .before .before .before .before .before .before .before .fetch-at .result) b e (c .before .before .before .before .before .before .before .before .before .before .before .before .before .before .before .effect-of .ensures) in
-    let o = over-same rom (a .lines) s (a .c) log (c .before .before .before .before .before .before .before .before .before .before .before .before .before .before .before .before .before .before .before .before .fetch-at .result) b z e d (c .before .before .before .before .before .before .before .before .before .before .before .before .before .before .pass-over .result) (c .before .before .before .before .before .before .before .before .before .before .before .before .before .before .pass-over .ensures) (c .before .before .before .before .before .before .before .before .before .before .before .before .if2 .left) in
-    omega (arith, b .cycles, keeps (byteAt rom (a .c .flow .pc)) .two-cycles, o, over-small rom (a .lines) s (a .c) log (dues rom (a .lines) s (a .c)))
+    let f = at-fetch-at .fetch-at .ensures in
+    let z = sym (f .stop) ∙ at-if1 .if1 .left in
+    let b = f .begins (at-if1 .if1 .left) in
+    let e = at-effect-of .effect-of .result in
+    let d = does-due rom (a .lines) s (a .c) (at-fetch-at .fetch-at .result) b e (at-effect-of .effect-of .ensures) in
+    let o = over-same rom (a .lines) s (a .c) log (at-fetch-at .fetch-at .result) b z e d (at-pass-over .pass-over .result)
+    (at-pass-over .pass-over .ensures) (at-if2 .if2 .left) in
+    omega (
+      arith,
+      b .cycles,
+      keeps (byteAt rom (a .c .flow .pc)) .two-cycles,
+      o,
+      over-small rom (a .lines) s (a .c) log (dues rom (a .lines) s (a .c)),
+    )
 
 finished-requires : tie.Need-finished-requires
 finished-requires c κs =
-    let a = c .before .before .before .before .before .before .before .before .before .before .before .before .before .before .before .before .before .before .before .before .before .before .before .args in
+    let at-effect-of = c .before .before .before .before .before .before .before .before .before .before .before .before .before .before .before in
+    let at-if1 = at-effect-of .before .before .before in
+    let at-fetch-at = at-if1 .before .before in
+    let at-entry = at-fetch-at .before .before .before in
+    let a = at-entry .args in
     let rom = now (a .rom) in
     let s = stateOf (a .before) (now (a .ram)) (now (a .ports)) (a .n) in
     let log = now (a .log) in
-    let f = c .before .before .before .before .before .before .before .before .before .before .before .before .before .before .before .before .before .before .before .before .fetch-at .ensures in
-    let z = sym (f .stop) ∙ c .before .before .before .before .before .before .before .before .before .before .before .before .before .before .before .before .before .before .if1 .left in
-    let b = f .begins (c .before .before .before .before .before .before .before .before .before .before .before .before .before .before .before .before .before .before .if1 .left) in
-    let e = c .before .before .before .before .before .before .before .before .before .before .before .before .before .before .before .effect-of .result in
-    let d = does-due rom (a .lines) s (a .c) (c .before .before .before .before .before .before .before .before .before .before .before .before .before .before .before .before .before .before .before .before .fetch-at .result) b e (c .before .before .before .before .before .before .before .before .before .before .before .before .before .before .before .effect-of .ensures) in
-    rw (d .core) (due-valid rom (now (a .table)) (a .lines) s (a .c) (c .before .before .before .before .before .before .before .before .before .before .before .before .before .before .before .before .before .before .before .before .before .before .before .pre .0) (c .before .before .before .before .before .before .before .before .before .before .before .before .before .before .before .before .before .before .before .before .before .before .before .pre .1) .core .scalars .register)
+    let f = at-fetch-at .fetch-at .ensures in
+    let z = sym (f .stop) ∙ at-if1 .if1 .left in
+    let b = f .begins (at-if1 .if1 .left) in
+    let e = at-effect-of .effect-of .result in
+    let d = does-due rom (a .lines) s (a .c) (at-fetch-at .fetch-at .result) b e (at-effect-of .effect-of .ensures) in
+    rw (d .core)
+    (due-valid rom (now (a .table)) (a .lines) s (a .c) (at-entry .pre .0) (at-entry .pre .1) .core .scalars .register)
 
 same-length : tie.Need-same-length
 same-length c = search needs
 
 returns-4 : tie.Need-returns-4
 returns-4 c =
-    let a = c .before .before .before .before .before .before .before .before .before .before .before .before .before .before .before .before .before .before .before .before .before .before .before .before .args in
+    let at-store = c .before .before .before .before in
+    let at-output = at-store .before .before .before .before in
+    let at-if3 = at-output .before .before .before in
+    let at-room = at-if3 .before in
+    let at-if2 = at-room .before in
+    let at-pass-over = at-if2 .before .before in
+    let at-effect-of = at-pass-over .before in
+    let at-if1 = at-effect-of .before .before .before in
+    let at-fetch-at = at-if1 .before .before in
+    let at-entry = at-fetch-at .before .before .before in
+    let a = at-entry .args in
     let rom = now (a .rom) in
     let s = stateOf (a .before) (now (a .ram)) (now (a .ports)) (a .n) in
     let log = now (a .log) in
-    let f = c .before .before .before .before .before .before .before .before .before .before .before .before .before .before .before .before .before .before .before .before .before .fetch-at .ensures in
-    let z = sym (f .stop) ∙ c .before .before .before .before .before .before .before .before .before .before .before .before .before .before .before .before .before .before .before .if1 .left in
-    let b = f .begins (c .before .before .before .before .before .before .before .before .before .before .before .before .before .before .before .before .before .before .before .if1 .left) in
-    let e = c .before .before .before .before .before .before .before .before .before .before .before .before .before .before .before .before .effect-of .result in
-    let d = does-due rom (a .lines) s (a .c) (c .before .before .before .before .before .before .before .before .before .before .before .before .before .before .before .before .before .before .before .before .before .fetch-at .result) b e (c .before .before .before .before .before .before .before .before .before .before .before .before .before .before .before .before .effect-of .ensures) in
-    goes rom (a .lines) s (a .c) log (c .before .before .before .before .before .before .before .before .before .before .before .before .before .before .before .before .before .before .before .before .before .fetch-at .result) b z e d (c .before .before .before .before .before .before .before .before .before .before .before .before .before .before .before .pass-over .result) (c .before .before .before .before .before .before .before .before .before .before .before .before .before .before .before .pass-over .ensures) (c .before .before .before .before .before .before .before .before .before .before .before .before .before .if2 .left)
-    (rw (c .before .before .before .before .before .before .before .before .before .before .before .before .room .ensures (e .value)) at (c .before .before .before .before .before .before .before .before .before .before .before .if3 .left)) (c .finished .ensures) (c .before .before .before .before .store .ensures) (c .before .before .before .before .before .before .before .before .output .ensures)
+    let f = at-fetch-at .fetch-at .ensures in
+    let z = sym (f .stop) ∙ at-if1 .if1 .left in
+    let b = f .begins (at-if1 .if1 .left) in
+    let e = at-effect-of .effect-of .result in
+    let d = does-due rom (a .lines) s (a .c) (at-fetch-at .fetch-at .result) b e (at-effect-of .effect-of .ensures) in
+    goes rom (a .lines) s (a .c) log (at-fetch-at .fetch-at .result) b z e d (at-pass-over .pass-over .result)
+    (at-pass-over .pass-over .ensures) (at-if2 .if2 .left)
+    (rw (at-room .room .ensures (e .value)) at (at-if3 .if3 .left)) (c .finished .ensures) (at-store .store .ensures)
+    (at-output .output .ensures)
 
 pub execute-spec : {M : Type 1} → statement M
 execute-spec =

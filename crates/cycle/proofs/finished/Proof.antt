@@ -17,7 +17,12 @@ same-requires-2 : tie.Need-same-requires-2
 same-requires-2 c κs = search needs
 
 returns : tie.Need-returns
-returns c = c .same2 .ensures ∙ c .before .ticked .ensures ∙ ap (λ (x : Core). ticked (setOwed (c .before .before .before .before .args .owed) (setPc (c .before .before .before .before .args .pc) x))) (c .before .before .before .same .ensures)
+returns c =
+    let at-ticked = c .before in
+    let at-same = at-ticked .before .before in
+    let at-entry = at-same .before in
+    c .same2 .ensures ∙ at-ticked .ticked .ensures ∙ ap
+    (λ (x : Core). ticked (setOwed (at-entry .args .owed) (setPc (at-entry .args .pc) x))) (at-same .same .ensures)
 
 pub finished-spec : {M : Type 1} → statement M
 finished-spec = tie.close (tie.spec same-requires ticked-requires same-requires-2 returns)

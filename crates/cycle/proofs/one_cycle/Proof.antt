@@ -22,19 +22,29 @@ taken-requires c κs = search needs
 
 ticked-requires : tie.Need-ticked-requires
 ticked-requires c κs =
-    let a = c .before .before .before .before .before .before .args in
-    let v = c .before .before .before .before .before .before .pre in
-    rw (c .taken .ensures, c .before .accepted .ensures) (taken-keeps (a .lines) (accepted (a .c)) (v .lines) (accepted-keeps (a .c) (v .valid .core)) .scalars .register)
+    let at-accepted = c .before in
+    let at-entry = at-accepted .before .before .before .before .before in
+    let a = at-entry .args in
+    let v = at-entry .pre in
+    rw (c .taken .ensures, at-accepted .accepted .ensures)
+    (taken-keeps (a .lines) (accepted (a .c)) (v .lines) (accepted-keeps (a .c) (v .valid .core)) .scalars .register)
 
 same-requires : tie.Need-same-requires
 same-requires c κs = search needs
 
 returns : tie.Need-returns
 returns c =
-    let a = c .before .before .before .before .before .before .before .before .args in
+    let at-ticked = c .before in
+    let at-taken = at-ticked .before in
+    let at-accepted = at-taken .before in
+    let at-if1 = at-accepted .before in
+    let at-accepts = at-if1 .before in
+    let at-entry = at-accepts .before .before .before in
+    let a = at-entry .args in
     let s = stateOf (a .c) (now (a .ram)) (now (a .ports)) (a .n) in
-    let e = c .same .ensures ∙ c .before .ticked .ensures ∙ ap ticked (c .before .before .taken .ensures ∙ ap (taken (a .lines)) (c .before .before .before .accepted .ensures)) in
-    lands-accepted (now (a .rom)) (a .lines) s (now (a .log)) (sym (c .before .before .before .before .before .accepts .ensures) ∙ c .before .before .before .before .if1 .taken) e
+    let e = c .same .ensures ∙ at-ticked .ticked .ensures ∙ ap ticked
+    (at-taken .taken .ensures ∙ ap (taken (a .lines)) (at-accepted .accepted .ensures)) in
+    lands-accepted (now (a .rom)) (a .lines) s (now (a .log)) (sym (at-accepts .accepts .ensures) ∙ at-if1 .if1 .taken) e
 
 taken-requires-2 : tie.Need-taken-requires-2
 taken-requires-2 c κs = search needs
@@ -49,37 +59,62 @@ paid-requires c κs =
 
 ticked-requires-2 : tie.Need-ticked-requires-2
 ticked-requires-2 c κs =
-    let a = c .before .before .before .before .before .before .before .before .before .args in
-    let v = c .before .before .before .before .before .before .before .before .before .pre in
-    rw (c .paid .ensures, c .before .before .before .same2 .ensures, c .before .before .before .before .taken2 .ensures) (paid-keeps (taken (a .lines) (a .c)) (taken-keeps (a .lines) (a .c) (v .lines) (v .valid .core)) .scalars .register)
+    let at-same2 = c .before .before .before in
+    let at-taken2 = at-same2 .before in
+    let at-entry = at-taken2 .before .before .before .before .before in
+    let a = at-entry .args in
+    let v = at-entry .pre in
+    rw (c .paid .ensures, at-same2 .same2 .ensures, at-taken2 .taken2 .ensures)
+    (paid-keeps (taken (a .lines) (a .c)) (taken-keeps (a .lines) (a .c) (v .lines) (v .valid .core)) .scalars .register)
 
 same-requires-3 : tie.Need-same-requires-3
 same-requires-3 c κs = search needs
 
 returns-2 : tie.Need-returns-2
 returns-2 c =
-    let a = c .before .before .before .before .before .before .before .before .before .before .before .args in
+    let at-ticked2 = c .before in
+    let at-paid = at-ticked2 .before in
+    let at-if2 = at-paid .before in
+    let at-same2 = at-if2 .before .before in
+    let at-taken2 = at-same2 .before in
+    let at-if1 = at-taken2 .before in
+    let at-accepts = at-if1 .before in
+    let at-entry = at-accepts .before .before .before in
+    let a = at-entry .args in
     let s = stateOf (a .c) (now (a .ram)) (now (a .ports)) (a .n) in
-    let e = c .same3 .ensures ∙ c .before .ticked2 .ensures ∙ ap ticked (c .before .before .paid .ensures ∙ ap paid (c .before .before .before .before .before .same2 .ensures ∙ c .before .before .before .before .before .before .taken2 .ensures)) in
-    lands-owed (now (a .rom)) (a .lines) s (now (a .log)) (sym (c .before .before .before .before .before .before .before .before .accepts .ensures) ∙ c .before .before .before .before .before .before .before .if1 .left) (c .before .before .before .if2 .taken) e
+    let e = c .same3 .ensures ∙ at-ticked2 .ticked2 .ensures ∙ ap ticked
+    (at-paid .paid .ensures ∙ ap paid (at-same2 .same2 .ensures ∙ at-taken2 .taken2 .ensures)) in
+    lands-owed (now (a .rom)) (a .lines) s (now (a .log)) (sym (at-accepts .accepts .ensures) ∙ at-if1 .if1 .left)
+    (at-if2 .if2 .taken) e
 
 execute-requires : tie.Need-execute-requires
 execute-requires c κs =
-    let a = c .before .before .before .before .before .before .before .before .before .before .before .args in
-    let v = c .before .before .before .before .before .before .before .before .before .before .before .pre in
-    (v, rw (c .before .before .before .before .before .same2 .ensures, c .before .before .before .before .before .before .taken2 .ensures) (taken-keeps (a .lines) (a .c) (v .lines) (v .valid .core)))
+    let at-same2 = c .before .before .before .before .before in
+    let at-taken2 = at-same2 .before in
+    let at-entry = at-taken2 .before .before .before .before .before in
+    let a = at-entry .args in
+    let v = at-entry .pre in
+    (v, rw (at-same2 .same2 .ensures, at-taken2 .taken2 .ensures) (taken-keeps (a .lines) (a .c) (v .lines) (v .valid .core)))
 
 same-length : tie.Need-same-length
 same-length c = search needs
 
 returns-3 : tie.Need-returns-3
 returns-3 c =
-    let a = c .before .before .before .before .before .before .before .before .before .before .before .before .before .before .args in
+    let at-execute = c .before .before in
+    let at-if2 = at-execute .before .before .before .before in
+    let at-same2 = at-if2 .before .before in
+    let at-taken2 = at-same2 .before in
+    let at-if1 = at-taken2 .before in
+    let at-accepts = at-if1 .before in
+    let at-entry = at-accepts .before .before .before in
+    let a = at-entry .args in
     let s = stateOf (a .c) (now (a .ram)) (now (a .ports)) (a .n) in
-    let q = c .before .before .before .before .before .before .before .before .same2 .ensures ∙ c .before .before .before .before .before .before .before .before .before .taken2 .ensures in
-    c .before .before .execute .ensures
+    let q = at-same2 .same2 .ensures ∙ at-taken2 .taken2 .ensures in
+    at-execute .execute .ensures
     ∙ ap (λ (x : Core). landing (execute (now (a .rom)) (a .lines) s x) s (now (a .log))) q
-    ∙ lands-due (now (a .rom)) (a .lines) s (now (a .log)) (sym (c .before .before .before .before .before .before .before .before .before .before .before .accepts .ensures) ∙ c .before .before .before .before .before .before .before .before .before .before .if1 .left) (c .before .before .before .before .before .before .if2 .left)
+    ∙ lands-due (now (a .rom)) (a .lines) s (now (a .log)) (sym (at-accepts .accepts .ensures) ∙ at-if1 .if1 .left)
+    (at-if2 .if2 .left)
 
 pub one-cycle-spec : {M : Type 1} → statement M
 one-cycle-spec =

@@ -12,7 +12,10 @@ stopped-requires : tie.Need-stopped-requires
 stopped-requires c κs = search needs
 
 returns : tie.Need-returns
-returns c = stops-past (now (c .before .before .before .args .rom)) (c .before .before .before .args .pc) (c .stopped .result) (c .before .if1 .taken) (c .stopped .ensures)
+returns c =
+    let at-if1 = c .before in
+    let at-entry = at-if1 .before .before in
+    stops-past (now (at-entry .args .rom)) (at-entry .args .pc) (c .stopped .result) (at-if1 .if1 .taken) (c .stopped .ensures)
 
 byte-at-requires : tie.Need-byte-at-requires
 byte-at-requires c κs = search needs
@@ -25,24 +28,51 @@ stopped-requires-2 c κs = search needs
 
 returns-2 : tie.Need-returns-2
 returns-2 c =
-    let s = size-at (now (c .before .before .before .before .before .before .before .args .rom)) (c .before .before .before .before .before .before .before .args .pc) (c .before .before .before .before .byte-at .ensures) (c .before .before .before .size-of .ensures) in
-    stops-none (now (c .before .before .before .before .before .before .before .args .rom)) (c .before .before .before .before .before .before .before .args .pc) (c .stopped2 .result) (c .before .before .before .before .before .if1 .left) (sym (s .1) ∙ c .before .if2 .taken) (c .stopped2 .ensures)
+    let at-if2 = c .before in
+    let at-size-of = at-if2 .before .before in
+    let at-byte-at = at-size-of .before in
+    let at-if1 = at-byte-at .before in
+    let at-entry = at-if1 .before .before in
+    let s = size-at (now (at-entry .args .rom)) (at-entry .args .pc) (at-byte-at .byte-at .ensures)
+    (at-size-of .size-of .ensures) in
+    stops-none (now (at-entry .args .rom)) (at-entry .args .pc) (c .stopped2 .result) (at-if1 .if1 .left)
+    (sym (s .1) ∙ at-if2 .if2 .taken) (c .stopped2 .ensures)
 
 follows-requires : tie.Need-follows-requires
 follows-requires c κs = search needs
 
 returns-3 : tie.Need-returns-3
 returns-3 c =
-    let s = size-at (now (c .before .before .before .before .before .before .before .before .before .args .rom)) (c .before .before .before .before .before .before .before .before .before .args .pc) (c .before .before .before .before .before .before .byte-at .ensures) (c .before .before .before .before .before .size-of .ensures) in
-    begins-one (now (c .before .before .before .before .before .before .before .before .before .args .rom)) (c .before .before .before .before .before .before .before .before .before .args .pc) _ (c .before .before .before .before .before .before .before .if1 .left) (omega (arith, s .1, c .before .before .before .if2 .left)) (sym (s .0) ∙ c .if3 .taken) refl (c .before .before .before .before .before .before .byte-at .ensures) refl (c .before .before .follows .ensures) (s .1)
+    let at-follows = c .before .before in
+    let at-if2 = at-follows .before in
+    let at-size-of = at-if2 .before .before in
+    let at-byte-at = at-size-of .before in
+    let at-if1 = at-byte-at .before in
+    let at-entry = at-if1 .before .before in
+    let s = size-at (now (at-entry .args .rom)) (at-entry .args .pc) (at-byte-at .byte-at .ensures)
+    (at-size-of .size-of .ensures) in
+    begins-one (now (at-entry .args .rom)) (at-entry .args .pc) _ (at-if1 .if1 .left) (omega (arith, s .1, at-if2 .if2 .left))
+    (sym (s .0) ∙ c .if3 .taken) refl (at-byte-at .byte-at .ensures) refl (at-follows .follows .ensures) (s .1)
 
 stopped-requires-3 : tie.Need-stopped-requires-3
 stopped-requires-3 c κs = search needs
 
 returns-4 : tie.Need-returns-4
 returns-4 c =
-    let s = size-at (now (c .before .before .before .before .before .before .before .before .before .before .before .args .rom)) (c .before .before .before .before .before .before .before .before .before .before .before .args .pc) (c .before .before .before .before .before .before .before .before .byte-at .ensures) (c .before .before .before .before .before .before .before .size-of .ensures) in
-    stops-second (now (c .before .before .before .before .before .before .before .before .before .before .before .args .rom)) (c .before .before .before .before .before .before .before .before .before .before .before .args .pc) (c .stopped3 .result) (c .before .before .before .before .before .before .before .before .before .if1 .left) (omega (arith, s .1, c .before .before .before .before .before .if2 .left)) (omega (arith, s .0, bytes-at (now (c .before .before .before .before .before .before .before .before .before .before .before .args .rom)) (c .before .before .before .before .before .before .before .before .before .before .before .args .pc), c .before .before .if3 .left)) (rw (c .before .before .before .before .follows .ensures) at (c .before .if4 .taken)) (c .stopped3 .ensures)
+    let at-if4 = c .before in
+    let at-if3 = at-if4 .before in
+    let at-follows = at-if3 .before .before in
+    let at-if2 = at-follows .before in
+    let at-size-of = at-if2 .before .before in
+    let at-byte-at = at-size-of .before in
+    let at-if1 = at-byte-at .before in
+    let at-entry = at-if1 .before .before in
+    let s = size-at (now (at-entry .args .rom)) (at-entry .args .pc) (at-byte-at .byte-at .ensures)
+    (at-size-of .size-of .ensures) in
+    stops-second (now (at-entry .args .rom)) (at-entry .args .pc) (c .stopped3 .result) (at-if1 .if1 .left)
+    (omega (arith, s .1, at-if2 .if2 .left))
+    (omega (arith, s .0, bytes-at (now (at-entry .args .rom)) (at-entry .args .pc), at-if3 .if3 .left))
+    (rw (at-follows .follows .ensures) at (at-if4 .if4 .taken)) (c .stopped3 .ensures)
 
 byte-at-requires-2 : tie.Need-byte-at-requires-2
 byte-at-requires-2 c κs = search needs
@@ -52,10 +82,22 @@ follows-requires-2 c κs = search needs
 
 returns-5 : tie.Need-returns-5
 returns-5 c =
-    let s = size-at (now (c .before .before .before .before .before .before .before .before .before .before .before .before .args .rom)) (c .before .before .before .before .before .before .before .before .before .before .before .before .args .pc) (c .before .before .before .before .before .before .before .before .before .byte-at .ensures) (c .before .before .before .before .before .before .before .before .size-of .ensures) in
-    let f = c .before .before .before .before .before .follows .ensures in
-    begins-two (now (c .before .before .before .before .before .before .before .before .before .before .before .before .args .rom)) (c .before .before .before .before .before .before .before .before .before .before .before .before .args .pc) _ (c .before .before .before .before .before .before .before .before .before .before .if1 .left) (omega (arith, s .1, c .before .before .before .before .before .before .if2 .left)) (omega (arith, s .0, bytes-at (now (c .before .before .before .before .before .before .before .before .before .before .before .before .args .rom)) (c .before .before .before .before .before .before .before .before .before .before .before .before .args .pc), c .before .before .before .if3 .left)) (rw f at (c .before .before .if4 .left)) refl (c .before .before .before .before .before .before .before .before .before .byte-at .ensures)
-    (c .before .byte-at2 .ensures ∙ ap (byteAt (now (c .before .before .before .before .before .before .before .before .before .before .before .before .args .rom))) f) (c .follows2 .ensures ∙ ap follows f) (s .1)
+    let at-byte-at2 = c .before in
+    let at-if4 = at-byte-at2 .before in
+    let at-if3 = at-if4 .before in
+    let at-follows = at-if3 .before .before in
+    let at-if2 = at-follows .before in
+    let at-size-of = at-if2 .before .before in
+    let at-byte-at = at-size-of .before in
+    let at-if1 = at-byte-at .before in
+    let at-entry = at-if1 .before .before in
+    let s = size-at (now (at-entry .args .rom)) (at-entry .args .pc) (at-byte-at .byte-at .ensures)
+    (at-size-of .size-of .ensures) in
+    let f = at-follows .follows .ensures in
+    begins-two (now (at-entry .args .rom)) (at-entry .args .pc) _ (at-if1 .if1 .left) (omega (arith, s .1, at-if2 .if2 .left))
+    (omega (arith, s .0, bytes-at (now (at-entry .args .rom)) (at-entry .args .pc), at-if3 .if3 .left))
+    (rw f at (at-if4 .if4 .left)) refl (at-byte-at .byte-at .ensures)
+    (at-byte-at2 .byte-at2 .ensures ∙ ap (byteAt (now (at-entry .args .rom))) f) (c .follows2 .ensures ∙ ap follows f) (s .1)
 
 pub fetch-at-spec : {M : Type 1} → statement M
 fetch-at-spec =

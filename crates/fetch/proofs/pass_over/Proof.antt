@@ -8,10 +8,17 @@ use Rattle.fetch.proofs.pass_over.Statement.{statement}
 use Rattle.fetch.proofs.pass_over.Tie as tie
 
 returns : tie.Need-returns
-returns c = rw (not-true (c .before .before .args .skip) (c .if1 .taken)) (passes-none (now (c .before .before .args .rom)) (c .before .before .args .to) _ refl refl refl)
+returns c =
+    let at-entry = c .before .before in
+    rw (not-true (at-entry .args .skip) (c .if1 .taken))
+    (passes-none (now (at-entry .args .rom)) (at-entry .args .to) _ refl refl refl)
 
 returns-2 : tie.Need-returns-2
-returns-2 c = rw (not-false (c .before .before .before .args .skip) (c .before .if1 .left)) (passes-past (now (c .before .before .before .args .rom)) (c .before .before .before .args .to) _ (c .if2 .taken) refl)
+returns-2 c =
+    let at-if1 = c .before in
+    let at-entry = at-if1 .before .before in
+    rw (not-false (at-entry .args .skip) (at-if1 .if1 .left))
+    (passes-past (now (at-entry .args .rom)) (at-entry .args .to) _ (c .if2 .taken) refl)
 
 byte-at-requires : tie.Need-byte-at-requires
 byte-at-requires c κs = search needs
@@ -21,13 +28,22 @@ size-of-requires c κs = search needs
 
 past-bytes-requires : tie.Need-past-bytes-requires
 past-bytes-requires c κs =
-    let s = size-at (now (c .before .before .before .before .before .args .rom)) (c .before .before .before .before .before .args .to) (c .before .byte-at .ensures) (c .size-of .ensures) in
-    rw (s .0) (bytes-at (now (c .before .before .before .before .before .args .rom)) (c .before .before .before .before .before .args .to))
+    let at-byte-at = c .before in
+    let at-entry = at-byte-at .before .before .before .before in
+    let s = size-at (now (at-entry .args .rom)) (at-entry .args .to) (at-byte-at .byte-at .ensures) (c .size-of .ensures) in
+    rw (s .0) (bytes-at (now (at-entry .args .rom)) (at-entry .args .to))
 
 returns-3 : tie.Need-returns-3
 returns-3 c =
-    let s = size-at (now (c .before .before .before .before .before .before .args .rom)) (c .before .before .before .before .before .before .args .to) (c .before .before .byte-at .ensures) (c .before .size-of .ensures) in
-    rw (not-false (c .before .before .before .before .before .before .args .skip) (c .before .before .before .before .if1 .left)) (passes-one (now (c .before .before .before .before .before .before .args .rom)) (c .before .before .before .before .before .before .args .to) _ (c .before .before .before .if2 .left) refl (s .0) (c .past-bytes .ensures))
+    let at-size-of = c .before in
+    let at-byte-at = at-size-of .before in
+    let at-if2 = at-byte-at .before in
+    let at-if1 = at-if2 .before in
+    let at-entry = at-if1 .before .before in
+    let s = size-at (now (at-entry .args .rom)) (at-entry .args .to) (at-byte-at .byte-at .ensures)
+    (at-size-of .size-of .ensures) in
+    rw (not-false (at-entry .args .skip) (at-if1 .if1 .left))
+    (passes-one (now (at-entry .args .rom)) (at-entry .args .to) _ (at-if2 .if2 .left) refl (s .0) (c .past-bytes .ensures))
 
 pub pass-over-spec : {M : Type 1} → statement M
 pass-over-spec =

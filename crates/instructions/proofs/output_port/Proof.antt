@@ -22,7 +22,15 @@ returns-3 c = rw (c .if3 .taken)
 returns-4 : tie.Need-returns-4
 unfolding outputs
 returns-4 c =
-    rw (one-write (c .before .before .before .args .p) (c .before .before .before .args .v) (λ e. omega arith) (λ e. omega arith), le-leb portC _ (c .before .before .if1 .left), le-leb _ portI (c .before .if2 .left), ne-eqb _ portI (c .if3 .left))
+    let at-if2 = c .before in
+    let at-if1 = at-if2 .before in
+    let at-entry = at-if1 .before in
+    rw (
+      one-write (at-entry .args .p) (at-entry .args .v) (λ e. omega arith) (λ e. omega arith),
+      le-leb portC _ (at-if1 .if1 .left),
+      le-leb _ portI (at-if2 .if2 .left),
+      ne-eqb _ portI (c .if3 .left),
+    )
 
 pub output-port-spec : {M : Type 1} → statement M
 output-port-spec = tie.close (tie.spec returns returns-2 returns-3 returns-4)

@@ -11,7 +11,10 @@ use Rattle.portlog.proofs.output.Statement.{statement}
 use Rattle.portlog.proofs.output.Tie as tie
 
 returns : tie.Need-returns
-returns c = writes-none (now (c .before .before .args .log)) (now (c .before .before .args .ports)) (c .before .before .args .n) (c .before .before .args .port) (c .before .before .args .value) (c .if1 .taken)
+returns c =
+    let at-entry = c .before .before in
+    writes-none (now (at-entry .args .log)) (now (at-entry .args .ports)) (at-entry .args .n) (at-entry .args .port)
+    (at-entry .args .value) (c .if1 .taken)
 
 latch-requires : tie.Need-latch-requires
 latch-requires c κs = search needs
@@ -20,40 +23,94 @@ latch-requires-2 : tie.Need-latch-requires-2
 latch-requires-2 c κs = search needs
 
 put-record-requires : tie.Need-put-record-requires
-put-record-requires c κs = omega (arith, c .before .before .before .before .before .before .before .before .pre .0, ap length (both-of (c .before .before .before .before .before .before .before .before .args .port) (c .before .before .before .before .before .before .before .before .args .value) (c .before .before .before .before .before .if2 .taken)))
+put-record-requires c κs =
+    let at-if2 = c .before .before .before .before .before in
+    let at-entry = at-if2 .before .before .before in
+    omega (arith, at-entry .pre .0, ap length (both-of (at-entry .args .port) (at-entry .args .value) (at-if2 .if2 .taken)))
 
 sub-put-record : tie.Need-sub-put-record
-sub-put-record c = omega (arith, c .before .before .before .before .before .before .before .before .before .before .before .pre .0, ap length (both-of (c .before .before .before .before .before .before .before .before .before .before .before .args .port) (c .before .before .before .before .before .before .before .before .before .before .before .args .value) (c .before .before .before .before .before .before .before .before .if2 .taken)), ap length (c .before .before .put-record .ensures))
+sub-put-record c =
+    let at-put-record = c .before .before in
+    let at-if2 = at-put-record .before .before .before .before .before .before in
+    let at-entry = at-if2 .before .before .before in
+    omega (
+      arith,
+      at-entry .pre .0,
+      ap length (both-of (at-entry .args .port) (at-entry .args .value) (at-if2 .if2 .taken)),
+      ap length (at-put-record .put-record .ensures),
+    )
 
 part-put-record-start : tie.Need-part-put-record-start
-part-put-record-start c = omega (arith, c .before .before .before .before .before .before .before .before .before .before .before .pre .0, ap length (both-of (c .before .before .before .before .before .before .before .before .before .before .before .args .port) (c .before .before .before .before .before .before .before .before .before .before .before .args .value) (c .before .before .before .before .before .before .before .before .if2 .taken)), ap length (c .before .before .put-record .ensures))
+part-put-record-start c =
+    let at-put-record = c .before .before in
+    let at-if2 = at-put-record .before .before .before .before .before .before in
+    let at-entry = at-if2 .before .before .before in
+    omega (
+      arith,
+      at-entry .pre .0,
+      ap length (both-of (at-entry .args .port) (at-entry .args .value) (at-if2 .if2 .taken)),
+      ap length (at-put-record .put-record .ensures),
+    )
 
 part-put-record-end : tie.Need-part-put-record-end
 part-put-record-end c = search needs
 
 put-record-requires-2 : tie.Need-put-record-requires-2
 put-record-requires-2 c κs =
-    let e = ap length (c .before .before .before .put-record .ensures) in
-    let w = ap length (both-of (c .before .before .before .before .before .before .before .before .before .before .before .before .args .port) (c .before .before .before .before .before .before .before .before .before .before .before .before .args .value) (c .before .before .before .before .before .before .before .before .before .if2 .taken)) in
-    rw (mid-tail 8 (c .before .before .before .put-record .last .0)) (omega (arith, c .before .before .before .before .before .before .before .before .before .before .before .before .pre .0, w, simp length-drop at e, length-drop 8 (c .before .before .before .put-record .last .0)))
+    let at-put-record = c .before .before .before in
+    let at-if2 = at-put-record .before .before .before .before .before .before in
+    let at-entry = at-if2 .before .before .before in
+    let e = ap length (at-put-record .put-record .ensures) in
+    let w = ap length (both-of (at-entry .args .port) (at-entry .args .value) (at-if2 .if2 .taken)) in
+    rw (mid-tail 8 (at-put-record .put-record .last .0))
+    (omega (arith, at-entry .pre .0, w, simp length-drop at e, length-drop 8 (at-put-record .put-record .last .0)))
 
 same-length : tie.Need-same-length
 same-length c = search needs
 
 returns-2 : tie.Need-returns-2
-returns-2 c = writes-both (now (c .before .before .before .before .before .before .before .before .before .before .before .before .before .before .before .args .log)) (now (c .before .before .before .before .before .before .before .before .before .before .before .before .before .before .before .args .ports)) (c .before .before .before .before .before .before .before .before .before .before .before .before .before .before .before .args .n) (c .before .before .before .before .before .before .before .before .before .before .before .before .before .before .before .args .port) (c .before .before .before .before .before .before .before .before .before .before .before .before .before .before .before .args .value) (c .before .before .before .before .before .before .before .before .before .before .before .before .if2 .taken) (c .before .before .before .before .before .before .put-record .ensures) (c .before .before .put-record2 .ensures) (c .before .before .before .before .before .before .before .before .before .before .latch .ensures) (c .before .before .before .before .before .before .before .before .latch2 .ensures)
+returns-2 c =
+    let at-put-record2 = c .before .before in
+    let at-put-record = at-put-record2 .before .before .before .before in
+    let at-latch2 = at-put-record .before .before in
+    let at-latch = at-latch2 .before .before in
+    let at-if2 = at-latch .before .before in
+    let at-entry = at-if2 .before .before .before in
+    writes-both (now (at-entry .args .log)) (now (at-entry .args .ports)) (at-entry .args .n) (at-entry .args .port)
+    (at-entry .args .value) (at-if2 .if2 .taken) (at-put-record .put-record .ensures) (at-put-record2 .put-record2 .ensures)
+    (at-latch .latch .ensures) (at-latch2 .latch2 .ensures)
 
 latch-requires-3 : tie.Need-latch-requires-3
-latch-requires-3 c κs = port-of (c .before .before .before .before .args .port) (c .before .before .before .before .args .value) (c .before .before .if1 .left) (c .before .if2 .left) (c .before .before .before .before .pre .1)
+latch-requires-3 c κs =
+    let at-if2 = c .before in
+    let at-if1 = at-if2 .before in
+    let at-entry = at-if1 .before .before in
+    port-of (at-entry .args .port) (at-entry .args .value) (at-if1 .if1 .left) (at-if2 .if2 .left) (at-entry .pre .1)
 
 put-record-requires-3 : tie.Need-put-record-requires-3
-put-record-requires-3 c κs = omega (arith, c .before .before .before .before .before .before .pre .0, ap length (one-write (c .before .before .before .before .before .before .args .port) (c .before .before .before .before .before .before .args .value) (c .before .before .before .before .if1 .left) (c .before .before .before .if2 .left)))
+put-record-requires-3 c κs =
+    let at-if2 = c .before .before .before in
+    let at-if1 = at-if2 .before in
+    let at-entry = at-if1 .before .before in
+    omega (
+      arith,
+      at-entry .pre .0,
+      ap length (one-write (at-entry .args .port) (at-entry .args .value) (at-if1 .if1 .left) (at-if2 .if2 .left)),
+    )
 
 same-length-2 : tie.Need-same-length-2
 same-length-2 c = search needs
 
 returns-3 : tie.Need-returns-3
-returns-3 c = writes-one (now (c .before .before .before .before .before .before .before .before .before .args .log)) (now (c .before .before .before .before .before .before .before .before .before .args .ports)) (c .before .before .before .before .before .before .before .before .before .args .n) (c .before .before .before .before .before .before .before .before .before .args .port) (c .before .before .before .before .before .before .before .before .before .args .value) (c .before .before .before .before .before .before .before .if1 .left) (c .before .before .before .before .before .before .if2 .left) (c .before .before .put-record3 .ensures) (c .before .before .before .before .latch3 .ensures)
+returns-3 c =
+    let at-put-record3 = c .before .before in
+    let at-latch3 = at-put-record3 .before .before in
+    let at-if2 = at-latch3 .before .before in
+    let at-if1 = at-if2 .before in
+    let at-entry = at-if1 .before .before in
+    writes-one (now (at-entry .args .log)) (now (at-entry .args .ports)) (at-entry .args .n) (at-entry .args .port)
+    (at-entry .args .value) (at-if1 .if1 .left) (at-if2 .if2 .left) (at-put-record3 .put-record3 .ensures)
+    (at-latch3 .latch3 .ensures)
 
 pub output-spec : {M : Type 1} → statement M
 output-spec =

@@ -8,7 +8,9 @@ use Rattle.runner.proofs.refusal.Tie as tie
 use Rattle.schedule.proofs.check.Reads as check-reads′
 
 returns : tie.Need-returns
-returns c = by-rom (now (c .before .before .before .args .rom)) (now (c .before .before .before .args .sched)) (c .before .before .before .args .s) (c .before .before .before .args .n .0) (c .if1 .taken)
+returns c =
+    let at-entry = c .before .before .before in
+    by-rom (now (at-entry .args .rom)) (now (at-entry .args .sched)) (at-entry .args .s) (at-entry .args .n .0) (c .if1 .taken)
 
 check-requires : tie.Need-check-requires
 check-requires c κs = search needs
@@ -18,7 +20,12 @@ outcome-number-requires c κs = search needs
 
 returns-2 : tie.Need-returns-2
 returns-2 c =
-    by-schedule (now (c .before .before .before .before .before .before .args .rom)) (now (c .before .before .before .before .before .before .args .sched)) (c .before .before .before .before .before .before .args .s) (c .before .before .before .before .before .before .args .n .0) (c .before .before .before .if1 .left) _ (c .before .before .check .ensures) (λ e. c .if2 .taken (c .before .outcome-number .ensures ∙ e))
+    let at-outcome-number = c .before in
+    let at-check = at-outcome-number .before in
+    let at-if1 = at-check .before in
+    let at-entry = at-if1 .before .before .before in
+    by-schedule (now (at-entry .args .rom)) (now (at-entry .args .sched)) (at-entry .args .s) (at-entry .args .n .0)
+    (at-if1 .if1 .left) _ (at-check .check .ensures) (λ e. c .if2 .taken (at-outcome-number .outcome-number .ensures ∙ e))
 
 check-requires-2 : tie.Need-check-requires-2
 check-requires-2 c κs = search needs
@@ -28,16 +35,54 @@ outcome-number-requires-2 c κs = search needs
 
 returns-3 : tie.Need-returns-3
 returns-3 c =
-    by-state (now (c .before .before .before .before .before .before .before .before .before .args .rom)) (now (c .before .before .before .before .before .before .before .before .before .args .sched)) (c .before .before .before .before .before .before .before .before .before .args .s) (c .before .before .before .before .before .before .before .before .before .args .n .0) (c .before .before .before .before .before .before .if1 .left) (sym (c .before .before .before .before .before .check .ensures) ∙ sym (c .before .before .before .before .outcome-number .ensures) ∙ c .before .before .before .if2 .left) _ (c .before .before .check2 .ensures) (λ e. c .if3 .taken (c .before .outcome-number2 .ensures ∙ e))
+    let at-outcome-number2 = c .before in
+    let at-check2 = at-outcome-number2 .before in
+    let at-if2 = at-check2 .before in
+    let at-outcome-number = at-if2 .before in
+    let at-check = at-outcome-number .before in
+    let at-if1 = at-check .before in
+    let at-entry = at-if1 .before .before .before in
+    by-state (now (at-entry .args .rom)) (now (at-entry .args .sched)) (at-entry .args .s) (at-entry .args .n .0)
+    (at-if1 .if1 .left)
+    (sym (at-check .check .ensures) ∙ sym (at-outcome-number .outcome-number .ensures) ∙ at-if2 .if2 .left) _
+    (at-check2 .check2 .ensures) (λ e. c .if3 .taken (at-outcome-number2 .outcome-number2 .ensures ∙ e))
 
 within-limit-requires : tie.Need-within-limit-requires
 within-limit-requires c κs = search needs
 
 returns-4 : tie.Need-returns-4
-returns-4 c = by-none (now (c .before .before .before .before .before .before .before .before .before .before .before .before .args .rom)) (now (c .before .before .before .before .before .before .before .before .before .before .before .before .args .sched)) (c .before .before .before .before .before .before .before .before .before .before .before .before .args .s) (c .before .before .before .before .before .before .before .before .before .before .before .before .args .n .0) (c .before .before .before .before .before .before .before .before .before .if1 .left) (sym (c .before .before .before .before .before .before .before .before .check .ensures) ∙ sym (c .before .before .before .before .before .before .before .outcome-number .ensures) ∙ c .before .before .before .before .before .before .if2 .left) (sym (c .before .before .before .before .before .check2 .ensures) ∙ sym (c .before .before .before .before .outcome-number2 .ensures) ∙ c .before .before .before .if3 .left) (sym (c .before .within-limit .ensures) ∙ c .if4 .taken)
+returns-4 c =
+    let at-within-limit = c .before in
+    let at-if3 = at-within-limit .before .before in
+    let at-outcome-number2 = at-if3 .before in
+    let at-check2 = at-outcome-number2 .before in
+    let at-if2 = at-check2 .before in
+    let at-outcome-number = at-if2 .before in
+    let at-check = at-outcome-number .before in
+    let at-if1 = at-check .before in
+    let at-entry = at-if1 .before .before .before in
+    by-none (now (at-entry .args .rom)) (now (at-entry .args .sched)) (at-entry .args .s) (at-entry .args .n .0)
+    (at-if1 .if1 .left)
+    (sym (at-check .check .ensures) ∙ sym (at-outcome-number .outcome-number .ensures) ∙ at-if2 .if2 .left)
+    (sym (at-check2 .check2 .ensures) ∙ sym (at-outcome-number2 .outcome-number2 .ensures) ∙ at-if3 .if3 .left)
+    (sym (at-within-limit .within-limit .ensures) ∙ c .if4 .taken)
 
 returns-5 : tie.Need-returns-5
-returns-5 c = by-limit (now (c .before .before .before .before .before .before .before .before .before .before .before .before .args .rom)) (now (c .before .before .before .before .before .before .before .before .before .before .before .before .args .sched)) (c .before .before .before .before .before .before .before .before .before .before .before .before .args .s) (c .before .before .before .before .before .before .before .before .before .before .before .before .args .n .0) (c .before .before .before .before .before .before .before .before .before .if1 .left) (sym (c .before .before .before .before .before .before .before .before .check .ensures) ∙ sym (c .before .before .before .before .before .before .before .outcome-number .ensures) ∙ c .before .before .before .before .before .before .if2 .left) (sym (c .before .before .before .before .before .check2 .ensures) ∙ sym (c .before .before .before .before .outcome-number2 .ensures) ∙ c .before .before .before .if3 .left) (sym (c .before .within-limit .ensures) ∙ c .if4 .left)
+returns-5 c =
+    let at-within-limit = c .before in
+    let at-if3 = at-within-limit .before .before in
+    let at-outcome-number2 = at-if3 .before in
+    let at-check2 = at-outcome-number2 .before in
+    let at-if2 = at-check2 .before in
+    let at-outcome-number = at-if2 .before in
+    let at-check = at-outcome-number .before in
+    let at-if1 = at-check .before in
+    let at-entry = at-if1 .before .before .before in
+    by-limit (now (at-entry .args .rom)) (now (at-entry .args .sched)) (at-entry .args .s) (at-entry .args .n .0)
+    (at-if1 .if1 .left)
+    (sym (at-check .check .ensures) ∙ sym (at-outcome-number .outcome-number .ensures) ∙ at-if2 .if2 .left)
+    (sym (at-check2 .check2 .ensures) ∙ sym (at-outcome-number2 .outcome-number2 .ensures) ∙ at-if3 .if3 .left)
+    (sym (at-within-limit .within-limit .ensures) ∙ c .if4 .left)
 
 pub refusal-spec : {M : Type 1} → statement M
 refusal-spec =
