@@ -12,7 +12,7 @@ use Rattle.laws.proofs.Instructions.{All, none, more, ValidWrite}
 use Rattle.instructions.specs.Groups.{writesOf}
 use Rattle.instructions.proofs.Writes.{one-write}
 use Rattle.portlog.specs.Appending.{Written}
-use Rattle.portlog.proofs.Parts.{mid-tail, put-tail}
+use Rattle.laws.proofs.Tails.{mid-tail, put-tail}
 
 -- which writes there are, by the port
 pub none-of : (port v : ℕ) → port ≡ 0 → writesOf port v ≡ []

@@ -28,7 +28,7 @@ use Rattle.laws.proofs.Cycle.{Cycled, cycle-keeps}
 use Rattle.laws.proofs.Stops.{StopNumber, stop-number}
 use Rattle.schedule.specs.declared.Cursor.{Cursor}
 use Rattle.schedule.specs.Cursor.{Stands}
-use Rattle.portlog.proofs.Parts.{mid-tail, put-tail}
+use Rattle.laws.proofs.Tails.{mid-tail, put-tail}
 use Rattle.cycle.specs.declared.Stepped.{Stepped}
 use Rattle.cycle.specs.Landing.{Landing, stateOf, landed, landing, Ready}
 use Rattle.runner.proofs.Refusing.{Taken, run-taken}

@@ -1,6 +1,6 @@
 -- A rule of every number below a bound, by one test that antt computes; and what stands in a list that is computed.
 -- Assumes nothing.
-use mathlib.Core.Path.{_≡_, _∙_, refl, sym, subst}
+use mathlib.Core.Path.{_≡_, _∙_, refl, sym, ap, subst}
 use mathlib.Core.Bool.{Bool, true, false, _&&_}
 use mathlib.Core.List.{List, [], _∷_}
 use Prim.Native.Nat.{ℕ, zero, suc, _+_, _<_}
@@ -37,3 +37,8 @@ pub getD-entries : (n : ℕ) (f : ℕ → ℕ) (k d : ℕ) → k < n → getD (e
 getD-entries zero f k d h = absurd (not-suc-le-zero h)
 getD-entries (suc n) f zero d h = refl
 getD-entries (suc n) f (suc k) d h = getD-entries n (λ i. f (suc i)) k d (le-of-suc-le-suc h)
+
+-- a list is the list of its entries
+pub entries-of : (l : List ℕ) → l ≡ entries (length l) (λ i. getD l i 0)
+entries-of [] = refl
+entries-of (x ∷ xs) = ap (λ (t : List ℕ). x ∷ t) (entries-of xs)

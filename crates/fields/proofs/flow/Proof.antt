@@ -7,7 +7,7 @@ use borrow.Author.Tests.{eq-eqb}
 use Rattle.upd546.specs.TheMachine.{stackDepth}
 use Rattle.upd546.specs.Tests.{allOf}
 use Rattle.upd546.specs.StateImage.{flowSound}
-use Rattle.fields.proofs.Entries.{entries-of}
+use Rattle.upd546.proofs.Computed.{entries-of}
 use Rattle.fields.proofs.flow.Statement.{statement}
 use Rattle.fields.proofs.flow.Tie as tie
 

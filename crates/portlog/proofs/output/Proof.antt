@@ -4,7 +4,7 @@ use native.Mathlib.Omega.{arith}
 use lib.ListN.{length, length-drop}
 use denote.Ref.{now}
 use Rattle.instructions.proofs.Writes.{one-write}
-use Rattle.portlog.proofs.Parts.{mid-tail}
+use Rattle.laws.proofs.Tails.{mid-tail}
 use Rattle.portlog.proofs.Records.{both-of, port-of, writes-none, writes-one, writes-both}
 use borrow.Author.Needs.{needs}
 use Rattle.portlog.proofs.output.Statement.{statement}
