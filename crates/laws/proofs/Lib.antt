@@ -6,4 +6,7 @@ pub mod Cycle
 pub mod Chip
 pub mod Timer
 pub mod Stops
+pub mod Parts
+pub mod Packing
 pub mod Tails
+pub mod Images

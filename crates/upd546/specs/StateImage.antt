@@ -43,15 +43,18 @@ packed [] = []
 packed (a ∷ []) = (16 * a) ∷ []
 packed (a ∷ b ∷ ws) = (16 * a + b) ∷ packed ws
 
--- The image of a state. "5-6 PC; 7-12 stack, newest first; 13 DP; 14 Acc; 15 ..; 16 mark 0 to 3 in the order above; 17 owed;
--- 18 register, 0 when stopped; 19 counter, 0 when stopped; 20-26 ports C to I; 27-74 RAM ..; 75-80 cycle. Big-endian."
+-- "13 DP; 14 Acc; 15 ..; 16 mark 0 to 3 in the order above; 17 owed; 18 register, 0 when stopped; 19 counter, 0 when stopped"
+abbrev pub coreBytes : Core → List ℕ
+coreBytes c = dpOf c ∷ c .registers .acc ∷ flagsByte c ∷ c .mark ∷ c .owed ∷ c .timer .register ∷ c .timer .counter ∷ []
+
+-- The image of a state. "5-6 PC; 7-12 stack, newest first; 13 to 19 ..; 20-26 ports C to I; 27-74 RAM ..; 75-80 cycle. Big-endian."
 unfoldable pub imageOf : State → List ℕ
 imageOf s =
     imageMark
     ++ imageVersion
     ++ bytesOf 2 (s .core .flow .pc)
     ++ wordsBytes (s .core .flow .stack)
-    ++ (dpOf (s .core) ∷ s .core .registers .acc ∷ flagsByte (s .core) ∷ s .core .mark ∷ s .core .owed ∷ s .core .timer .register ∷ s .core .timer .counter ∷ [])
+    ++ coreBytes (s .core)
     ++ s .ports
     ++ packed (s .ram)
     ++ bytesOf 6 (s .cycle .0)

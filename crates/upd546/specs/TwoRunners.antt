@@ -9,6 +9,7 @@ use Rattle.runs.specs.Machine.{Machine}
 use Rattle.runs.specs.TwoRunners.{firstOf, unless, plain, skipping, saved, restored}
 use Rattle.runs.specs.TwoRunners as runners
 use Rattle.runs.specs.Numbers.{endOf, outcomeNumber}
+use Rattle.runs.specs.declared.Outcome.{Outcome}
 use Rattle.upd546.specs.declared.State.{State}
 use Rattle.upd546.specs.declared.RunAnswer.{RunAnswer}
 use Rattle.upd546.specs.declared.RestoreAnswer.{RestoreAnswer}
@@ -93,6 +94,10 @@ answerOf a log = record {
   steps = a .steps;
   log = log;
 }
+
+-- What a save answers, with the lent buffer as it stands when the save returns, in the terms of the definitions.
+abbrev pub saveOf : Outcome → List ℕ → runners.SaveAnswer
+saveOf o buffer = record { number = outcomeNumber o; buffer = buffer }
 
 -- What a restore answers, in the terms of the definitions.
 abbrev pub restoreOf : RestoreAnswer → runners.RestoreAnswer State

@@ -7,7 +7,8 @@ use runs::RunEnd;
 ghost use mathlib.Core.Path.{_≡_};
 ghost use Rattle.upd546.specs.TheMachine.{fresh};
 
-// The sizes of the chip. `romLength`, `lastAddress`, `ramLength`, `stackDepth` and `latches` are the same numbers.
+// The sizes of the chip and its image. `romLength`, `lastAddress`, `ramLength`, `stackDepth`, `latches` and `imageLength` are
+// the same numbers.
 pub const ROM_LENGTH: usize = 2000;
 
 pub const LAST_ADDRESS: u16 = 1999;
@@ -17,6 +18,8 @@ pub const RAM_WORDS: usize = 96;
 pub const STACK_DEPTH: usize = 3;
 
 pub const LATCHES: usize = 7;
+
+pub const IMAGE_LENGTH: usize = 81;
 
 // The mark: the kind of the last instruction begun.
 pub const MARK_OTHER: u8 = 0;
