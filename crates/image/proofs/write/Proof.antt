@@ -1,0 +1,65 @@
+-- The front, the latches, the RAM and the cycle number. Assumes nothing.
+use denote.Ref.{now}
+use Rattle.image.proofs.Writing.{image-written}
+use borrow.Author.Needs.{needs}
+use Rattle.image.proofs.write.Statement.{statement}
+use Rattle.image.proofs.write.Tie as tie
+
+write-core-requires : tie.Need-write-core-requires
+write-core-requires c κs = search needs
+
+slice-aggregate-put : tie.Need-slice-aggregate-put
+slice-aggregate-put c = search needs
+
+put-requires : tie.Need-put-requires
+put-requires c κs = search needs
+
+ram-bytes-requires : tie.Need-ram-bytes-requires
+ram-bytes-requires c κs = search needs
+
+slice-aggregate-put-2 : tie.Need-slice-aggregate-put-2
+slice-aggregate-put-2 c = search needs
+
+put-requires-2 : tie.Need-put-requires-2
+put-requires-2 c κs = search needs
+
+cycle-bytes-requires : tie.Need-cycle-bytes-requires
+cycle-bytes-requires c κs = search needs
+
+slice-aggregate-put-3 : tie.Need-slice-aggregate-put-3
+slice-aggregate-put-3 c = search needs
+
+put-requires-3 : tie.Need-put-requires-3
+put-requires-3 c κs = search needs
+
+same-length : tie.Need-same-length
+same-length c = search needs
+
+returns : tie.Need-returns
+returns c =
+    let at-put3 = c .before .before in
+    let at-cycle-bytes = at-put3 .before .before in
+    let at-put2 = at-cycle-bytes .before .before .before .before in
+    let at-ram-bytes = at-put2 .before .before in
+    let at-put = at-ram-bytes .before .before .before .before in
+    let at-write-core = at-put .before .before .before .before .before in
+    let at-entry = at-write-core .before .before .before .before .before in
+    image-written (at-entry .args .s) (at-entry .pre .0) (now (at-entry .args .buffer)) (at-write-core .write-core .ensures)
+    (at-put .put .ensures) (rw (at-ram-bytes .ram-bytes .ensures) at (at-put2 .put2 .ensures))
+    (rw (at-cycle-bytes .cycle-bytes .ensures) at (at-put3 .put3 .ensures))
+
+pub write-spec : {M : Type 1} → statement M
+write-spec =
+    tie.close
+    (tie.spec
+    write-core-requires
+    slice-aggregate-put
+    put-requires
+    ram-bytes-requires
+    slice-aggregate-put-2
+    put-requires-2
+    cycle-bytes-requires
+    slice-aggregate-put-3
+    put-requires-3
+    same-length
+    returns)
