@@ -1,6 +1,8 @@
 //! A reference interpreter of the uPD546 as document 01 defines it: one machine cycle after the
-//! other, on a state that is changed in place.
+//! other, on a state that is changed in place. `case` is no part of it: what the programs that make
+//! trials share.
 
+pub mod case;
 mod image;
 mod instructions;
 mod log;

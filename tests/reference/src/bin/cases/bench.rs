@@ -1,6 +1,6 @@
 //! "Bench cases, and what misleads".
 
-use crate::case::Case;
+use reference::case::Case;
 
 const LAST_CYCLE: u64 = (1 << 48) - 1;
 

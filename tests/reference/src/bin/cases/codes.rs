@@ -3,9 +3,9 @@
 
 use reference::{Coverage, State};
 
-use crate::case::{Case, INSIDE, NO_STOPS};
 use crate::draw::Draw;
 use crate::{always_skips, can_skip, is_none};
+use reference::case::{Case, INSIDE, NO_STOPS};
 
 /// Codes of the programs.
 const DI: u8 = 0x01;

@@ -61,7 +61,6 @@
 //! head, ports, RAM and cycle number.
 
 mod bench;
-mod case;
 mod codes;
 mod draw;
 mod edges;
@@ -74,7 +73,7 @@ use std::path::Path;
 use std::process::ExitCode;
 use std::{env, fs, io};
 
-use case::Case;
+use reference::case::{digest, state_bytes, Case};
 use reference::{Answer, Coverage};
 
 const TITLES: &str = "case number cycles clocks begun written steps state log\n";
@@ -150,8 +149,8 @@ fn line(place: usize, answer: &Answer, log: &[u8]) -> String {
         answer.begun,
         answer.written,
         answer.steps,
-        case::digest(&case::state_bytes(&answer.state)),
-        case::digest(log),
+        digest(&state_bytes(&answer.state)),
+        digest(log),
     )
 }
 

@@ -2,7 +2,7 @@
 
 use reference::State;
 
-use crate::case::Case;
+use reference::case::Case;
 
 const LAST_CYCLE: u64 = (1 << 48) - 1;
 

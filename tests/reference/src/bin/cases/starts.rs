@@ -2,8 +2,8 @@
 
 use reference::State;
 
-use crate::case::{Case, FEW_JCP, INSIDE, NO_STOPS};
 use crate::draw::Draw;
+use reference::case::{Case, FEW_JCP, INSIDE, NO_STOPS};
 
 pub fn cases() -> Vec<Case> {
     let mut cases = marks();

@@ -2,7 +2,7 @@
 
 use reference::State;
 
-use crate::case::Case;
+use reference::case::Case;
 
 /// "ROM: 2,000 bytes, 000 to 7CF."
 const LAST: u16 = 0x7CF;

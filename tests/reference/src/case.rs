@@ -1,6 +1,8 @@
-//! One case: how it is told, laid out in the file, and run.
+//! One case of the comparisons: how it is told, laid out in a file, and run; and the generator and
+//! the digests that their files share. `bin/cases/main.rs` tells the layout.
 
-use reference::{run_counted, Answer, Coverage, Runner, State};
+use crate::machine::State;
+use crate::runners::{run_counted, Answer, Coverage, Runner};
 
 /// The filters of a ROM.
 pub const NO_STOPS: u8 = 1;
@@ -241,11 +243,12 @@ impl Case {
 }
 
 /// The generator.
-fn next(s: u32) -> u32 {
+pub fn next(s: u32) -> u32 {
     s.wrapping_mul(1_664_525).wrapping_add(1_013_904_223)
 }
 
-fn top(s: u32) -> u8 {
+/// The top eight bits of its number.
+pub fn top(s: u32) -> u8 {
     (s >> 24) as u8
 }
 
