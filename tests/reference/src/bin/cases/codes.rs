@@ -1,11 +1,11 @@
 //! Every code, with several operands, registers, RAM words and lines: short runs that begin with it,
 //! without and with a skip, and longer ones that show each result in the log.
 
+use reference::case::{Case, INSIDE, NO_STOPS};
 use reference::{Coverage, State};
 
 use crate::draw::Draw;
 use crate::{always_skips, can_skip, is_none};
-use reference::case::{Case, INSIDE, NO_STOPS};
 
 /// Codes of the programs.
 const DI: u8 = 0x01;

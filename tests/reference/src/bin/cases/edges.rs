@@ -1,8 +1,9 @@
 //! Schedules with edges at awkward cycles: within instructions of two cycles, within skips, between
 //! EI and the next instruction, at acceptance; and lines read in the cycle in which they change.
 
-use crate::draw::Draw;
 use reference::case::Case;
+
+use crate::draw::Draw;
 
 const CYCLES: u64 = 40;
 

@@ -1,8 +1,7 @@
 //! Refusals: each number, every field above its width, and their order.
 
-use reference::State;
-
 use reference::case::Case;
+use reference::State;
 
 const LAST_CYCLE: u64 = (1 << 48) - 1;
 

@@ -1,9 +1,9 @@
 //! Legal states to start from that no run reaches, and legal states of every kind.
 
+use reference::case::{Case, FEW_JCP, INSIDE, NO_STOPS};
 use reference::State;
 
 use crate::draw::Draw;
-use reference::case::{Case, FEW_JCP, INSIDE, NO_STOPS};
 
 pub fn cases() -> Vec<Case> {
     let mut cases = marks();

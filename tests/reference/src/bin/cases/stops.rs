@@ -1,8 +1,7 @@
 //! Stops: 3 with logs of every length, 22 of every kind, 23; and runs that end just before one.
 
-use reference::State;
-
 use reference::case::Case;
+use reference::State;
 
 /// "ROM: 2,000 bytes, 000 to 7CF."
 const LAST: u16 = 0x7CF;
