@@ -9,7 +9,7 @@ use crate::bases::{state_of, Shape, IMAGE};
 const SHORT: usize = 80;
 const LONG: usize = 90;
 
-/// Where the bases stand in the file, and what they are.
+/// The bytes that variants are made of: an image, a state as a case has it.
 pub type Base = Vec<u8>;
 
 #[derive(Clone)]
