@@ -1,6 +1,6 @@
 -- One call: what refuses it, what it answers then, and what it answers where nothing does. Assumes nothing.
 use mathlib.Core.Path.{_≡_, _∙_, refl, sym, ap, subst}
-use mathlib.Core.List.{List, [], _∷_, _++_}
+use mathlib.Core.List.{List}
 use mathlib.Core.Option.{Option, none, some}
 use Prim.Native.Nat.{ℕ, zero, suc, _+_, _*_, _≤_}
 use native.Mathlib.Omega.{arith}
@@ -10,12 +10,12 @@ use lib.Seq.{take-append-seam, take-at}
 use borrow.Author.Tests.{le-leb, leb-true}
 use Rattle.runs.specs.Machine.{Machine}
 use Rattle.runs.specs.Reports.{clocksPerCycle}
-use Rattle.runs.specs.TwoRunners.{cycleLimit, logBound, refused, RunAnswer, SaveAnswer, RestoreAnswer, Ran, Stepped, firstOf, endOf}
+use Rattle.runs.specs.TwoRunners.{cycleLimit, logBound, RunAnswer, SaveAnswer, Ran, Stepped, firstOf, endOf}
 use Rattle.runs.specs.TwoRunners.{unbroken, within, strides, runNumber, told, stepwise, plain, skipping}
 use Rattle.runs.specs.TwoRunners.{saveNumber, put, saved, got, restored}
 use Rattle.runs.specs.Laws.{Panel, ImageLaws, Laws}
 use Rattle.runs.specs.Lists.{Kind, plainOne, skippingOne, Call, run, save, restore, refusalOf, runAnswer, refusal, documentNumber}
-use Rattle.runs.specs.Lists.{logBytes, ChangesNothing, WrittenBy, AnswersAs}
+use Rattle.runs.specs.Lists.{ChangesNothing, WrittenBy, AnswersAs}
 use Rattle.runs.proofs.Refusals.{first-at, passes}
 use Rattle.runs.proofs.Iterate.{log-bound}
 use Rattle.runs.proofs.Cut.{roomy}
@@ -28,7 +28,7 @@ pub record Fit (M : Machine) (rom sched : List ℕ) (s : M .State) (n : ℕ) : T
   pub limit : M .at s + n ≤ cycleLimit
 
 module _ (M : Machine) where
-  -- ---- by which numbers
+  -- By which numbers a call is refused.
 
   pub run-fit : (rom sched : List ℕ) (s : M .State) (n : ℕ) → runNumber M rom sched s n ≡ 0 → Fit M rom sched s n
   unfolding runNumber
@@ -77,7 +77,7 @@ module _ (M : Machine) where
   by-number (save s buffer) = put-number (saveNumber M s buffer) (M .image s) buffer
   by-number (restore bytes) = got-number (M .imageNumber bytes) (M .ofImage bytes)
 
-  -- ---- a refused call
+  -- What a refused call answers.
 
   told-nothing : (k : ℕ) (q : Stepped (M .State)) (kind : Kind) (rom sched : List ℕ) (s : M .State) (log : List ℕ) (n : ℕ)
       → runAnswer M kind rom sched s log n ≡ told M k q s log → ChangesNothing M k (run kind rom sched s log n)
@@ -104,7 +104,7 @@ module _ (M : Machine) where
   pub changes-nothing : (c : Call (M .State)) → ChangesNothing M (refusal M c) c
   changes-nothing c = subst (λ (k : ℕ). ChangesNothing M k c) (sym (by-number c)) (refused-nothing c)
 
-  -- ---- a run that isn't refused
+  -- What a run answers that isn't refused.
 
   told-same : (q : Stepped (M .State)) (u : Ran (M .State)) (s : M .State) (log : List ℕ) → q .ran ≡ u → AnswersAs (told M zero q s log) u
   told-same q u s log e = record {
@@ -143,7 +143,7 @@ module _ (M : Machine) where
           told-as _ (runNumber M rom sched s n) (strides M rom sched n (length log) n s) refl taken
           (strides-same M (L .jumps) rom sched n n (length log) s (omega arith) ∙ fits)
 
-  -- ---- a restore of what a save wrote
+  -- A restore of what a save wrote.
 
   wrote : ImageLaws M → (s : M .State) (bytes : List ℕ) → WrittenBy M s bytes → (M .stateNumber s ≡ 0) × (bytes ≡ M .image s)
   unfolding saved

@@ -1,10 +1,10 @@
 -- Cycles cut in two, on a log with any room and on one with room for every record; stops stay. Assumes nothing.
-use mathlib.Core.Path.{_≡_, _∙_, refl, sym, ap}
+use mathlib.Core.Path.{_≡_, _∙_, refl, ap}
 use mathlib.Core.Bool.{Bool, true, false}
-use mathlib.Core.List.{List, [], _∷_, _++_, append-assoc}
+use mathlib.Core.List.{List, _++_, append-assoc}
 use mathlib.Core.Option.{Option, none, some}
-use Prim.Native.Nat.{ℕ, zero, suc, _+_, _-_, _<_, _≤_}
-use native.Mathlib.Nat.{zero-add, suc-add, add-assoc, sub-zero, sub-add-eq}
+use Prim.Native.Nat.{ℕ, zero, suc, _+_, _-_, _≤_}
+use native.Mathlib.Nat.{zero-add, suc-add, add-assoc, sub-zero}
 use native.Mathlib.Omega.{arith}
 use lib.Dec.{leb}
 use lib.ListN.{length, length-append}
@@ -12,7 +12,7 @@ use borrow.Author.Tests.{le-leb}
 use Rattle.runs.specs.Machine.{Machine, Out, stop, went}
 use Rattle.runs.specs.TwoRunners.{Ran, still, begins, then, onOut, onRoom, onOutWithin, unbroken, within}
 
--- ---- on a log with any room: a cycles, and then b more unless they stopped
+-- On a log with any room: a cycles, and then b more unless they stopped.
 
 abbrev pub unlessStopped : {S : Type 0} → Option ℕ → Ran S → Ran S → Ran S
 unlessStopped none r q = q
@@ -85,7 +85,7 @@ module _ (M : Machine) (rom sched : List ℕ) where
           let fits : leb (length w) room ≡ true = le-leb (length w) room (omega (arith, both, g)) in
           rw (e, fits) (ap (begins w d) (ih (room - length w) t (omega (arith, both, g))))
 
--- ---- on a log with room for every record, also past a stop
+-- On a log with room for every record, also past a stop.
 
 abbrev pub firstStop : Option ℕ → Option ℕ → Option ℕ
 firstStop none o = o

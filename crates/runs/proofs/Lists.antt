@@ -3,17 +3,15 @@ use mathlib.Core.Path.{_≡_, _∙_, refl, sym, ap, ap₂, subst}
 use mathlib.Core.Logic.{_↔_}
 use mathlib.Core.List.{List, [], _∷_, _++_}
 use mathlib.Core.Option.{Option, none, some}
-use Prim.Native.Nat.{ℕ, zero, suc, _+_, _*_, _≤_}
+use Prim.Native.Nat.{ℕ, zero, suc, _+_, _≤_}
 use native.Mathlib.Nat.{zero-add}
 use native.Mathlib.Omega.{arith}
-use lib.ListN.{length}
 use Rattle.runs.specs.Machine.{Machine}
-use Rattle.runs.specs.Reports.{clocksPerCycle}
-use Rattle.runs.specs.TwoRunners.{cycleLimit, finished, stopped, RunAnswer, RestoreAnswer, Ran, endOf, unbroken, runNumber, restored}
+use Rattle.runs.specs.TwoRunners.{finished, stopped, RunAnswer, RestoreAnswer, Ran, endOf, unbroken, runNumber, restored}
 use Rattle.runs.specs.Laws.{Panel, Laws}
-use Rattle.runs.specs.Lists.{Kind, Call, run, save, restore, Each, keep, runAnswer, refusal, documentNumber, taken, after, last, Lent, AllGiven, Meant}
+use Rattle.runs.specs.Lists.{Kind, Call, run, save, restore, Each, keep, runAnswer, refusal, documentNumber, taken, last, Lent, AllGiven}
 use Rattle.runs.specs.Lists.{runs, logBytes, joinedLog, cycleTotal, begunTotal, clockTotal, AllFinish, StopsHave, SameCounts, AnswersAs}
-use Rattle.runs.specs.Lists.{asked, EndsAs, RefusedByNumbers, ChangesNothing, RefusedChangeNothing, GoesOn, EndsAsOneRun, EveryListEndsAsOneRun}
+use Rattle.runs.specs.Lists.{asked, EndsAs, ChangesNothing, EveryListEndsAsOneRun}
 use Rattle.runs.proofs.Iterate.{Reached, reaches}
 use Rattle.runs.proofs.Cut.{firstStop, joined, unbroken-cut, same-stop}
 use Rattle.runs.proofs.Calls.{Fit, run-fit, fit-run, fit-save, by-number, changes-nothing, run-same, restore-same}

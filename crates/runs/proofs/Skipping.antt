@@ -8,7 +8,7 @@ use lib.ListN.{length}
 use Rattle.runs.specs.Machine.{Machine}
 use Rattle.runs.specs.TwoRunners.{RunAnswer, Ran, Stepped, then, onStride, strideOf, within, strides, runNumber, told, stepwise, plain, skipping}
 use Rattle.runs.specs.Laws.{JumpLaws}
-use Rattle.runs.proofs.Cut.{unlessStopped, onward, within-cut}
+use Rattle.runs.proofs.Cut.{unlessStopped, within-cut}
 
 -- an answer but for its steps
 abbrev pub butSteps : {S : Type 0} → RunAnswer S → RunAnswer S

@@ -1,16 +1,16 @@
 -- Demand 3 of every list of slices: it is one of the lists meant, nothing in it is refused, and it ends as one run. Assumes nothing.
 use mathlib.Core.Path.{_≡_, _∙_, refl, sym, ap, subst}
 use mathlib.Core.List.{List, [], _∷_}
-use Prim.Native.Nat.{ℕ, zero, suc, _+_, _≤_}
+use Prim.Native.Nat.{ℕ, _+_, _≤_}
 use native.Mathlib.Omega.{arith}
-use lib.ListN.{length, take}
+use lib.ListN.{take}
 use Rattle.runs.specs.Machine.{Machine}
-use Rattle.runs.specs.TwoRunners.{cycleLimit, RunAnswer, RestoreAnswer, unbroken, runNumber, saved, restored}
+use Rattle.runs.specs.TwoRunners.{cycleLimit, RestoreAnswer, unbroken, runNumber, saved, restored}
 use Rattle.runs.specs.Laws.{Panel, Laws}
-use Rattle.runs.specs.Lists.{Call, run, save, restore, keep, runAnswer, refusal, taken, WrittenBy, Lent, AllGiven, Meant, asked, EndsAs}
+use Rattle.runs.specs.Lists.{Call, run, save, restore, keep, runAnswer, refusal, taken, WrittenBy, Lent, AllGiven, asked, EndsAs}
 use Rattle.runs.specs.Lists.{EndsAsOneRun, Slice, slicesAsk, Lendable, sliceCalls, SlicesEndAsOneRun, EveryListOfSlicesEndsAsOneRun}
 use Rattle.runs.proofs.Calls.{fit-run, fit-save, by-number, restore-same}
-use Rattle.runs.proofs.Lists.{Advances, advances, lists-end}
+use Rattle.runs.proofs.Lists.{advances, lists-end}
 
 module _ (M : Machine) (L : Laws M) (rom sched : List ℕ) (p : Panel M rom sched) where
   keeps : (c : Call (M .State)) (cs rest : List (Call (M .State))) → refusal M c ≡ 0 → taken M cs ≡ rest → taken M (c ∷ cs) ≡ c ∷ rest

@@ -8,11 +8,11 @@ use mathlib.Core.Option.{Option, none, some}
 use lib.ListN.{length, take}
 use Rattle.runs.specs.Machine.{Machine}
 use Rattle.runs.specs.Reports.{clocksPerCycle}
-use Rattle.runs.specs.TwoRunners.{cycleLimit, logBound, End, finished, stopped, refused, RunAnswer, SaveAnswer, RestoreAnswer}
+use Rattle.runs.specs.TwoRunners.{cycleLimit, logBound, End, finished, stopped, refused, RunAnswer, SaveAnswer}
 use Rattle.runs.specs.TwoRunners.{Ran, endOf, unbroken, runNumber, plain, skipping, saveNumber, saved, restored}
 use Rattle.runs.specs.Laws.{Panel}
 
--- ---- the calls
+-- The calls.
 
 -- "a run by the plain or the timer-skipping runner"
 pub data Kind : Type 0 where
@@ -59,7 +59,7 @@ module _ (M : Machine) where
   taken [] = []
   taken (c ∷ cs) = keep (refusal c) c (taken cs)
 
-  -- ---- which lists are meant
+  -- Which lists are meant.
 
   -- "the state that the last run or restore among them answered": after one call more, where it was `held`.
   -- "A list may go on after a stop, from the state of the stop": a run that stops answers that state.
@@ -103,7 +103,7 @@ module _ (M : Machine) where
   abbrev pub Meant : (rom sched : List ℕ) → M .State → List (Call (M .State)) → Type 0
   Meant rom sched s calls = AllGiven rom sched s (taken calls)
 
-  -- ---- how a list ends
+  -- How a list ends.
 
   -- "The final image is what a save of the last state so answered writes (of the starting state where there is none)", with its
   -- number, into any buffer.
@@ -186,7 +186,7 @@ module _ (M : Machine) where
     pub finish : AllFinish (runs M cs) ↔ (u .number ≡ none)
     pub stops : StopsHave (u .number) (runs M cs)
 
-  -- ---- refused calls
+  -- Refused calls.
 
   -- the number by which the documents refuse the call, else 0
   abbrev pub documentNumber : Call (M .State) → ℕ
@@ -217,7 +217,7 @@ module _ (M : Machine) where
     pub next-save : (buffer : List ℕ) → M .imageLength ≤ length buffer → refusal M (save s buffer) ≡ 0
     pub next-restore : (bytes : List ℕ) → WrittenBy M s bytes → refusal M (restore bytes) ≡ 0
 
-  -- ---- demand 3
+  -- The claim.
 
   -- DEMAND 3, of one list.
   pub record EndsAsOneRun (rom sched : List ℕ) (s : M .State) (calls : List (Call (M .State))) : Type 0 where
@@ -242,7 +242,7 @@ module _ (M : Machine) where
       (rom sched : List ℕ) (s : M .State) (calls : List (Call (M .State)))
       → Panel M rom sched → M .stateNumber s ≡ 0 → Meant M rom sched s calls → EndsAsOneRun rom sched s calls
 
--- ---- lists of slices
+-- Lists of slices.
 
 -- "A slice is a run by the plain or the timer-skipping runner, a save of its answer to bytes, and a restore of those bytes."
 -- Its run is lent a log and asked for n cycles, its save is lent a buffer.
