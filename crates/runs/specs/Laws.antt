@@ -1,4 +1,4 @@
--- What theorems about runs take from a machine: laws of its cycle. Assumes nothing: these are definitions.
+-- What theorems about runs take from a machine: laws of its cycle, its image and its jump. Assumes nothing: these are definitions.
 use mathlib.Core.Path.{_≡_}
 use mathlib.Core.List.{List}
 use Prim.Native.Nat.{ℕ, suc, _+_, _<_, _≤_}
@@ -28,3 +28,19 @@ pub record CycleLaws (M : Machine) : Type 0 where
   -- a cycle keeps the state accepted, adds 1 to the cycle number and appends 8 bytes at most, but for what it owes
   pub step : (rom sched : List ℕ) (s t : M .State) (w : List ℕ) (b : ℕ) → Panel M rom sched → M .stateNumber s ≡ 0 → M .at s < cycleLimit
       → M .cycle rom sched s ≡ went t w b → Stepped M debt s t w
+
+-- "a state saved and restored is the same state" (demand 2): the image of an accepted state has its length, is accepted, and is
+-- the image of that state
+pub record ImageLaws (M : Machine) : Type 0 where
+  pub image-length : (s : M .State) → M .stateNumber s ≡ 0 → length (M .image s) ≡ M .imageLength
+  pub image-accepted : (s : M .State) → M .stateNumber s ≡ 0 → M .imageNumber (M .image s) ≡ 0
+  pub image-back : (s : M .State) → M .stateNumber s ≡ 0 → M .ofImage (M .image s) ≡ s
+
+-- "at most .. the cycles left": no jump leads past them
+pub record JumpLaws (M : Machine) : Type 0 where
+  pub jump-within : (rom sched : List ℕ) (s : M .State) (left : ℕ) → M .jump rom sched s left ≤ left
+
+pub record Laws (M : Machine) : Type 0 where
+  pub cycles : CycleLaws M
+  pub images : ImageLaws M
+  pub jumps : JumpLaws M

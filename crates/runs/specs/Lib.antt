@@ -3,3 +3,4 @@ pub mod TwoRunners
 pub mod Numbers
 pub mod Reports
 pub mod Laws
+pub mod Lists
