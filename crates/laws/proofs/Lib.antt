@@ -6,3 +6,4 @@ pub mod Cycle
 pub mod Chip
 pub mod Timer
 pub mod Stops
+pub mod Jump
