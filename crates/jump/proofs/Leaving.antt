@@ -4,7 +4,6 @@ use mathlib.Core.List.{List, [], _∷_}
 use Prim.Native.Nat.{ℕ, zero, suc, _-_, _/_, _%_}
 use native.Mathlib.Omega.{arith}
 use lib.ListN.{length, getD}
-use Rattle.upd546.specs.declared.Timer.{Timer}
 use Rattle.upd546.specs.Timer.{registerAfter, timerLeft}
 
 pub left-some : (tm q r : ℕ) → (q ≡ 0 → ⊥) → r ≡ registerAfter (62 - (q - 1) % 63)

@@ -1,25 +1,27 @@
 -- Which test of a jump fails, and how long the jump is where all pass. Assumes nothing.
-use mathlib.Core.Path.{_≡_, _∙_, refl, sym, ap}
-use mathlib.Core.Bool.{Bool, true, false, not, _&&_}
+use mathlib.Core.Path.{_≡_, _∙_, refl, sym, ap, subst}
+use mathlib.Core.Bool.{Bool, true, false, _&&_}
 use mathlib.Core.List.{List, [], _∷_}
 use Prim.Native.Nat.{ℕ, zero, suc, _+_, _-_, _%_, _<_, _≤_, min}
 use native.Mathlib.Omega.{arith}
-use lib.Dec.{eqb, leb, ltb}
+use lib.Dec.{eqb}
 use lib.ListN.{getD}
 use borrow.Author.Tests.{lt-ltb, le-leb, lt-leb, eq-eqb, ne-eqb}
+use Rattle.runs.specs.TwoRunners.{cycleLimit}
 use Rattle.upd546.specs.declared.Core.{Core}
 use Rattle.upd546.specs.declared.Lines.{Lines}
 use Rattle.upd546.specs.declared.State.{State}
 use Rattle.upd546.specs.TheMachine.{lastAddress, byteAt, follows, pageOf}
 use Rattle.upd546.specs.Tests.{allOf}
-use Rattle.upd546.specs.TheLineSchedule.{linesAt, noRecord}
+use Rattle.upd546.specs.TheLineSchedule.{linesAt, scheduleNumber, noRecord}
 use Rattle.upd546.specs.Timer.{ticksLeft}
 use Rattle.upd546.specs.TwoRunners.{atTtm, atJcpBack, mayJump, jumpLength}
+use Rattle.laws.specs.Valid.{Valid}
 use Rattle.laws.proofs.Lists.{and-left, and-right}
-use Rattle.laws.proofs.Jump.{jump-length-none, jump-length-even}
+use Rattle.laws.proofs.Jump.{jump-within, jump-between, jump-length-even, jump-length-none}
 use Rattle.schedule.specs.declared.Cursor.{Cursor}
 use Rattle.schedule.specs.Cursor.{Stands}
-use Rattle.schedule.proofs.Standing.{no-record, some-record}
+use Rattle.schedule.proofs.Standing.{no-record, some-record, stays}
 use Rattle.jump.specs.Boundary.{Boundary, JumpsBy}
 
 and-true : (b : Bool) → (b && true) ≡ b
@@ -139,3 +141,18 @@ module _ (rom sched positions : List ℕ) (core : Core) (cursor : Cursor) (n lef
       even s c q =
           jump-length-even rom sched s left (cursor .next - n) (may s c q)
           (λ j h. rw q (none-before j h)) (λ j h l. rw q (one-after j h l)) k (rw c e)
+
+-- AFTER A JUMP
+
+-- The cursor stands at the jump's last cycle as it is, so that one move takes it past the jump.
+pub stands-last : (rom sched : List ℕ) (s : State) (left j : ℕ) (cursor : Cursor) → Valid s → scheduleNumber sched ≡ 0
+    → Stands sched (s .cycle .0) cursor → s .cycle .0 + left ≤ cycleLimit → jumpLength rom sched s left ≡ j → (j ≡ 0 → ⊥)
+    → Stands sched (s .cycle .0 + j - 1) cursor
+stands-last rom sched s left j cursor v a k h e more =
+    let n = s .cycle .0 in
+    let l : j ≤ left = subst (λ (x : ℕ). x ≤ left) e (jump-within rom sched s left) in
+    let u : cursor .next < n + j → ⊥ = λ q. some-none (sym (jump-between rom sched s left j v e more) ∙ some-record sched a n (n + j) cursor k q (omega arith)) in
+    stays sched a n (n + j - 1) cursor k (omega arith) (omega arith)
+  where
+    some-none : true ≡ false → ⊥
+    some-none e = let z : _≡_ {A = ℕ} 0 1 = cc in omega arith

@@ -13,8 +13,9 @@ use upd546::Registers;
 use upd546::Timer;
 ghost use mathlib.Core.Path.{_≡_};
 ghost use mathlib.Core.Bool.{_&&_};
-ghost use Prim.Native.Nat.{_-_, _*_, _%_, _<_, _≤_, min};
+ghost use Prim.Native.Nat.{_+_, _-_, _*_, _%_, _<_, _≤_, min};
 ghost use lib.ListN.{length};
+ghost use Rattle.runs.specs.TwoRunners.{cycleLimit};
 ghost use Rattle.upd546.specs.TheMachine.{romLength, byteAt, markOther};
 ghost use Rattle.upd546.specs.Parts.{withTimer, setMark};
 ghost use Rattle.upd546.specs.Timer.{period, ticksLeft, timerLeft};
@@ -78,6 +79,17 @@ fn lesser(a: u64, b: u64) -> u64
     a
 }
 
+// The cycles up to the next record, at most `bound`.
+fn up_to_record(bound: u64, n: u64, next: u64) -> u64
+    requires { ⌜ (n ≤ next) × (n + bound ≤ cycleLimit) ⌝ }
+    ensures { λ r. ⌜ r ≡ min bound (next - n) ⌝ }
+{
+    if n + bound < next {
+        return bound;
+    }
+    next - n
+}
+
 fn even_below(k: u64) -> u64
     ensures { λ r. ⌜ r ≡ k - k % 2 ⌝ }
 {
@@ -118,7 +130,7 @@ pub fn jump_length(
     let timer = core.timer;
     let ticks = ticks_left(positions, timer);
     let bound = lesser(ticks, left);
-    even_below(lesser(bound, cursor.next - n))
+    even_below(up_to_record(bound, n, cursor.next))
 }
 
 // The timer with so many ticks left; its counter fits 8 bits.

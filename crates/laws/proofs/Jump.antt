@@ -372,6 +372,16 @@ module _ (rom sched : List ℕ) (s : State) (left j : ℕ) (v : Valid s) (e : ju
   jump-unbroken =
       turns-unbroken rom sched s j (v .core .scalars .register) (law .may) (law .even) (omega arith) (law .left) (law .between)
 
+  -- what a runner asks of the timer and the schedule before it jumps
+  pub jump-runs : 0 < s .core .timer .register
+  jump-runs = may-jump rom sched s (law .may) .runs
+
+  pub jump-ticks : j ≤ ticksLeft (s .core .timer)
+  jump-ticks = law .left
+
+  pub jump-between : noRecord sched (s .cycle .0 + 1) (s .cycle .0 + j) ≡ true
+  jump-between = law .between
+
   pub jump-in-room : (room : ℕ) → within upd546 rom sched room j s ≡ quietly j (jumped j s)
   jump-in-room room =
       turns-within rom sched s j (v .core .scalars .register) (law .may) (law .even) (omega arith) (law .left) (law .between) room

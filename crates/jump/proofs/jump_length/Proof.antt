@@ -62,23 +62,20 @@ ticks-left-requires c κs =
 lesser-requires : tie.Need-lesser-requires
 lesser-requires c κs = search needs
 
-sub-lesser : tie.Need-sub-lesser
-sub-lesser c =
-    let at-if6 = c .before .before .before .before in
+up-to-record-requires : tie.Need-up-to-record-requires
+up-to-record-requires c κs =
+    let at-if6 = c .before .before .before in
     let at-if1 = at-if6 .before .before .before .before .before .before .before .before .before .before .before .before in
     let at-entry = at-if1 .before .before .before .before in
-    omega (arith, at-entry .pre .stands .reached)
-
-lesser-requires-2 : tie.Need-lesser-requires-2
-lesser-requires-2 c κs = search needs
+    (at-entry .pre .stands .reached, omega (arith, c .lesser .ensures, at-entry .pre .limit))
 
 even-below-requires : tie.Need-even-below-requires
 even-below-requires c κs = search needs
 
 returns-7 : tie.Need-returns-7
 returns-7 c =
-    let at-lesser2 = c .before in
-    let at-lesser = at-lesser2 .before .before in
+    let at-up-to-record = c .before in
+    let at-lesser = at-up-to-record .before in
     let at-ticks-left = at-lesser .before in
     let at-if6 = at-ticks-left .before .before in
     let at-if5 = at-if6 .before .before .before in
@@ -92,12 +89,12 @@ returns-7 c =
     let running : 0 < a .core .timer .register = omega (arith, at-if1 .if1 .left) in
     let loops = sym (at-waits .waits .ensures) ∙ not-false (at-waits .waits .result) (at-if4 .if4 .left) in
     let next = a .cursor .next - a .n in
-    let least = at-lesser2 .lesser2 .ensures
+    let least = at-up-to-record .up-to-record .ensures
     ∙ ap (λ (x : ℕ). min x next) (at-lesser .lesser .ensures ∙ ap (λ (x : ℕ). min x (a .left)) (at-ticks-left .ticks-left .ensures)) in
     jumps (now (a .rom)) (now (a .sched)) (now (a .positions)) (a .core) (a .cursor) (a .n) (a .left) (at-entry .pre)
     (passes (now (a .rom)) (now (a .sched)) (a .core) (a .n) (a .left) (a .cursor) (at-entry .pre .stands)
     (at-if3 .if3 .left) (at-if2 .if2 .left) running (at-if5 .if5 .left) loops (at-if6 .if6 .left))
-    (at-lesser2 .lesser2 .result) (c .even-below .result) least (c .even-below .ensures)
+    (at-up-to-record .up-to-record .result) (c .even-below .result) least (c .even-below .ensures)
 
 pub jump-length-spec : {M : Type 1} → statement M
 jump-length-spec =
@@ -112,7 +109,6 @@ jump-length-spec =
     returns-6
     ticks-left-requires
     lesser-requires
-    sub-lesser
-    lesser-requires-2
+    up-to-record-requires
     even-below-requires
     returns-7)
