@@ -10,3 +10,4 @@ pub mod Parts
 pub mod Packing
 pub mod Tails
 pub mod Images
+pub mod Jump

@@ -6,9 +6,9 @@ use native.Mathlib.Omega.{arith}
 use lib.Dec.{ltb, ltb→lt}
 use lib.ListN.{getD}
 use Rattle.upd546.specs.Instructions.{instruction}
-use Rattle.upd546.specs.Timer.{period, positionOf}
+use Rattle.upd546.specs.Timer.{period, positionOf, registerAfter}
 use Rattle.upd546.proofs.Computed.{every-at, getD-entries}
-use Rattle.tables.specs.Tables.{sizeOf, entryOf, instructionTable, positionTable}
+use Rattle.tables.specs.Tables.{sizeOf, entryOf, instructionTable, positionTable, registerTable}
 
 pub entry-at : (code : ℕ) → code < 256 → getD instructionTable code 0 ≡ entryOf code
 unfolding instructionTable
@@ -25,3 +25,7 @@ position-at r p h =
     let k : r - 1 < period = omega arith in
     let e : suc (r - 1) ≡ r = omega arith in
     rw (getD-entries period (λ i. positionOf (suc i)) (r - 1) 0 k, e)
+
+pub register-at : (p : ℕ) → p < period → getD registerTable p 0 ≡ registerAfter p
+unfolding registerTable
+register-at p h = getD-entries period registerAfter p 0 h

@@ -1,10 +1,10 @@
 -- Document 01: "One 256-entry table of bytes and base cycles serves decoding and skipping"; "A 63-entry table of register
--- positions gives r". Assumes nothing: these are definitions.
+-- positions gives r"; and the inverse of that one. Assumes nothing: these are definitions.
 use Prim.Native.Nat.{ℕ, suc, _+_, _*_}
 use mathlib.Core.List.{List}
 use Rattle.upd546.specs.TheMachine.{entries}
 use Rattle.upd546.specs.Instructions.{instruction}
-use Rattle.upd546.specs.Timer.{period, positionOf}
+use Rattle.upd546.specs.Timer.{period, positionOf, registerAfter}
 use Rattle.tables.specs.declared.Size.{Size}
 
 -- bytes and base cycles of a code, by the instruction list
@@ -21,3 +21,7 @@ instructionTable = entries 256 entryOf
 -- the registers 1 to 63, each at the place of its number less 1
 unfoldable pub positionTable : List ℕ
 positionTable = entries period (λ i. positionOf (suc i))
+
+-- the registers by position, the register 1 having position 0
+unfoldable pub registerTable : List ℕ
+registerTable = entries period registerAfter

@@ -1,16 +1,20 @@
-// The two constant tables of document 01, each read by a function: bytes and base cycles of every code, and the position of
-// every register of the timer. A table is built anew wherever it is named, so a run makes it once and lends it.
+// The constant tables, each read by a function: document 01's two, bytes and base cycles of every code and the position of
+// every register of the timer, and the inverse of the second, the register of every position. A table is built anew wherever
+// it is named, so a run makes it once and lends it.
 // It may not know what an instruction does, nor how a run goes.
 ghost use mathlib.Core.Path.{_≡_};
 ghost use Prim.Native.Nat.{_<_, _≤_};
-ghost use Rattle.upd546.specs.Timer.{positionOf};
-ghost use Rattle.tables.specs.Tables.{instructionTable, positionTable, sizeOf};
+ghost use Rattle.upd546.specs.Timer.{positionOf, registerAfter};
+ghost use Rattle.tables.specs.Tables.{instructionTable, positionTable, registerTable, sizeOf};
 
 // A code's entry is 4 times its bytes plus its base cycles.
 pub type InstructionTable = [u8; 256];
 
 // The entry of register r is at r - 1.
 pub type PositionTable = [u8; 63];
+
+// The entry of position p is at p.
+pub type RegisterTable = [u8; 63];
 
 const INSTRUCTIONS: InstructionTable = [
     // codes 00 to 0F
@@ -319,7 +323,7 @@ const POSITIONS: PositionTable = [
     41,
     19,
     56,
-    62,
+    62, // register 32, the last position
     5,
     11,
     25,
@@ -353,6 +357,72 @@ const POSITIONS: PositionTable = [
     57,
 ];
 
+const REGISTERS: RegisterTable = [
+    1,
+    2,
+    4,
+    8,
+    16,
+    33, // position 5: bits 5 and 4 of 16 differ
+    3,
+    6,
+    12,
+    24,
+    49,
+    34,
+    5,
+    10,
+    20,
+    41,
+    19,
+    39,
+    15,
+    30,
+    61,
+    58,
+    52,
+    40,
+    17,
+    35,
+    7,
+    14,
+    28,
+    57,
+    50,
+    36,
+    9,
+    18,
+    37,
+    11,
+    22,
+    45,
+    27,
+    55,
+    46,
+    29,
+    59,
+    54,
+    44,
+    25,
+    51,
+    38,
+    13,
+    26,
+    53,
+    42,
+    21,
+    43,
+    23,
+    47,
+    31,
+    63,
+    62,
+    60,
+    56,
+    48,
+    32,
+];
+
 // The bytes and base cycles of a code.
 pub struct Size {
     pub bytes: u8,
@@ -369,6 +439,12 @@ pub fn position_table() -> PositionTable
     ensures { λ r. ⌜ r ≡ positionTable ⌝ }
 {
     POSITIONS
+}
+
+pub fn register_table() -> RegisterTable
+    ensures { λ r. ⌜ r ≡ registerTable ⌝ }
+{
+    REGISTERS
 }
 
 // The table's entry for a code, for decoding and for skipping.
@@ -390,5 +466,14 @@ pub fn position(table: &PositionTable, register: u8) -> u8
     ensures { λ r. ⌜ r ≡ positionOf register ⌝ }
 {
     let i = (register - 1) as usize;
+    table[i]
+}
+
+// The register so many steps after 1.
+pub fn register_at(table: &RegisterTable, position: u8) -> u8
+    requires { ⌜ (now table ≡ registerTable) × (position < 63) ⌝ }
+    ensures { λ r. ⌜ r ≡ registerAfter position ⌝ }
+{
+    let i = position as usize;
     table[i]
 }

@@ -1,6 +1,6 @@
 -- Document 01, "Two runners": where the timer-skipping one jumps, and the chip as the machine that the runners run.
 -- Assumes nothing: these are definitions.
-use Prim.Native.Nat.{ℕ, zero, suc, _+_, _%_, min}
+use Prim.Native.Nat.{ℕ, zero, suc, _+_, _-_, _%_, min}
 use mathlib.Core.Bool.{Bool, true, false, not, _&&_}
 use mathlib.Core.List.{List, [], _∷_}
 use lib.Dec.{eqb, leb, ltb}
@@ -10,13 +10,15 @@ use Rattle.runs.specs.TwoRunners.{firstOf, unless, plain, skipping, saved, rest
 use Rattle.runs.specs.TwoRunners as runners
 use Rattle.runs.specs.Numbers.{endOf, outcomeNumber}
 use Rattle.runs.specs.declared.Outcome.{Outcome}
+use Rattle.upd546.specs.declared.Core.{Core}
 use Rattle.upd546.specs.declared.State.{State}
 use Rattle.upd546.specs.declared.RunAnswer.{RunAnswer}
 use Rattle.upd546.specs.declared.RestoreAnswer.{RestoreAnswer}
-use Rattle.upd546.specs.TheMachine.{romLength, inRom, byteAt, follows, pageOf, fresh}
+use Rattle.upd546.specs.TheMachine.{romLength, inRom, byteAt, follows, pageOf, markOther, fresh}
 use Rattle.upd546.specs.Tests.{allOf}
+use Rattle.upd546.specs.Parts.{withTimer, setMark}
 use Rattle.upd546.specs.TheLineSchedule.{scheduleNumber, linesAt, noRecord}
-use Rattle.upd546.specs.Timer.{ticksLeft}
+use Rattle.upd546.specs.Timer.{ticksLeft, timerLeft}
 use Rattle.upd546.specs.OneMachineCycle.{cycle}
 use Rattle.upd546.specs.StateImage.{imageLength, imageOf, ofImage, stateNumber, imageNumber}
 
@@ -61,6 +63,14 @@ onJump false sched s left = 0
 -- the cycles that the timer-skipping runner jumps in one step, or 0
 unfoldable pub jumpLength : List ℕ → List ℕ → State → ℕ → ℕ
 jumpLength rom sched s left = onJump (mayJump rom sched s) sched s left
+
+-- What one jump says: j cycles of the loop leave the core as it was, but for mark other and j ticks fewer left.
+unfoldable pub jumpedCore : ℕ → Core → Core
+jumpedCore j c = setMark markOther (withTimer c (timerLeft (c .timer .tm) (ticksLeft (c .timer) - j)))
+
+-- that core, RAM and latches as they were, and the cycle number j higher
+abbrev pub jumped : ℕ → State → State
+jumped j s = record { core = jumpedCore j (s .core); ports = s .ports; ram = s .ram; cycle = record { 0 = s .cycle .0 + j } }
 
 -- "21 not 2,000 bytes", before the schedule's numbers
 unfoldable pub panelNumber : List ℕ → List ℕ → ℕ

@@ -1,0 +1,200 @@
+// The jump of the timer-skipping runner, in code: how many cycles it jumps at a boundary, and the core that the jump leaves.
+// A runner asks for the length once a cycle, so the tests that most cycles fail come first.
+// It may not know what a cycle does, nor how a run goes.
+use schedule::Cursor;
+use tables::PositionTable;
+use tables::RegisterTable;
+use upd546::Core;
+use upd546::Flow;
+use upd546::Interrupt;
+use upd546::LAST_ADDRESS;
+use upd546::MARK_OTHER;
+use upd546::Registers;
+use upd546::Timer;
+ghost use mathlib.Core.Path.{_≡_};
+ghost use mathlib.Core.Bool.{_&&_};
+ghost use Prim.Native.Nat.{_+_, _-_, _*_, _%_, _<_, _≤_, min};
+ghost use lib.ListN.{length};
+ghost use Rattle.runs.specs.TwoRunners.{cycleLimit};
+ghost use Rattle.upd546.specs.TheMachine.{romLength, byteAt, markOther};
+ghost use Rattle.upd546.specs.Parts.{withTimer, setMark};
+ghost use Rattle.upd546.specs.Timer.{period, ticksLeft, timerLeft};
+ghost use Rattle.upd546.specs.TwoRunners.{atTtm, atJcpBack, jumpedCore};
+ghost use Rattle.tables.specs.Tables.{positionTable, registerTable};
+ghost use Rattle.jump.specs.Boundary.{Boundary, JumpsBy, Jumpable};
+
+// The code of TTM, and the first code of JCP.
+const CODE_TTM: u8 = 0x05;
+
+const FIRST_JCP: u8 = 0xC0;
+
+// The polynomial register is 1 again after so many steps.
+const PERIOD: u64 = 63;
+
+fn byte_at(rom: &[u8], a: u16) -> u8
+    requires { ⌜ (length (now rom) ≡ romLength) × (a < romLength) ⌝ }
+    ensures { λ r. ⌜ r ≡ byteAt (now (rom .entry)) a ⌝ }
+{
+    let i = a as usize;
+    rom[i]
+}
+
+// Whether the byte at PC is TTM and the next address holds a JCP back to it.
+fn waits(rom: &[u8], pc: u16) -> bool
+    requires { ⌜ length (now rom) ≡ romLength ⌝ }
+    ensures { λ r. ⌜ r ≡ (atTtm (now (rom .entry)) pc && atJcpBack (now (rom .entry)) pc) ⌝ }
+{
+    if LAST_ADDRESS < pc {
+        return false;
+    }
+    if byte_at(rom, pc) != CODE_TTM {
+        return false;
+    }
+    let next = steps::follows(pc);
+    if LAST_ADDRESS < next {
+        return false;
+    }
+    let code = byte_at(rom, next);
+    if code < FIRST_JCP {
+        return false;
+    }
+    next / 64 * 64 + code as u16 % 64 == pc
+}
+
+// The ticks left of a running timer.
+fn ticks_left(positions: &PositionTable, t: Timer) -> u64
+    requires { ⌜ (now positions ≡ positionTable) × (0 < t .register) × (t .register < 64) ⌝ }
+    ensures { λ r. ⌜ r ≡ ticksLeft t ⌝ }
+{
+    let position = tables::position(positions, t.register) as u64;
+    PERIOD - position + PERIOD * t.counter as u64
+}
+
+fn lesser(a: u64, b: u64) -> u64
+    ensures { λ r. ⌜ r ≡ min a b ⌝ }
+{
+    if b < a {
+        return b;
+    }
+    a
+}
+
+// The cycles up to the next record, at most `bound`.
+fn up_to_record(bound: u64, n: u64, next: u64) -> u64
+    requires { ⌜ (n ≤ next) × (n + bound ≤ cycleLimit) ⌝ }
+    ensures { λ r. ⌜ r ≡ min bound (next - n) ⌝ }
+{
+    if n + bound < next {
+        return bound;
+    }
+    next - n
+}
+
+fn even_below(k: u64) -> u64
+    ensures { λ r. ⌜ r ≡ k - k % 2 ⌝ }
+{
+    k - k % 2
+}
+
+// The cycles that the timer-skipping runner jumps in one step at cycle n with so many left, or 0.
+pub fn jump_length(
+    rom: &[u8],
+    sched: &[u8],
+    positions: &PositionTable,
+    core: Core,
+    cursor: Cursor,
+    n: u64,
+    left: u64,
+) -> u64
+    requires { ⌜ Boundary (now rom) (now sched) (now positions) core cursor n left ⌝ }
+    ensures { λ r. ⌜ JumpsBy (now (rom .entry)) (now (sched .entry)) core n left r ⌝ }
+{
+    if core.timer.register == 0 {
+        return 0;
+    }
+    if core.timer.tm != 0 {
+        return 0;
+    }
+    if core.owed != 0 {
+        return 0;
+    }
+    if !waits(rom, core.flow.pc) {
+        return 0;
+    }
+    if (core.interrupt.int == 1) & (core.interrupt.inte == 1) {
+        return 0;
+    }
+    if cursor.lines.int != core.interrupt.level {
+        return 0;
+    }
+    let timer = core.timer;
+    let ticks = ticks_left(positions, timer);
+    let bound = lesser(ticks, left);
+    even_below(up_to_record(bound, n, cursor.next))
+}
+
+// The timer with so many ticks left; its counter fits 8 bits.
+fn timer_left(registers: &RegisterTable, tm: u8, ticks: u64) -> Timer
+    requires { ⌜ (now registers ≡ registerTable) × (ticks ≤ period * 256) ⌝ }
+    ensures { λ r. ⌜ r ≡ timerLeft tm ticks ⌝ }
+{
+    if ticks == 0 {
+        return Timer {
+            tm: 1,
+            register: 0,
+            counter: 0,
+        };
+    }
+    let k = ticks - 1;
+    let position = (PERIOD - 1 - k % PERIOD) as u8;
+    let register = tables::register_at(registers, position);
+    Timer {
+        tm,
+        register,
+        counter: (k / PERIOD) as u8,
+    }
+}
+
+// The core with this timer and mark other.
+// Structs are made field by field, so that the optimiser keeps the fields apart.
+fn with_timer(c: Core, tm: u8, register: u8, counter: u8) -> Core
+    ensures { λ r. ⌜ r ≡ setMark markOther (withTimer c (record { tm = tm; register = register; counter = counter })) ⌝ }
+{
+    let stack = c.flow.stack;
+    Core {
+        registers: Registers {
+            acc: c.registers.acc,
+            carry: c.registers.carry,
+            saved: c.registers.saved,
+            dph: c.registers.dph,
+            dpl: c.registers.dpl,
+        },
+        flow: Flow {
+            pc: c.flow.pc,
+            stack: [stack[0], stack[1], stack[2]],
+        },
+        interrupt: Interrupt {
+            int: c.interrupt.int,
+            inte: c.interrupt.inte,
+            level: c.interrupt.level,
+        },
+        timer: Timer {
+            tm,
+            register,
+            counter,
+        },
+        mark: MARK_OTHER,
+        owed: c.owed,
+    }
+}
+
+// The core after a jump of j cycles, at the same cost for every j.
+pub fn jumped(positions: &PositionTable, registers: &RegisterTable, core: Core, j: u64) -> Core
+    requires { ⌜ Jumpable (now positions) (now registers) core j ⌝ }
+    ensures { λ r. ⌜ r ≡ jumpedCore j core ⌝ }
+{
+    let timer = core.timer;
+    let ticks = ticks_left(positions, timer) - j;
+    let next = timer_left(registers, core.timer.tm, ticks);
+    with_timer(core, next.tm, next.register, next.counter)
+}

@@ -1,0 +1,434 @@
+-- What a jump of the timer-skipping runner says is what so many plain cycles come to, and how long a jump is.
+-- Assumes nothing.
+use mathlib.Core.Path.{_≡_, _∙_, refl, sym, ap, subst}
+use mathlib.Core.Bool.{Bool, true, false, _&&_}
+use mathlib.Core.List.{List, [], _∷_, _++_}
+use mathlib.Core.Option.{none}
+use Prim.Native.Nat.{ℕ, zero, suc, _+_, _-_, _*_, _/_, _%_, _<_, _≤_, min}
+use native.Mathlib.Nat.{add-zero, sub-zero}
+use native.Mathlib.Omega.{arith}
+use lib.Dec.{eqb, leb, ltb}
+use lib.ListN.{replicate, getD-replicate, List·getD-eq-default}
+use lib.Seq.{set-getD}
+use borrow.Author.Tests.{ltb-true, leb-true, eqb-true, eqb-false, lt-ltb, le-ltb, le-leb, not-true}
+use Rattle.runs.specs.Machine.{Machine, Out, stop, went}
+use Rattle.runs.specs.TwoRunners.{cycleLimit, Ran, firstOf, begins, unbroken, within}
+use Rattle.runs.specs.Laws.{Panel}
+use Rattle.runs.proofs.Iterate as iterate
+use Rattle.upd546.specs.declared.Core.{Core}
+use Rattle.upd546.specs.declared.Timer.{Timer}
+use Rattle.upd546.specs.declared.Lines.{Lines}
+use Rattle.upd546.specs.declared.State.{State}
+use Rattle.upd546.specs.TheMachine.{inRom, byteAt, follows, past, pageOf, markOther}
+use Rattle.upd546.specs.Tests.{allOf}
+use Rattle.upd546.specs.TheLineSchedule.{recordCount, recordCycle, linesAt, noneAmong, noRecord}
+use Rattle.upd546.specs.Timer.{tick, ticksLeft, timerLeft}
+use Rattle.upd546.specs.Instructions.{instruction, codes, jcp, none as noInstruction}
+use Rattle.upd546.specs.OneMachineCycle.{accepts, taken, ticked, given, instructionStop, passedOver, begun, execute, cycle}
+use Rattle.upd546.specs.StateImage.{stateNumber}
+use Rattle.upd546.specs.TwoRunners.{atTtm, atJcpBack, mayJump, jumpable, largest, onJump, jumpLength, jumpedCore, jumped, upd546}
+use Rattle.laws.specs.Valid.{Valid}
+use Rattle.laws.proofs.Lists.{and-left, and-right, all-at}
+use Rattle.laws.proofs.Sound.{accepted-valid, valid-accepted}
+use Rattle.laws.proofs.Lines.{lines-same}
+use Rattle.laws.proofs.Chip.{chip-laws}
+use Rattle.laws.proofs.Timer.{tick-left, running-left}
+
+-- CYCLES THAT APPEND NOTHING
+
+no-bytes-left : (w v : List ℕ) → w ++ v ≡ [] → w ≡ []
+no-bytes-left [] v e = refl
+no-bytes-left (x ∷ w) v e = cc
+
+no-bytes-right : (w v : List ℕ) → w ++ v ≡ [] → v ≡ []
+no-bytes-right [] v e = e
+no-bytes-right (x ∷ w) v e = cc
+
+-- such cycles go on a log of any room as they go with room for every record
+within-unbroken : (M : Machine) (rom sched : List ℕ) (room n : ℕ) (s : M .State) → unbroken M rom sched n s .bytes ≡ []
+    → within M rom sched room n s ≡ unbroken M rom sched n s
+unfolding unbroken within
+within-unbroken M rom sched room zero s e = refl
+within-unbroken M rom sched room (suc n) s e = go (M .cycle rom sched s) refl (λ t. within-unbroken M rom sched room n t)
+  where
+    go : (o : Out (M .State)) → M .cycle rom sched s ≡ o
+        → ((t : M .State) → unbroken M rom sched n t .bytes ≡ [] → within M rom sched room n t ≡ unbroken M rom sched n t)
+        → within M rom sched room (suc n) s ≡ unbroken M rom sched (suc n) s
+    go (stop k) q ih = rw q
+    go (went t w b) q ih =
+        let f : w ++ unbroken M rom sched n t .bytes ≡ [] = rw q at e in
+        let z : w ≡ [] = no-bytes-left w (unbroken M rom sched n t .bytes) f in
+        let h = ih t (no-bytes-right w (unbroken M rom sched n t .bytes) f) in
+        rw (q, z, le-leb 0 room (omega arith), sub-zero room, h)
+
+-- ONE CYCLE OF THE WAITING LOOP
+
+no-accept : (a b c d : Bool) → (c && b) ≡ false → allOf (a ∷ b ∷ c ∷ d ∷ []) ≡ false
+unfolding allOf
+no-accept false b c d e = refl
+no-accept true false c d e = refl
+no-accept true true false d e = refl
+no-accept true true true d e = cc
+
+-- the lines are taken, and INT doesn't fall
+taken-same : (l : Lines) (c : Core) → l .int ≡ c .interrupt .level → taken l c ≡ c
+unfolding taken
+taken-same l c e = rw (e, le-ltb (c .interrupt .level) (c .interrupt .level) (omega arith))
+
+-- C0 to FF
+is-jcp : (code : ℕ) → 0xC0 ≤ code → instruction code ≡ jcp
+unfolding instruction
+is-jcp code h =
+    let p : 12 ≤ code / 16 = omega arith in
+    rw (List·getD-eq-default codes (replicate 16 jcp) p) (getD-replicate 16 (code % 16) jcp noInstruction (omega arith))
+
+-- the state in the loop at an address, with this timer and cycle number; nothing else changes there
+abbrev inLoop : State → ℕ → Timer → ℕ → State
+inLoop s pc t n = record {
+  core = record {
+    registers = s .core .registers;
+    flow = record { pc = pc; stack = s .core .flow .stack };
+    interrupt = s .core .interrupt;
+    timer = t;
+    mark = markOther;
+    owed = 0;
+  };
+  ports = s .ports;
+  ram = s .ram;
+  cycle = record { 0 = n };
+}
+
+module _ (rom sched : List ℕ) (s : State) where
+  cycle-executes : s .core .owed ≡ 0 → (eqb (s .core .interrupt .int) 1 && eqb (s .core .interrupt .inte) 1) ≡ false
+      → linesAt sched (s .cycle .0) .int ≡ s .core .interrupt .level
+      → cycle rom sched s ≡ execute rom (linesAt sched (s .cycle .0)) s (s .core)
+  unfolding cycle accepts
+  cycle-executes o f l =
+      rw (no-accept (eqb (s .core .owed) 0) _ _ _ f, taken-same (linesAt sched (s .cycle .0)) (s .core) l, o)
+
+  -- TTM with TM 0
+  execute-ttm : (l : Lines) → s .core .timer .tm ≡ 0 → inRom (s .core .flow .pc) ≡ true → byteAt rom (s .core .flow .pc) ≡ 0x05
+      → execute rom l s (s .core) ≡ went (inLoop s (follows (s .core .flow .pc)) (tick (s .core .timer)) (s .cycle .0 + 1)) [] 1
+  unfolding execute given instructionStop passedOver begun instruction past firstOf ticked
+  execute-ttm l z i b = rw (b, i, z, set-getD)
+
+  execute-jcp : (l : Lines) → inRom (s .core .flow .pc) ≡ true → 0xC0 ≤ byteAt rom (s .core .flow .pc)
+      → execute rom l s (s .core)
+      ≡ went (inLoop s (pageOf (s .core .flow .pc) + byteAt rom (s .core .flow .pc) % 64) (tick (s .core .timer)) (s .cycle .0 + 1)) [] 1
+  unfolding execute given instructionStop passedOver begun past firstOf ticked
+  execute-jcp l i b = rw (is-jcp (byteAt rom (s .core .flow .pc)) b, i, set-getD)
+
+-- ONE TURN OF IT
+
+-- the state at TTM again, with q ticks left
+abbrev atTtmAgain : State → ℕ → ℕ → State
+atTtmAgain s q n = inLoop s (s .core .flow .pc) (timerLeft 0 q) n
+
+-- what stays as it is in the loop `TTM; JCP back`
+record Waits (rom : List ℕ) (c : Core) : Type 0 where
+  owed : c .owed ≡ 0
+  free : (eqb (c .interrupt .int) 1 && eqb (c .interrupt .inte) 1) ≡ false
+  ttm-in : inRom (c .flow .pc) ≡ true
+  ttm : byteAt rom (c .flow .pc) ≡ 0x05
+  jcp-in : inRom (follows (c .flow .pc)) ≡ true
+  jcp : 0xC0 ≤ byteAt rom (follows (c .flow .pc))
+  back : pageOf (follows (c .flow .pc)) + byteAt rom (follows (c .flow .pc)) % 64 ≡ c .flow .pc
+
+-- the INT line is the level seen at the j cycles from n on
+abbrev Level : List ℕ → State → ℕ → ℕ → Type 0
+Level sched s j n = (i : ℕ) → i < j → linesAt sched (n + i) .int ≡ s .core .interrupt .level
+
+level-first : (sched : List ℕ) (s : State) (j n : ℕ) → Level sched s (suc j) n → linesAt sched n .int ≡ s .core .interrupt .level
+level-first sched s j n l = rw (add-zero n) at (l 0 (omega arith))
+
+level-later : (sched : List ℕ) (s : State) (j n : ℕ) → Level sched s (suc (suc j)) n → Level sched s j (n + 1 + 1)
+level-later sched s j n l i h =
+    let e : n + suc (suc i) ≡ n + 1 + 1 + i = omega arith in
+    rw e at (l (suc (suc i)) (omega arith))
+
+-- so many cycles that append nothing, each of which begins an instruction
+abbrev pub quietly : ℕ → State → Ran State
+quietly j s = record { state = s; bytes = []; cycles = j; begun = j; number = none }
+
+two-more : (j : ℕ) (s : State) → begins [] 1 (begins [] 1 (quietly j s)) ≡ quietly (suc (suc j)) s
+two-more j s = let e : 1 + (1 + j) ≡ suc (suc j) = omega arith in rw e
+
+left-tm : (tm k : ℕ) → timerLeft tm (suc k) .tm ≡ tm
+unfolding timerLeft
+left-tm tm k = refl
+
+module _ (rom sched : List ℕ) (s : State) (w : Waits rom (s .core)) where
+  ttm-cycle : s .core .timer .tm ≡ 0 → linesAt sched (s .cycle .0) .int ≡ s .core .interrupt .level
+      → cycle rom sched s ≡ went (inLoop s (follows (s .core .flow .pc)) (tick (s .core .timer)) (s .cycle .0 + 1)) [] 1
+  ttm-cycle z l =
+      cycle-executes rom sched s (w .owed) (w .free) l
+      ∙ execute-ttm rom sched s (linesAt sched (s .cycle .0)) z (w .ttm-in) (w .ttm)
+
+  jcp-cycle : (t : Timer) (n : ℕ) → linesAt sched n .int ≡ s .core .interrupt .level
+      → cycle rom sched (inLoop s (follows (s .core .flow .pc)) t n) ≡ went (inLoop s (s .core .flow .pc) (tick t) (n + 1)) [] 1
+  jcp-cycle t n l =
+      let u = inLoop s (follows (s .core .flow .pc)) t n in
+      cycle-executes rom sched u refl (w .free) l
+      ∙ execute-jcp rom sched u (linesAt sched n) (w .jcp-in) (w .jcp)
+      ∙ ap (λ (pc : ℕ). went (inLoop s pc (tick t) (n + 1)) [] 1) (w .back)
+
+  -- with q + 2 ticks left, TM is 0 at TTM; two cycles later PC is back
+  turn : (q k : ℕ) → s .core .timer ≡ timerLeft 0 (suc (suc q)) → Level sched s (suc (suc k)) (s .cycle .0)
+      → unbroken upd546 rom sched (suc (suc k)) s ≡ begins [] 1 (begins [] 1 (unbroken upd546 rom sched k (atTtmAgain s q (s .cycle .0 + 1 + 1))))
+  unfolding unbroken
+  turn q k t l =
+      let n = s .cycle .0 in
+      let z : s .core .timer .tm ≡ 0 = ap (λ (x : Timer). x .tm) t ∙ left-tm 0 (suc q) in
+      rw (ttm-cycle z (level-first sched s (suc k) n l), jcp-cycle (tick (s .core .timer)) (n + 1) (l 1 (omega arith)), t, tick-left 0 (suc q), tick-left 0 q)
+
+-- EVERY TURN OF IT
+
+-- 2h, counted by turns
+abbrev double : ℕ → ℕ
+double zero = zero
+double (suc h) = suc (suc (double h))
+
+double-is : (h : ℕ) → double h ≡ 2 * h
+double-is zero = refl
+double-is (suc h) = omega (arith, double-is h)
+
+again-waits : (rom : List ℕ) (s : State) (q n : ℕ) → Waits rom (s .core) → Waits rom (atTtmAgain s q n .core)
+again-waits rom s q n w =
+    record { owed = refl; free = w .free; ttm-in = w .ttm-in; ttm = w .ttm; jcp-in = w .jcp-in; jcp = w .jcp; back = w .back }
+
+last-turn : (rom sched : List ℕ) (s : State) → begins [] 1 (begins [] 1 (unbroken upd546 rom sched 0 s)) ≡ quietly 2 s
+unfolding unbroken
+last-turn rom sched s = two-more 0 s
+
+-- h + 1 turns; the first may find any mark
+turns : (rom sched : List ℕ) (h q : ℕ) (s : State) → Waits rom (s .core) → s .core .timer ≡ timerLeft 0 (double (suc h) + q)
+    → Level sched s (double (suc h)) (s .cycle .0)
+    → unbroken upd546 rom sched (double (suc h)) s ≡ quietly (double (suc h)) (atTtmAgain s q (s .cycle .0 + double (suc h)))
+turns rom sched zero q s w t l =
+    let e : 2 + q ≡ suc (suc q) = omega arith in
+    let a : s .cycle .0 + 1 + 1 ≡ s .cycle .0 + 2 = omega arith in
+    turn rom sched s w q 0 (t ∙ ap (timerLeft 0) e) l
+    ∙ last-turn rom sched (atTtmAgain s q (s .cycle .0 + 1 + 1))
+    ∙ ap (λ (n : ℕ). quietly 2 (atTtmAgain s q n)) a
+turns rom sched (suc h) q s w t l =
+    let j = double (suc h) in
+    let n = s .cycle .0 in
+    let e : suc (suc j) + q ≡ suc (suc (j + q)) = omega arith in
+    let a : n + 1 + 1 + j ≡ n + suc (suc j) = omega arith in
+    turn rom sched s w (j + q) j (t ∙ ap (timerLeft 0) e) l
+    ∙ ap (λ (r : Ran State). begins [] 1 (begins [] 1 r))
+    (turns rom sched h q (atTtmAgain s (j + q) (n + 1 + 1)) (again-waits rom s (j + q) (n + 1 + 1) w) refl (level-later sched s j n l))
+    ∙ two-more j (atTtmAgain s q (n + 1 + 1 + j))
+    ∙ ap (λ (m : ℕ). quietly (suc (suc j)) (atTtmAgain s q m)) a
+
+-- LINES
+
+-- no record below a bound is none below a lesser one
+none-fewer : (sched : List ℕ) (a b d k : ℕ) → d ≤ b → noneAmong sched a b k ≡ true → noneAmong sched a d k ≡ true
+unfolding noneAmong
+none-fewer sched a b d zero h e = refl
+none-fewer sched a b d (suc k) h e = go (leb a r && ltb r b) refl (leb a r && ltb r d) refl (none-fewer sched a b d k h)
+  where
+    r : ℕ
+    r = recordCycle sched k
+
+    go : (t : Bool) → (leb a r && ltb r b) ≡ t → (u : Bool) → (leb a r && ltb r d) ≡ u
+        → (noneAmong sched a b k ≡ true → noneAmong sched a d k ≡ true) → noneAmong sched a d (suc k) ≡ true
+    go true p u q ih = let z : false ≡ true = rw (p, noneAmong) at e in cc
+    go false p true q ih =
+        let x = and-left (leb a r) (ltb r d) q in
+        let y = ltb-true r d (and-right (leb a r) (ltb r d) q) in
+        let z : true ≡ false = rw (x, lt-ltb r b (omega arith)) at p in
+        cc
+    go false p false q ih = rw (q, noneAmong) (ih (rw (p, noneAmong) at e))
+
+-- where no record comes in the j - 1 cycles after cycle n, the INT line stays what it was
+level-stays : (sched : List ℕ) (s : State) (j : ℕ) → linesAt sched (s .cycle .0) .int ≡ s .core .interrupt .level
+    → noRecord sched (s .cycle .0 + 1) (s .cycle .0 + j) ≡ true → Level sched s j (s .cycle .0)
+unfolding noRecord
+level-stays sched s j e q i h =
+    let n = s .cycle .0 in
+    let f : noRecord sched (n + 1) (n + i + 1) ≡ true = none-fewer sched (n + 1) (n + j) (n + i + 1) (recordCount sched) (omega arith) q in
+    ap (λ (l : Lines). l .int) (lines-same sched n (n + i) (omega arith) f) ∙ e
+
+-- AN EVEN NUMBER OF CYCLES
+
+-- what the test of a jump says
+record MayJump (rom sched : List ℕ) (s : State) : Type 0 where
+  waits : Waits rom (s .core)
+  tm : s .core .timer .tm ≡ 0
+  runs : 0 < s .core .timer .register
+  level : linesAt sched (s .cycle .0) .int ≡ s .core .interrupt .level
+
+may-jump : (rom sched : List ℕ) (s : State) → mayJump rom sched s ≡ true → MayJump rom sched s
+unfolding mayJump atTtm atJcpBack
+may-jump rom sched s e =
+    let t = all-at _ e in
+    let a = all-at _ (t 4) in
+    let b = all-at _ (t 5) in
+    record {
+      waits = record {
+        owed = eqb-true _ _ (t 0);
+        free = not-true _ (t 3);
+        ttm-in = a 0;
+        ttm = eqb-true _ _ (a 1);
+        jcp-in = b 0;
+        jcp = leb-true _ _ (b 1);
+        back = eqb-true _ _ (b 2);
+      };
+      tm = eqb-true _ _ (t 1);
+      runs = ltb-true _ _ (t 2);
+      level = eqb-true _ _ (t 6);
+    }
+
+-- what a jump leaves is the state at TTM again
+jumped-is : (s : State) (j : ℕ) → s .core .owed ≡ 0 → s .core .timer .tm ≡ 0
+    → atTtmAgain s (ticksLeft (s .core .timer) - j) (s .cycle .0 + j) ≡ jumped j s
+unfolding jumpedCore
+jumped-is s j o z = rw (o, z)
+
+-- any even number of cycles, up to the ticks left and the next record
+module _ (rom sched : List ℕ) (s : State) (j : ℕ) (small : s .core .timer .register < 64) (may : mayJump rom sched s ≡ true)
+    (even : j % 2 ≡ 0) (more : 0 < j) (left : j ≤ ticksLeft (s .core .timer))
+    (between : noRecord sched (s .cycle .0 + 1) (s .cycle .0 + j) ≡ true) where
+  pub turns-unbroken : unbroken upd546 rom sched j s ≡ quietly j (jumped j s)
+  turns-unbroken =
+      let m = may-jump rom sched s may in
+      let n = s .cycle .0 in
+      let timer = s .core .timer in
+      let q = ticksLeft timer - j in
+      let e : double (suc (j / 2 - 1)) ≡ j = omega (arith, double-is (suc (j / 2 - 1))) in
+      let a : ticksLeft timer ≡ j + q = omega arith in
+      let z : timerLeft (timer .tm) (ticksLeft timer) ≡ timerLeft 0 (ticksLeft timer) = ap (λ (x : ℕ). timerLeft x (ticksLeft timer)) (m .tm) in
+      let t : timer ≡ timerLeft 0 (j + q) = running-left timer (m .runs) small ∙ z ∙ ap (timerLeft 0) a in
+      subst (λ (k : ℕ). timer ≡ timerLeft 0 (k + q) → Level sched s k n → unbroken upd546 rom sched k s ≡ quietly k (atTtmAgain s q (n + k))) e
+      (turns rom sched (j / 2 - 1) q s (m .waits)) t (level-stays sched s j (m .level) between)
+      ∙ ap (quietly j) (jumped-is s j (m .waits .owed) (m .tm))
+
+  pub turns-within : (room : ℕ) → within upd546 rom sched room j s ≡ quietly j (jumped j s)
+  turns-within room =
+      within-unbroken upd546 rom sched room j s (ap (λ (r : Ran State). r .bytes) turns-unbroken) ∙ turns-unbroken
+
+-- THE LENGTH OF A JUMP
+
+largest-most : (test : ℕ → Bool) (k : ℕ) → largest test k ≤ k
+unfolding largest
+largest-most test zero = omega arith
+largest-most test (suc k) = go (test (suc k)) refl (largest-most test k)
+  where
+    go : (b : Bool) → test (suc k) ≡ b → largest test k ≤ k → largest test (suc k) ≤ suc k
+    go true e h = rw (e, largest) (omega arith)
+    go false e h = rw (e, largest) (omega arith)
+
+largest-passes : (test : ℕ → Bool) (k : ℕ) → (largest test k ≡ 0 → ⊥) → test (largest test k) ≡ true
+unfolding largest
+largest-passes test zero h = absurd (h refl)
+largest-passes test (suc k) h = go (test (suc k)) refl (largest-passes test k) h
+  where
+    go : (b : Bool) → test (suc k) ≡ b → ((largest test k ≡ 0 → ⊥) → test (largest test k) ≡ true)
+        → (largest test (suc k) ≡ 0 → ⊥) → test (largest test (suc k)) ≡ true
+    go true e ih h = rw (e, largest) e
+    go false e ih h = rw (e, largest) (ih (rw (e, largest) at h))
+
+pub jump-within : (rom sched : List ℕ) (s : State) (left : ℕ) → jumpLength rom sched s left ≤ left
+unfolding jumpLength
+jump-within rom sched s left = go (mayJump rom sched s)
+  where
+    go : (b : Bool) → onJump b sched s left ≤ left
+    go true = omega (arith, largest-most (jumpable sched (s .cycle .0)) (min (ticksLeft (s .core .timer)) left))
+    go false = omega arith
+
+-- a jump is as the law above asks
+record Jumps (rom sched : List ℕ) (s : State) (j : ℕ) : Type 0 where
+  may : mayJump rom sched s ≡ true
+  even : j % 2 ≡ 0
+  left : j ≤ ticksLeft (s .core .timer)
+  between : noRecord sched (s .cycle .0 + 1) (s .cycle .0 + j) ≡ true
+
+jumps : (rom sched : List ℕ) (s : State) (left : ℕ) → (jumpLength rom sched s left ≡ 0 → ⊥) → Jumps rom sched s (jumpLength rom sched s left)
+unfolding jumpLength jumpable
+jumps rom sched s left h = go (mayJump rom sched s) refl h
+  where
+    go : (b : Bool) → mayJump rom sched s ≡ b → (onJump b sched s left ≡ 0 → ⊥) → Jumps rom sched s (onJump b sched s left)
+    go true e h =
+        let n = s .cycle .0 in
+        let b = min (ticksLeft (s .core .timer)) left in
+        let j = largest (jumpable sched n) b in
+        let p = largest-passes (jumpable sched n) b h in
+        record {
+          may = e;
+          even = eqb-true (j % 2) 0 (and-left (eqb (j % 2) 0) (noRecord sched (n + 1) (n + j)) p);
+          left = omega (arith, largest-most (jumpable sched n) b);
+          between = and-right (eqb (j % 2) 0) (noRecord sched (n + 1) (n + j)) p;
+        }
+    go false e h = absurd (h refl)
+
+-- THE JUMP LAW: where the timer-skipping runner jumps j cycles, j plain cycles come to what the jump says
+module _ (rom sched : List ℕ) (s : State) (left j : ℕ) (v : Valid s) (e : jumpLength rom sched s left ≡ j) (more : j ≡ 0 → ⊥) where
+  law : Jumps rom sched s j
+  law = subst (Jumps rom sched s) e (jumps rom sched s left (λ z. more (sym e ∙ z)))
+
+  pub jump-unbroken : unbroken upd546 rom sched j s ≡ quietly j (jumped j s)
+  jump-unbroken =
+      turns-unbroken rom sched s j (v .core .scalars .register) (law .may) (law .even) (omega arith) (law .left) (law .between)
+
+  -- what a runner asks of the timer and the schedule before it jumps
+  pub jump-runs : 0 < s .core .timer .register
+  jump-runs = may-jump rom sched s (law .may) .runs
+
+  pub jump-ticks : j ≤ ticksLeft (s .core .timer)
+  jump-ticks = law .left
+
+  pub jump-between : noRecord sched (s .cycle .0 + 1) (s .cycle .0 + j) ≡ true
+  jump-between = law .between
+
+  pub jump-in-room : (room : ℕ) → within upd546 rom sched room j s ≡ quietly j (jumped j s)
+  jump-in-room room =
+      turns-within rom sched s j (v .core .scalars .register) (law .may) (law .even) (omega arith) (law .left) (law .between) room
+
+-- WHAT A RUNNER COMPUTES
+
+absurd-test : true ≡ false → ⊥
+absurd-test e = let z : _≡_ {A = ℕ} 0 1 = cc in omega arith
+
+-- Where m is the number of cycles up to the next record: the largest is the lesser of the bound and m, rounded down to even.
+pub largest-even : (sched : List ℕ) (n m b : ℕ) → ((j : ℕ) → j ≤ m → noRecord sched (n + 1) (n + j) ≡ true)
+    → ((j : ℕ) → m < j → j ≤ b → noRecord sched (n + 1) (n + j) ≡ false) → largest (jumpable sched n) b ≡ min b m - min b m % 2
+unfolding largest jumpable
+largest-even sched n m zero p q = omega arith
+largest-even sched n m (suc k) p q =
+    go (eqb (suc k % 2) 0) refl (noRecord sched (n + 1) (n + suc k)) refl (largest-even sched n m k p (λ j h l. q j h (omega arith)))
+  where
+    go : (t : Bool) → eqb (suc k % 2) 0 ≡ t → (u : Bool) → noRecord sched (n + 1) (n + suc k) ≡ u
+        → largest (jumpable sched n) k ≡ min k m - min k m % 2 → largest (jumpable sched n) (suc k) ≡ min (suc k) m - min (suc k) m % 2
+    go true e true f ih =
+        let z : suc k % 2 ≡ 0 = eqb-true (suc k % 2) 0 e in
+        let l : m < suc k → ⊥ = λ h. absurd-test (sym f ∙ q (suc k) h (omega arith)) in
+        rw (e, f, largest) (omega arith)
+    go true e false f ih =
+        let l : suc k ≤ m → ⊥ = λ h. absurd-test (sym (p (suc k) h) ∙ f) in
+        rw (e, f, largest) (omega arith)
+    go false e u f ih =
+        let z : suc k % 2 ≡ 0 → ⊥ = eqb-false (suc k % 2) 0 e in
+        rw (e, largest) (omega arith)
+
+-- the length where it may jump
+pub jump-length-even : (rom sched : List ℕ) (s : State) (left m : ℕ) → mayJump rom sched s ≡ true
+    → ((j : ℕ) → j ≤ m → noRecord sched (s .cycle .0 + 1) (s .cycle .0 + j) ≡ true)
+    → ((j : ℕ) → m < j → j ≤ left → noRecord sched (s .cycle .0 + 1) (s .cycle .0 + j) ≡ false)
+    → (k : ℕ) → k ≡ min (min (ticksLeft (s .core .timer)) left) m → jumpLength rom sched s left ≡ k - k % 2
+unfolding jumpLength
+jump-length-even rom sched s left m e p q k f =
+    rw (e, f) (largest-even sched (s .cycle .0) m (min (ticksLeft (s .core .timer)) left) p (λ j h l. q j h (omega arith)))
+
+-- and where it may not
+pub jump-length-none : (rom sched : List ℕ) (s : State) (left : ℕ) → mayJump rom sched s ≡ false → jumpLength rom sched s left ≡ 0
+unfolding jumpLength
+jump-length-none rom sched s left e = rw e
+
+-- a jump leads from an accepted state to an accepted state
+pub jump-keeps : (rom sched : List ℕ) (s : State) (left j : ℕ) → Panel upd546 rom sched → Valid s → s .cycle .0 + j ≤ cycleLimit
+    → jumpLength rom sched s left ≡ j → (j ≡ 0 → ⊥) → Valid (jumped j s)
+jump-keeps rom sched s left j p v h e more =
+    let r = iterate.reaches upd546 chip-laws rom sched p j s (valid-accepted s v) h in
+    accepted-valid (jumped j s) (sym (ap (λ (x : Ran State). stateNumber (x .state)) (jump-unbroken rom sched s left j v e more)) ∙ r .sound)
