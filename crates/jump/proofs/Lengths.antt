@@ -17,7 +17,6 @@ use Rattle.upd546.specs.Tests.{allOf}
 use Rattle.upd546.specs.TheLineSchedule.{linesAt, scheduleNumber, noRecord}
 use Rattle.upd546.specs.Timer.{ticksLeft}
 use Rattle.upd546.specs.TwoRunners.{atTtm, atJcpBack, mayJump, jumpLength}
-use Rattle.laws.specs.Valid.{Valid}
 use Rattle.laws.proofs.Lists.{and-left, and-right}
 use Rattle.laws.proofs.Jump.{jump-within, jump-between, jump-length-even, jump-length-none}
 use Rattle.schedule.specs.declared.Cursor.{Cursor}
@@ -153,12 +152,12 @@ no-both : true ≡ false → ⊥
 no-both e = let z : _≡_ {A = ℕ} 0 1 = cc in omega arith
 
 -- The cursor stands at the jump's last cycle as it is, so that one move takes it past the jump.
-pub stands-last : (rom sched : List ℕ) (s : State) (left j : ℕ) (cursor : Cursor) → Valid s → scheduleNumber sched ≡ 0
+pub stands-last : (rom sched : List ℕ) (s : State) (left j : ℕ) (cursor : Cursor) → scheduleNumber sched ≡ 0
     → Stands sched (s .cycle .0) cursor → s .cycle .0 + left ≤ cycleLimit → jumpLength rom sched s left ≡ j → (j ≡ 0 → ⊥)
     → Stands sched (s .cycle .0 + j - 1) cursor
-stands-last rom sched s left j cursor v a k h e more =
+stands-last rom sched s left j cursor a k h e more =
     let n = s .cycle .0 in
     let l : j ≤ left = subst (λ (x : ℕ). x ≤ left) e (jump-within rom sched s left) in
-    let none = jump-between rom sched s left j v e more in
+    let none = jump-between rom sched s left j e more in
     let u : cursor .next < n + j → ⊥ = λ q. no-both (sym none ∙ some-record sched a n (n + j) cursor k q (omega arith)) in
     stays sched a n (n + j - 1) cursor k (omega arith) (omega arith)
