@@ -8,7 +8,8 @@ use lib.Dec.{eqb}
 use lib.ListN.{getD}
 use borrow.Author.Tests.{lt-ltb, le-leb, lt-leb, eq-eqb, ne-eqb}
 use Rattle.runs.specs.TwoRunners.{cycleLimit}
-use Rattle.upd546.specs.declared.Core.{Core}
+use Rattle.upd546.specs.declared.Interrupt.{Interrupt}
+use Rattle.upd546.specs.declared.Timer.{Timer}
 use Rattle.upd546.specs.declared.Lines.{Lines}
 use Rattle.upd546.specs.declared.State.{State}
 use Rattle.upd546.specs.TheMachine.{lastAddress, byteAt, follows, pageOf}
@@ -16,13 +17,12 @@ use Rattle.upd546.specs.Tests.{allOf}
 use Rattle.upd546.specs.TheLineSchedule.{linesAt, scheduleNumber, noRecord}
 use Rattle.upd546.specs.Timer.{ticksLeft}
 use Rattle.upd546.specs.TwoRunners.{atTtm, atJcpBack, mayJump, jumpLength}
-use Rattle.laws.specs.Valid.{Valid}
 use Rattle.laws.proofs.Lists.{and-left, and-right}
 use Rattle.laws.proofs.Jump.{jump-within, jump-between, jump-length-even, jump-length-none}
 use Rattle.schedule.specs.declared.Cursor.{Cursor}
 use Rattle.schedule.specs.Cursor.{Stands}
 use Rattle.schedule.proofs.Standing.{no-record, some-record, stays}
-use Rattle.jump.specs.Boundary.{Boundary, JumpsBy}
+use Rattle.jump.specs.Boundary.{Boundary, Shows, JumpsBy}
 
 and-true : (b : Bool) → (b && true) ≡ b
 and-true true = refl
@@ -74,58 +74,62 @@ fails [] i e = e
 fails (t ∷ ts) zero e = rw e
 fails (t ∷ ts) (suc i) e = rw (fails ts i e) (and-false t)
 
-module _ (rom sched : List ℕ) (core : Core) (n left : ℕ) where
-  no-jump : ((s : State) → s .core ≡ core → s .cycle .0 ≡ n → mayJump rom sched s ≡ false) → JumpsBy rom sched core n left 0
-  no-jump h = record { length = λ s e q. sym (jump-length-none rom sched s left (h s e q)) }
+module _ (rom sched : List ℕ) (pc owed : ℕ) (interrupt : Interrupt) (timer : Timer) (n left : ℕ) where
+  abbrev Jumps : ℕ → Type 0
+  Jumps r = JumpsBy rom sched pc owed interrupt timer n left r
 
-  pub owes : (core .owed ≡ 0 → ⊥) → JumpsBy rom sched core n left 0
-  unfolding mayJump
-  owes h = no-jump (λ s e q. fails _ 0 (rw e (ne-eqb (core .owed) 0 h)))
+  no-jump : ((s : State) → Shows s pc owed interrupt timer n → mayJump rom sched s ≡ false) → Jumps 0
+  no-jump h = record { length-is = λ s w. sym (jump-length-none rom sched s left (h s w)) }
 
-  pub tm-set : (core .timer .tm ≡ 0 → ⊥) → JumpsBy rom sched core n left 0
+  pub owes : (owed ≡ 0 → ⊥) → Jumps 0
   unfolding mayJump
-  tm-set h = no-jump (λ s e q. fails _ 1 (rw e (ne-eqb (core .timer .tm) 0 h)))
+  owes h = no-jump (λ s w. fails _ 0 (rw (w .owed-is) (ne-eqb owed 0 h)))
 
-  pub stopped : core .timer .register ≡ 0 → JumpsBy rom sched core n left 0
+  pub tm-set : (timer .tm ≡ 0 → ⊥) → Jumps 0
   unfolding mayJump
-  stopped z = no-jump (λ s e q. fails _ 2 (rw (e, z)))
+  tm-set h = no-jump (λ s w. fails _ 1 (rw (w .timer-is) (ne-eqb (timer .tm) 0 h)))
 
-  pub both-one : (eqb (core .interrupt .int) 1 && eqb (core .interrupt .inte) 1) ≡ true → JumpsBy rom sched core n left 0
+  pub stopped : timer .register ≡ 0 → Jumps 0
   unfolding mayJump
-  both-one t = no-jump (λ s e q. fails _ 3 (rw (e, t)))
+  stopped z = no-jump (λ s w. fails _ 2 (rw (w .timer-is, z)))
 
-  pub no-loop : (atTtm rom (core .flow .pc) && atJcpBack rom (core .flow .pc)) ≡ false → JumpsBy rom sched core n left 0
+  pub both-one : (eqb (interrupt .int) 1 && eqb (interrupt .inte) 1) ≡ true → Jumps 0
   unfolding mayJump
-  no-loop t = go (atTtm rom (core .flow .pc)) refl t
+  both-one t = no-jump (λ s w. fails _ 3 (rw (w .interrupt-is, t)))
+
+  pub no-loop : (atTtm rom pc && atJcpBack rom pc) ≡ false → Jumps 0
+  unfolding mayJump
+  no-loop t = go (atTtm rom pc) refl t
     where
-      go : (b : Bool) → atTtm rom (core .flow .pc) ≡ b → (b && atJcpBack rom (core .flow .pc)) ≡ false → JumpsBy rom sched core n left 0
-      go true p t = no-jump (λ s e q. fails _ 5 (rw (e, t)))
-      go false p t = no-jump (λ s e q. fails _ 4 (rw (e, p)))
+      go : (b : Bool) → atTtm rom pc ≡ b → (b && atJcpBack rom pc) ≡ false → JumpsBy rom sched pc owed interrupt timer n left 0
+      go true p t = no-jump (λ s w. fails _ 5 (rw (w .pc-is, t)))
+      go false p t = no-jump (λ s w. fails _ 4 (rw (w .pc-is, p)))
 
   module _ (cursor : Cursor) (k : Stands sched n cursor) where
     line-is : cursor .lines .int ≡ linesAt sched n .int
     line-is = ap (λ (l : Lines). l .int) (k .lines)
 
-    pub other-level : (cursor .lines .int ≡ core .interrupt .level → ⊥) → JumpsBy rom sched core n left 0
+    pub other-level : (cursor .lines .int ≡ interrupt .level → ⊥) → Jumps 0
     unfolding mayJump
     other-level h =
-        no-jump (λ s e q. fails _ 6 (rw (e, q) (ne-eqb (linesAt sched n .int) (core .interrupt .level) (λ z. h (line-is ∙ z)))))
+        no-jump
+        (λ s w. fails _ 6 (rw (w .interrupt-is, w .cycle-is) (ne-eqb (linesAt sched n .int) (interrupt .level) (λ z. h (line-is ∙ z)))))
 
     -- all of them pass
-    pub passes : core .owed ≡ 0 → core .timer .tm ≡ 0 → 0 < core .timer .register
-        → (eqb (core .interrupt .int) 1 && eqb (core .interrupt .inte) 1) ≡ false
-        → (atTtm rom (core .flow .pc) && atJcpBack rom (core .flow .pc)) ≡ true → cursor .lines .int ≡ core .interrupt .level
-        → (s : State) → s .core ≡ core → s .cycle .0 ≡ n → mayJump rom sched s ≡ true
+    pub passes : owed ≡ 0 → timer .tm ≡ 0 → 0 < timer .register → (eqb (interrupt .int) 1 && eqb (interrupt .inte) 1) ≡ false
+        → (atTtm rom pc && atJcpBack rom pc) ≡ true → cursor .lines .int ≡ interrupt .level
+        → (s : State) → Shows s pc owed interrupt timer n → mayJump rom sched s ≡ true
     unfolding mayJump allOf
-    passes o z r i t l s e q =
-        let a = and-left (atTtm rom (core .flow .pc)) (atJcpBack rom (core .flow .pc)) t in
-        let b = and-right (atTtm rom (core .flow .pc)) (atJcpBack rom (core .flow .pc)) t in
-        let f = eq-eqb (linesAt sched n .int) (core .interrupt .level) (sym line-is ∙ l) in
-        rw (e, q, o, z, lt-ltb 0 (core .timer .register) r, i, a, b, f)
+    passes o z r i t l s w =
+        let a = and-left (atTtm rom pc) (atJcpBack rom pc) t in
+        let b = and-right (atTtm rom pc) (atJcpBack rom pc) t in
+        let f = eq-eqb (linesAt sched n .int) (interrupt .level) (sym line-is ∙ l) in
+        rw (w .owed-is, w .timer-is, w .interrupt-is, w .pc-is, w .cycle-is, o, z, lt-ltb 0 (timer .register) r, i, a, b, f)
 
 -- THE LENGTH
 
-module _ (rom sched positions : List ℕ) (core : Core) (cursor : Cursor) (n left : ℕ) (b : Boundary rom sched positions core cursor n left) where
+module _ (rom sched positions : List ℕ) (pc owed : ℕ) (interrupt : Interrupt) (timer : Timer) (cursor : Cursor) (n left : ℕ)
+    (b : Boundary rom sched positions timer cursor n left) where
   -- up to the next record there is none, and past it there is one
   none-before : (j : ℕ) → j ≤ cursor .next - n → noRecord sched (n + 1) (n + j) ≡ true
   none-before j h = no-record sched (b .schedule) n (n + j) cursor (b .stands) (omega (arith, b .stands .reached))
@@ -133,26 +137,27 @@ module _ (rom sched positions : List ℕ) (core : Core) (cursor : Cursor) (n lef
   one-after : (j : ℕ) → cursor .next - n < j → j ≤ left → noRecord sched (n + 1) (n + j) ≡ false
   one-after j h l = some-record sched (b .schedule) n (n + j) cursor (b .stands) (omega arith) (omega (arith, b .limit))
 
-  pub jumps : ((s : State) → s .core ≡ core → s .cycle .0 ≡ n → mayJump rom sched s ≡ true)
-      → (k r : ℕ) → k ≡ min (min (ticksLeft (core .timer)) left) (cursor .next - n) → r ≡ k - k % 2 → JumpsBy rom sched core n left r
-  jumps may k r e f = record { length = λ s c q. f ∙ sym (even s c q) }
+  pub jumps : ((s : State) → Shows s pc owed interrupt timer n → mayJump rom sched s ≡ true)
+      → (k r : ℕ) → k ≡ min (min (ticksLeft timer) left) (cursor .next - n) → r ≡ k - k % 2 → JumpsBy rom sched pc owed interrupt timer n left r
+  jumps may k r e f = record { length-is = λ s w. f ∙ sym (even s w) }
     where
-      even : (s : State) → s .core ≡ core → s .cycle .0 ≡ n → jumpLength rom sched s left ≡ k - k % 2
-      even s c q =
-          jump-length-even rom sched s left (cursor .next - n) (may s c q)
-          (λ j h. rw q (none-before j h)) (λ j h l. rw q (one-after j h l)) k (rw c e)
+      even : (s : State) → Shows s pc owed interrupt timer n → jumpLength rom sched s left ≡ k - k % 2
+      even s w =
+          jump-length-even rom sched s left (cursor .next - n) (may s w)
+          (λ j h. rw (w .cycle-is) (none-before j h)) (λ j h l. rw (w .cycle-is) (one-after j h l)) k (rw (w .timer-is) e)
 
 -- AFTER A JUMP
 
+no-both : true ≡ false → ⊥
+no-both e = let z : _≡_ {A = ℕ} 0 1 = cc in omega arith
+
 -- The cursor stands at the jump's last cycle as it is, so that one move takes it past the jump.
-pub stands-last : (rom sched : List ℕ) (s : State) (left j : ℕ) (cursor : Cursor) → Valid s → scheduleNumber sched ≡ 0
+pub stands-last : (rom sched : List ℕ) (s : State) (left j : ℕ) (cursor : Cursor) → scheduleNumber sched ≡ 0
     → Stands sched (s .cycle .0) cursor → s .cycle .0 + left ≤ cycleLimit → jumpLength rom sched s left ≡ j → (j ≡ 0 → ⊥)
     → Stands sched (s .cycle .0 + j - 1) cursor
-stands-last rom sched s left j cursor v a k h e more =
+stands-last rom sched s left j cursor a k h e more =
     let n = s .cycle .0 in
     let l : j ≤ left = subst (λ (x : ℕ). x ≤ left) e (jump-within rom sched s left) in
-    let u : cursor .next < n + j → ⊥ = λ q. some-none (sym (jump-between rom sched s left j v e more) ∙ some-record sched a n (n + j) cursor k q (omega arith)) in
+    let none = jump-between rom sched s left j e more in
+    let u : cursor .next < n + j → ⊥ = λ q. no-both (sym none ∙ some-record sched a n (n + j) cursor k q (omega arith)) in
     stays sched a n (n + j - 1) cursor k (omega arith) (omega arith)
-  where
-    some-none : true ≡ false → ⊥
-    some-none e = let z : _≡_ {A = ℕ} 0 1 = cc in omega arith

@@ -6,6 +6,8 @@ use Prim.Native.Nat.{ℕ, _+_, _<_, _≤_}
 use lib.ListN.{length}
 use Rattle.runs.specs.TwoRunners.{cycleLimit}
 use Rattle.upd546.specs.declared.Core.{Core}
+use Rattle.upd546.specs.declared.Interrupt.{Interrupt}
+use Rattle.upd546.specs.declared.Timer.{Timer}
 use Rattle.upd546.specs.declared.State.{State}
 use Rattle.upd546.specs.TheMachine.{romLength}
 use Rattle.upd546.specs.TheLineSchedule.{scheduleNumber}
@@ -15,18 +17,26 @@ use Rattle.tables.specs.Tables.{positionTable, registerTable}
 use Rattle.schedule.specs.declared.Cursor.{Cursor}
 use Rattle.schedule.specs.Cursor.{Stands}
 
--- a core and a cursor at the boundary before cycle n, with so many cycles left
-pub record Boundary (rom sched positions : List ℕ) (core : Core) (cursor : Cursor) (n left : ℕ) : Type 0 where
+-- a timer and a cursor at the boundary before cycle n, with so many cycles left
+pub record Boundary (rom sched positions : List ℕ) (timer : Timer) (cursor : Cursor) (n left : ℕ) : Type 0 where
   pub rom-length : length rom ≡ romLength
   pub schedule : scheduleNumber sched ≡ 0
   pub table : positions ≡ positionTable
-  pub register : core .timer .register < 64
+  pub register : timer .register < 64
   pub stands : Stands sched n cursor
   pub limit : n + left ≤ cycleLimit
 
--- r is the length of the jump from every state with this core at cycle n: RAM and latches don't matter
-pub record JumpsBy (rom sched : List ℕ) (core : Core) (n left r : ℕ) : Type 0 where
-  pub length : (s : State) → s .core ≡ core → s .cycle .0 ≡ n → r ≡ jumpLength rom sched s left
+-- what a jump's length takes from a state, besides ROM and schedule: registers, stack, mark, RAM and latches don't matter
+pub record Shows (s : State) (pc owed : ℕ) (interrupt : Interrupt) (timer : Timer) (n : ℕ) : Type 0 where
+  pub pc-is : s .core .flow .pc ≡ pc
+  pub owed-is : s .core .owed ≡ owed
+  pub interrupt-is : s .core .interrupt ≡ interrupt
+  pub timer-is : s .core .timer ≡ timer
+  pub cycle-is : s .cycle .0 ≡ n
+
+-- r is the length of the jump from every such state
+pub record JumpsBy (rom sched : List ℕ) (pc owed : ℕ) (interrupt : Interrupt) (timer : Timer) (n left r : ℕ) : Type 0 where
+  pub length-is : (s : State) → Shows s pc owed interrupt timer n → r ≡ jumpLength rom sched s left
 
 -- a core with a running timer that has j ticks left at least
 pub record Jumpable (positions registers : List ℕ) (core : Core) (j : ℕ) : Type 0 where

@@ -97,37 +97,40 @@ fn even_below(k: u64) -> u64
 }
 
 // The cycles that the timer-skipping runner jumps in one step at cycle n with so many left, or 0.
+// The parts of the core that it depends on come one by one: a core that is copied whole makes every cycle slower.
 pub fn jump_length(
     rom: &[u8],
     sched: &[u8],
     positions: &PositionTable,
-    core: Core,
+    pc: u16,
+    owed: u8,
+    interrupt: Interrupt,
+    timer: Timer,
     cursor: Cursor,
     n: u64,
     left: u64,
 ) -> u64
-    requires { ⌜ Boundary (now rom) (now sched) (now positions) core cursor n left ⌝ }
-    ensures { λ r. ⌜ JumpsBy (now (rom .entry)) (now (sched .entry)) core n left r ⌝ }
+    requires { ⌜ Boundary (now rom) (now sched) (now positions) timer cursor n left ⌝ }
+    ensures { λ r. ⌜ JumpsBy (now (rom .entry)) (now (sched .entry)) pc owed interrupt timer n left r ⌝ }
 {
-    if core.timer.register == 0 {
+    if timer.register == 0 {
         return 0;
     }
-    if core.timer.tm != 0 {
+    if timer.tm != 0 {
         return 0;
     }
-    if core.owed != 0 {
+    if owed != 0 {
         return 0;
     }
-    if !waits(rom, core.flow.pc) {
+    if !waits(rom, pc) {
         return 0;
     }
-    if (core.interrupt.int == 1) & (core.interrupt.inte == 1) {
+    if (interrupt.int == 1) & (interrupt.inte == 1) {
+        return 0; // an interrupt is due
+    }
+    if cursor.lines.int != interrupt.level {
         return 0;
     }
-    if cursor.lines.int != core.interrupt.level {
-        return 0;
-    }
-    let timer = core.timer;
     let ticks = ticks_left(positions, timer);
     let bound = lesser(ticks, left);
     even_below(up_to_record(bound, n, cursor.next))

@@ -363,28 +363,29 @@ jumps rom sched s left h = go (mayJump rom sched s) refl h
         }
     go false e h = absurd (h refl)
 
--- THE JUMP LAW: where the timer-skipping runner jumps j cycles, j plain cycles come to what the jump says
-module _ (rom sched : List ℕ) (s : State) (left j : ℕ) (v : Valid s) (e : jumpLength rom sched s left ≡ j) (more : j ≡ 0 → ⊥) where
-  law : Jumps rom sched s j
-  law = subst (Jumps rom sched s) e (jumps rom sched s left (λ z. more (sym e ∙ z)))
+module _ (rom sched : List ℕ) (s : State) (left j : ℕ) (e : jumpLength rom sched s left ≡ j) (more : j ≡ 0 → ⊥) where
+  is-jump : Jumps rom sched s j
+  is-jump = subst (Jumps rom sched s) e (jumps rom sched s left (λ z. more (sym e ∙ z)))
 
-  pub jump-unbroken : unbroken upd546 rom sched j s ≡ quietly j (jumped j s)
-  jump-unbroken =
-      turns-unbroken rom sched s j (v .core .scalars .register) (law .may) (law .even) (omega arith) (law .left) (law .between)
-
-  -- what a runner asks of the timer and the schedule before it jumps
+  -- what a runner asks of the timer and the schedule where it jumps
   pub jump-runs : 0 < s .core .timer .register
-  jump-runs = may-jump rom sched s (law .may) .runs
+  jump-runs = may-jump rom sched s (is-jump .may) .runs
 
   pub jump-ticks : j ≤ ticksLeft (s .core .timer)
-  jump-ticks = law .left
+  jump-ticks = is-jump .left
 
   pub jump-between : noRecord sched (s .cycle .0 + 1) (s .cycle .0 + j) ≡ true
-  jump-between = law .between
+  jump-between = is-jump .between
 
-  pub jump-in-room : (room : ℕ) → within upd546 rom sched room j s ≡ quietly j (jumped j s)
-  jump-in-room room =
-      turns-within rom sched s j (v .core .scalars .register) (law .may) (law .even) (omega arith) (law .left) (law .between) room
+  -- THE JUMP LAW: where the timer-skipping runner jumps j cycles, j plain cycles come to what the jump says
+  module _ (v : Valid s) where
+    pub jump-unbroken : unbroken upd546 rom sched j s ≡ quietly j (jumped j s)
+    jump-unbroken =
+        turns-unbroken rom sched s j (v .core .scalars .register) (is-jump .may) (is-jump .even) (omega arith) (is-jump .left) (is-jump .between)
+
+    pub jump-in-room : (room : ℕ) → within upd546 rom sched room j s ≡ quietly j (jumped j s)
+    jump-in-room room =
+        turns-within rom sched s j (v .core .scalars .register) (is-jump .may) (is-jump .even) (omega arith) (is-jump .left) (is-jump .between) room
 
 -- WHAT A RUNNER COMPUTES
 
@@ -431,4 +432,4 @@ pub jump-keeps : (rom sched : List ℕ) (s : State) (left j : ℕ) → Panel upd
     → jumpLength rom sched s left ≡ j → (j ≡ 0 → ⊥) → Valid (jumped j s)
 jump-keeps rom sched s left j p v h e more =
     let r = iterate.reaches upd546 chip-laws rom sched p j s (valid-accepted s v) h in
-    accepted-valid (jumped j s) (sym (ap (λ (x : Ran State). stateNumber (x .state)) (jump-unbroken rom sched s left j v e more)) ∙ r .sound)
+    accepted-valid (jumped j s) (sym (ap (λ (x : Ran State). stateNumber (x .state)) (jump-unbroken rom sched s left j e more v)) ∙ r .sound)

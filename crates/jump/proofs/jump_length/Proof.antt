@@ -12,19 +12,22 @@ use Rattle.jump.proofs.jump_length.Tie as tie
 returns : tie.Need-returns
 returns c =
     let at-entry = c .before .before .before .before in
-    stopped (now (at-entry .args .rom)) (now (at-entry .args .sched)) (at-entry .args .core) (at-entry .args .n) (at-entry .args .left)
+    let a = at-entry .args in
+    stopped (now (a .rom)) (now (a .sched)) (a .pc) (a .owed) (a .interrupt) (a .timer) (a .n) (a .left)
     (c .if1 .taken)
 
 returns-2 : tie.Need-returns-2
 returns-2 c =
     let at-entry = c .before .before .before .before .before .before in
-    tm-set (now (at-entry .args .rom)) (now (at-entry .args .sched)) (at-entry .args .core) (at-entry .args .n) (at-entry .args .left)
+    let a = at-entry .args in
+    tm-set (now (a .rom)) (now (a .sched)) (a .pc) (a .owed) (a .interrupt) (a .timer) (a .n) (a .left)
     (c .if2 .taken)
 
 returns-3 : tie.Need-returns-3
 returns-3 c =
-    let at-entry = c .before .before .before .before .before .before .before .before in
-    owes (now (at-entry .args .rom)) (now (at-entry .args .sched)) (at-entry .args .core) (at-entry .args .n) (at-entry .args .left)
+    let at-entry = c .before .before .before .before .before .before .before in
+    let a = at-entry .args in
+    owes (now (a .rom)) (now (a .sched)) (a .pc) (a .owed) (a .interrupt) (a .timer) (a .n) (a .left)
     (c .if3 .taken)
 
 waits-requires : tie.Need-waits-requires
@@ -33,29 +36,31 @@ waits-requires c κs = search needs
 returns-4 : tie.Need-returns-4
 returns-4 c =
     let at-waits = c .before in
-    let at-if1 = at-waits .before .before .before .before .before in
+    let at-if1 = at-waits .before .before .before .before in
     let at-entry = at-if1 .before .before .before .before in
-    no-loop (now (at-entry .args .rom)) (now (at-entry .args .sched)) (at-entry .args .core) (at-entry .args .n) (at-entry .args .left)
+    let a = at-entry .args in
+    no-loop (now (a .rom)) (now (a .sched)) (a .pc) (a .owed) (a .interrupt) (a .timer) (a .n) (a .left)
     (sym (at-waits .waits .ensures) ∙ not-true (at-waits .waits .result) (c .if4 .taken))
 
 returns-5 : tie.Need-returns-5
 returns-5 c =
-    let at-if1 = c .before .before .before .before .before .before .before .before .before in
+    let at-if1 = c .before .before .before .before .before .before .before .before in
     let at-entry = at-if1 .before .before .before .before in
-    both-one (now (at-entry .args .rom)) (now (at-entry .args .sched)) (at-entry .args .core) (at-entry .args .n) (at-entry .args .left)
+    let a = at-entry .args in
+    both-one (now (a .rom)) (now (a .sched)) (a .pc) (a .owed) (a .interrupt) (a .timer) (a .n) (a .left)
     (c .if5 .taken)
 
 returns-6 : tie.Need-returns-6
 returns-6 c =
-    let at-if1 = c .before .before .before .before .before .before .before .before .before .before .before .before in
+    let at-if1 = c .before .before .before .before .before .before .before .before .before .before .before in
     let at-entry = at-if1 .before .before .before .before in
-    other-level (now (at-entry .args .rom)) (now (at-entry .args .sched)) (at-entry .args .core) (at-entry .args .n) (at-entry .args .left)
-    (at-entry .args .cursor) (at-entry .pre .stands) (c .if6 .taken)
+    let a = at-entry .args in
+    other-level (now (a .rom)) (now (a .sched)) (a .pc) (a .owed) (a .interrupt) (a .timer) (a .n) (a .left)
+    (a .cursor) (at-entry .pre .stands) (c .if6 .taken)
 
 ticks-left-requires : tie.Need-ticks-left-requires
 ticks-left-requires c κs =
-    let at-if6 = c .before in
-    let at-if1 = at-if6 .before .before .before .before .before .before .before .before .before .before .before .before in
+    let at-if1 = c .before .before .before .before .before .before .before .before .before .before .before in
     let at-entry = at-if1 .before .before .before .before in
     (at-entry .pre .table, omega (arith, at-if1 .if1 .left), at-entry .pre .register)
 
@@ -64,8 +69,8 @@ lesser-requires c κs = search needs
 
 up-to-record-requires : tie.Need-up-to-record-requires
 up-to-record-requires c κs =
-    let at-if6 = c .before .before .before in
-    let at-if1 = at-if6 .before .before .before .before .before .before .before .before .before .before .before .before in
+    let at-if6 = c .before .before in
+    let at-if1 = at-if6 .before .before .before .before .before .before .before .before .before .before .before in
     let at-entry = at-if1 .before .before .before .before in
     (at-entry .pre .stands .reached, omega (arith, c .lesser .ensures, at-entry .pre .limit))
 
@@ -77,22 +82,23 @@ returns-7 c =
     let at-up-to-record = c .before in
     let at-lesser = at-up-to-record .before in
     let at-ticks-left = at-lesser .before in
-    let at-if6 = at-ticks-left .before .before in
+    let at-if6 = at-ticks-left .before in
     let at-if5 = at-if6 .before .before .before in
     let at-if4 = at-if5 .before .before .before in
     let at-waits = at-if4 .before in
     let at-if3 = at-waits .before in
-    let at-if2 = at-if3 .before .before in
+    let at-if2 = at-if3 .before in
     let at-if1 = at-if2 .before .before in
     let at-entry = at-if1 .before .before .before .before in
     let a = at-entry .args in
-    let running : 0 < a .core .timer .register = omega (arith, at-if1 .if1 .left) in
+    let running : 0 < a .timer .register = omega (arith, at-if1 .if1 .left) in
     let loops = sym (at-waits .waits .ensures) ∙ not-false (at-waits .waits .result) (at-if4 .if4 .left) in
     let next = a .cursor .next - a .n in
     let least = at-up-to-record .up-to-record .ensures
     ∙ ap (λ (x : ℕ). min x next) (at-lesser .lesser .ensures ∙ ap (λ (x : ℕ). min x (a .left)) (at-ticks-left .ticks-left .ensures)) in
-    jumps (now (a .rom)) (now (a .sched)) (now (a .positions)) (a .core) (a .cursor) (a .n) (a .left) (at-entry .pre)
-    (passes (now (a .rom)) (now (a .sched)) (a .core) (a .n) (a .left) (a .cursor) (at-entry .pre .stands)
+    jumps (now (a .rom)) (now (a .sched)) (now (a .positions)) (a .pc) (a .owed) (a .interrupt) (a .timer) (a .cursor) (a .n) (a .left)
+    (at-entry .pre)
+    (passes (now (a .rom)) (now (a .sched)) (a .pc) (a .owed) (a .interrupt) (a .timer) (a .n) (a .left) (a .cursor) (at-entry .pre .stands)
     (at-if3 .if3 .left) (at-if2 .if2 .left) running (at-if5 .if5 .left) loops (at-if6 .if6 .left))
     (at-up-to-record .up-to-record .result) (c .even-below .result) least (c .even-below .ensures)
 
