@@ -1,7 +1,7 @@
 -- Where the loop of a run stands, and where a cycle takes it. Assumes nothing.
 use mathlib.Core.Path.{_≡_, _∙_, refl, sym, ap, ap₂, subst}
 use mathlib.Core.Bool.{Bool, true, false, cond}
-use mathlib.Core.List.{List, [], _∷_, _++_, append-assoc}
+use mathlib.Core.List.{List, [], _∷_, _++_, append-assoc, append-nil}
 use mathlib.Core.Option.{Option, none, some}
 use Prim.Native.Nat.{ℕ, zero, suc, _+_, _-_, _*_, _<_, _≤_}
 use native.Mathlib.Nat.{add-zero, sub-zero}
@@ -12,29 +12,39 @@ use lib.Seq.{drop-drop, take-at, drop-at}
 use borrow.Author.Tests.{leb-true, leb-false}
 use borrow.Rule.Slice.PartMut.{midOf, putMid}
 use Rattle.runs.specs.Machine.{Out, stop, went}
-use Rattle.runs.specs.TwoRunners.{RunAnswer, cycleLimit, endOf, runNumber, within, plain}
-use Rattle.runs.specs.Laws.{Bytes}
-use Rattle.runs.proofs.Loop.{sofar, Halfway, loop-starts, loop-ends, loop-stops, loop-fills, loop-goes}
+use Rattle.runs.specs.TwoRunners.{cycleLimit, still, endOf, strideOf, runNumber, within, told, plain, skipping}
+use Rattle.runs.specs.TwoRunners.{Stepped as Steps}
+use Rattle.runs.specs.Laws.{Bytes, Panel}
+use Rattle.runs.proofs.Loop.{sofar, one-stops, one-fills, one-goes, onwards, spanOf, Halfway, loop-starts, loop-ends, loop-stops, loop-goes}
+use Rattle.upd546.specs.declared.Core.{Core}
 use Rattle.upd546.specs.declared.Lines.{Lines}
 use Rattle.upd546.specs.declared.State.{State}
 use Rattle.upd546.specs.TheLineSchedule.{linesAt}
 use Rattle.upd546.specs.OneMachineCycle.{accepts, onAccepts, cycle}
-use Rattle.upd546.specs.TwoRunners.{upd546}
-use Rattle.tables.specs.Tables.{instructionTable}
+use Rattle.upd546.specs.TwoRunners.{jumpLength, jumpedCore, jumped, upd546}
+use Rattle.tables.specs.Tables.{instructionTable, positionTable, registerTable}
 use Rattle.laws.specs.Valid.{Valid, ValidLines}
 use Rattle.laws.proofs.Sound.{accepted-valid}
 use Rattle.laws.proofs.Lines.{lines-valid}
 use Rattle.laws.proofs.Cycle.{Cycled, cycle-keeps}
 use Rattle.laws.proofs.Stops.{StopNumber, stop-number}
+use Rattle.laws.proofs.Jump.{jump-within, jump-runs, jump-ticks, jump-in-room, jump-keeps}
 use Rattle.schedule.specs.declared.Cursor.{Cursor}
 use Rattle.schedule.specs.Cursor.{Stands}
 use Rattle.laws.proofs.Tails.{mid-tail, put-tail}
 use Rattle.cycle.specs.declared.Stepped.{Stepped}
 use Rattle.cycle.specs.Landing.{Landing, stateOf, landed, landing, Ready}
+use Rattle.jump.specs.Boundary.{Boundary, Jumpable}
+use Rattle.jump.proofs.Lengths.{stands-last}
+use Rattle.runner.specs.Either.{runBy, jumpBy}
 use Rattle.runner.proofs.Refusing.{Taken, run-taken}
 
+-- the whole run, of the runner that `skips` chooses
+abbrev whole : Bool → List ℕ → List ℕ → List ℕ → ℕ → State → Steps State
+whole skips rom sched log₀ n s = onwards upd546 rom sched skips n (length log₀) n s
+
 -- Where the loop stands, after `done` cycles of the run from s, at the state t. `w` is what has been written.
-pub record At (rom sched log₀ : List ℕ) (n : ℕ) (s : State) (log : List ℕ) (t : State) (cursor : Cursor) (at done begun : ℕ) : Type 0 where
+pub record At (skips : Bool) (rom sched log₀ : List ℕ) (n : ℕ) (s : State) (log : List ℕ) (t : State) (cursor : Cursor) (at done begun spared : ℕ) : Type 0 where
   pub w : List ℕ
   pub number : runNumber upd546 rom sched s n ≡ 0
   pub rises : t .cycle .0 ≡ s .cycle .0 + done
@@ -42,15 +52,25 @@ pub record At (rom sched log₀ : List ℕ) (n : ℕ) (s : State) (log : List �
   pub stands : Stands sched (t .cycle .0) cursor
   pub not-past : done ≤ n
   pub few : begun ≤ done
+  pub less : spared ≤ done
   pub place : at ≡ length w
   pub room : length w ≤ length log₀
   pub size : length log ≡ length log₀
   pub log-is : log ≡ w ++ drop (length w) log₀
-  pub half : Halfway upd546 rom sched (within upd546 rom sched (length log₀) n s) (length log₀) t w done begun (n - done)
+  pub half : Halfway upd546 rom sched skips (whole skips rom sched log₀ n s) (length log₀) t w done begun (done - spared) (n - done)
 
-pub starts : (rom sched log : List ℕ) (n : ℕ) (s : State) (cursor : Cursor) → runNumber upd546 rom sched s n ≡ 0 → Stands sched (s .cycle .0) cursor
-    → At rom sched log n s log s cursor 0 0 0
-starts rom sched log n s cursor e k = record {
+-- What a step from there comes to, of `span` cycles: once the cursor has moved, the loop stands at its end.
+pub record Forward (skips : Bool) (rom sched log₀ : List ℕ) (n : ℕ) (s t : State) (cursor : Cursor) (done : ℕ) (log : List ℕ) (core : Core) (ram ports : List ℕ)
+    (at begun spared span : ℕ) : Type 0 where
+  pub some-cycles : 1 ≤ span
+  pub within-run : span ≤ n - done
+  pub stands : Stands sched (t .cycle .0 + (span - 1)) cursor
+  pub on : (next : Cursor) → Stands sched (t .cycle .0 + (span - 1) + 1) next
+      → At skips rom sched log₀ n s log (stateOf core ram ports (s .cycle .0 + (done + span))) next at (done + span) begun spared
+
+pub starts : (skips : Bool) (rom sched log : List ℕ) (n : ℕ) (s : State) (cursor : Cursor) → runNumber upd546 rom sched s n ≡ 0
+    → Stands sched (s .cycle .0) cursor → At skips rom sched log n s log s cursor 0 0 0 0
+starts skips rom sched log n s cursor e k = record {
   w = [];
   number = e;
   rises = omega arith;
@@ -58,26 +78,63 @@ starts rom sched log n s cursor e k = record {
   stands = k;
   not-past = omega arith;
   few = omega arith;
+  less = omega arith;
   place = refl;
   room = omega arith;
   size = refl;
   log-is = refl;
-  half = rw sub-zero (loop-starts upd546 rom sched (length log) n s);
+  half = rw (sub-zero n) (loop-starts upd546 rom sched skips (length log) n s);
 }
 
-module _ (rom sched log₀ : List ℕ) (n : ℕ) (s : State) (log : List ℕ) (t : State) (cursor : Cursor) (at done begun : ℕ)
-    (h : At rom sched log₀ n s log t cursor at done begun) where
+-- counts after a jump of j cycles
+steps-after : (done spared j : ℕ) → spared ≤ done → (j ≡ 0 → ⊥) → done - spared + 1 ≡ done + j - (spared + (j - 1))
+steps-after done spared j h m = omega arith
+
+left-after : (n done j : ℕ) → done < n → suc (n - (done + 1)) - j ≡ n - (done + j)
+left-after n done j h = omega arith
+
+some-one : (j : ℕ) → (j ≡ 0 → ⊥) → 1 ≤ j
+some-one j m = omega arith
+
+limit-after : (c s n done j : ℕ) → c ≡ s + done → done ≤ n → s + n ≤ cycleLimit → j ≤ n - done → c + j ≤ cycleLimit
+limit-after c s n done j e h l w = omega arith
+
+less-after : (done spared j : ℕ) → spared ≤ done → spared + (j - 1) ≤ done + j
+less-after done spared j h = omega arith
+
+few-after : (done begun j : ℕ) → begun ≤ done → begun + j ≤ done + j
+few-after done begun j h = omega arith
+
+end-after : (n done j : ℕ) → done ≤ n → j ≤ n - done → done + j ≤ n
+end-after n done j h l = omega arith
+
+last-next : (c j : ℕ) → (j ≡ 0 → ⊥) → c + (j - 1) + 1 ≡ c + j
+last-next c j m = omega arith
+
+last-before : (c j : ℕ) → (j ≡ 0 → ⊥) → c + j - 1 ≡ c + (j - 1)
+last-before c j m = omega arith
+
+-- what either runner answers, of the whole run
+run-by : (skips : Bool) (rom sched log : List ℕ) (n : ℕ) (s : State)
+    → runBy skips rom sched s log n ≡ told upd546 (runNumber upd546 rom sched s n) (whole skips rom sched log n s) s log
+unfolding plain skipping
+run-by false rom sched log n s = refl
+run-by true rom sched log n s = refl
+
+module _ {skips : Bool} {rom sched log₀ : List ℕ} {n : ℕ} {s : State} {log : List ℕ} {t : State} {cursor : Cursor} {at done begun spared : ℕ}
+    (h : At skips rom sched log₀ n s log t cursor at done begun spared) where
   -- what is answered, where the run came to so much
-  tells : (o : Option ℕ) → within upd546 rom sched (length log₀) n s ≡ sofar t (h .w) done begun o
-      → record { end = endOf o; state = t; cycles = done; clocks = 4 * done; begun = begun; written = at; steps = done; log = log } ≡ plain upd546 rom sched s log₀ n
-  unfolding plain
-  tells o e = rw (h .number, e, h .place, h .log-is)
+  tells : (o : Option ℕ) → whole skips rom sched log₀ n s ≡ record { ran = sofar t (h .w) done begun o; steps = done - spared }
+      → record { end = endOf o; state = t; cycles = done; clocks = 4 * done; begun = begun; written = at; steps = done - spared; log = log }
+      ≡ runBy skips rom sched s log₀ n
+  tells o e = rw (run-by skips rom sched log₀ n s, h .number, e, h .place, h .log-is)
 
   pub finishes : n ≤ done
-      → record { end = endOf none; state = t; cycles = done; clocks = 4 * done; begun = begun; written = at; steps = done; log = log } ≡ plain upd546 rom sched s log₀ n
+      → record { end = endOf none; state = t; cycles = done; clocks = 4 * done; begun = begun; written = at; steps = done - spared; log = log }
+      ≡ runBy skips rom sched s log₀ n
   finishes g =
       let z : n - done ≡ 0 = omega (arith, h .not-past) in
-      tells none (loop-ends upd546 rom sched _ (length log₀) t (h .w) done begun (rw z at (h .half)))
+      tells none (loop-ends upd546 rom sched skips _ (length log₀) t (h .w) done begun (done - spared) (rw z at (h .half)))
 
   -- the part of the log that is still empty
   lent-is : midOf at (length log - at) log ≡ drop (length (h .w)) log₀
@@ -113,32 +170,136 @@ module _ (rom sched log₀ : List ℕ) (n : ℕ) (s : State) (log : List ℕ) (t
     one-more : n - done ≡ suc (n - (done + 1))
     one-more = omega arith
 
-    on : Halfway upd546 rom sched (within upd546 rom sched (length log₀) n s) (length log₀) t (h .w) done begun (suc (n - (done + 1)))
+    on : Halfway upd546 rom sched skips (whole skips rom sched log₀ n s) (length log₀) t (h .w) done begun (done - spared) (suc (n - (done + 1)))
     on = rw one-more at (h .half)
 
+    -- what the jump's length is asked for
+    pub boundary : (positions : List ℕ) → positions ≡ positionTable → Boundary rom sched positions (t .core .timer) cursor (t .cycle .0) (n - done)
+    boundary positions e =
+        let k = run-taken rom sched s n (h .number) in
+        record {
+          rom-length = k .rom-length;
+          schedule = k .schedule;
+          table = e;
+          register = h .valid .core .scalars .register;
+          stands = h .stands;
+          limit = omega (arith, h .rises, k .limit);
+        }
+
+    -- THE NEXT STEP is one cycle
+    module _ (none-ahead : 0 ≡ jumpBy skips rom sched t (n - done)) where
+      one-cycle-span : (b : Bool) → 0 ≡ jumpBy b rom sched t (n - done) → spanOf upd546 rom sched b t (suc (n - (done + 1))) ≡ 1
+      one-cycle-span false e = refl
+      one-cycle-span true e = ap strideOf (sym (rw one-more at e))
+
+      pub span-one : spanOf upd546 rom sched skips t (suc (n - (done + 1))) ≡ 1
+      span-one = one-cycle-span skips none-ahead
+
+    -- THE NEXT STEP is a jump
+    module _ (j : ℕ) (ahead : j ≡ jumpBy skips rom sched t (n - done)) (some-ahead : j ≡ 0 → ⊥) where
+      is-length : (b : Bool) → j ≡ jumpBy b rom sched t (n - done) → jumpLength rom sched t (n - done) ≡ j
+      is-length false e = absurd (some-ahead e)
+      is-length true e = sym e
+
+      length-is : jumpLength rom sched t (n - done) ≡ j
+      length-is = is-length skips ahead
+
+      stride-same : (k : ℕ) → (k ≡ 0 → ⊥) → strideOf k ≡ k
+      stride-same zero m = absurd (m refl)
+      stride-same (suc k) m = refl
+
+      jump-span : (b : Bool) → j ≡ jumpBy b rom sched t (n - done) → j ≡ spanOf upd546 rom sched b t (suc (n - (done + 1)))
+      jump-span false e = absurd (some-ahead e)
+      jump-span true e = sym (stride-same j some-ahead) ∙ ap strideOf (rw one-more at e)
+
+      pub jumpable : (positions registers : List ℕ) → positions ≡ positionTable → registers ≡ registerTable → Jumpable positions registers (t .core) j
+      jumpable positions registers e f = record {
+        position-table = e;
+        register-table = f;
+        runs = jump-runs rom sched t (n - done) j length-is some-ahead;
+        register = h .valid .core .scalars .register;
+        ticks = jump-ticks rom sched t (n - done) j length-is some-ahead;
+      }
+
+      -- no jump leads past the last cycle, so the counts fit
+      pub within-run : j ≤ n - done
+      within-run = subst (λ (k : ℕ). k ≤ n - done) length-is (jump-within rom sched t (n - done))
+
+      pub stands-before : Stands sched (t .cycle .0 + (j - 1)) cursor
+      stands-before =
+          let k = run-taken rom sched s n (h .number) in
+          subst (λ (c : ℕ). Stands sched c cursor) (last-before (t .cycle .0) j some-ahead)
+          (stands-last rom sched t (n - done) j cursor (k .schedule) (h .stands) (omega (arith, h .rises, k .limit)) length-is some-ahead)
+
+      pub jumps-on : Bytes rom → Bytes sched → (next : Cursor) → Stands sched (t .cycle .0 + (j - 1) + 1) next
+          → {t′ : State} → t′ ≡ stateOf (jumpedCore j (t .core)) (t .ram) (t .ports) (s .cycle .0 + (done + j))
+          → At skips rom sched log₀ n s log t′ next at (done + j) (begun + j) (spared + (j - 1))
+      jumps-on br bs next k q =
+          let taken = run-taken rom sched s n (h .number) in
+          let panel : Panel upd546 rom sched = record { rom-bytes = br; sched-bytes = bs; accepted = taken .panel } in
+          let up : t .cycle .0 + j ≡ s .cycle .0 + (done + j) = omega (arith, h .rises) in
+          let to-is = q ∙ ap (λ (c : ℕ). stateOf (jumpedCore j (t .core)) (t .ram) (t .ports) c) (sym up) in
+          let steps = steps-after done spared j (h .less) some-ahead in
+          let left = left-after n done j more in
+          let half = loop-goes upd546 rom sched skips _ (length log₀) t (h .w) done begun (done - spared) (n - (done + 1)) on (jumped j t) [] j j
+          (jump-span skips ahead) (some-one j some-ahead) (jump-in-room rom sched t (n - done) j length-is some-ahead (h .valid) (length log₀ - length (h .w))) in
+          rw to-is
+          (record {
+            w = h .w;
+            number = h .number;
+            rises = up;
+            valid = jump-keeps rom sched t (n - done) j panel (h .valid)
+                (limit-after (t .cycle .0) (s .cycle .0) n done j (h .rises) (h .not-past) (taken .limit) within-run) length-is some-ahead;
+            stands = subst (λ (c : ℕ). Stands sched c next) (last-next (t .cycle .0) j some-ahead) k;
+            not-past = end-after n done j (h .not-past) within-run;
+            few = few-after done begun j (h .few);
+            less = less-after done spared j (h .less);
+            place = h .place;
+            room = h .room;
+            size = h .size;
+            log-is = h .log-is;
+            half = rw (append-nil, steps, left) at half;
+          })
+
+      pub jumps-forward : Bytes rom → Bytes sched → {log′ ram′ ports′ : List ℕ} {core′ : Core} {at′ begun′ spared′ span : ℕ} → log′ ≡ log
+          → core′ ≡ jumpedCore j (t .core) → ram′ ≡ t .ram → ports′ ≡ t .ports → at′ ≡ at → begun′ ≡ begun + j → spared′ ≡ spared + (j - 1) → span ≡ j
+          → Forward skips rom sched log₀ n s t cursor done log′ core′ ram′ ports′ at′ begun′ spared′ span
+      jumps-forward br bs e₁ e₂ e₃ e₄ e₅ e₆ e₇ e₈ =
+          rw (e₁, e₂, e₃, e₄, e₅, e₆, e₇, e₈)
+          (record { some-cycles = some-one j some-ahead; within-run = within-run; stands = stands-before; on = λ next k. jumps-on br bs next k refl })
+
     -- what a cycle landed at
-    module _ (r : Stepped) (ram ports part : List ℕ)
+    module _ (none-ahead : 0 ≡ jumpBy skips rom sched t (n - done)) (r : Stepped) (ram ports part : List ℕ)
         (e : landed r ram ports part ≡ landing (onAccepts (accepts (t .core)) rom (cursor .lines) t) t (midOf at (length log - at) log)) where
       landed-is : landed r ram ports part ≡ landing (cycle rom sched t) t (midOf at (length log - at) log)
       landed-is = e ∙ ap (λ (o : Out State). landing o t (midOf at (length log - at) log)) cycle-lines
 
+      stopped-at : ℕ → Steps State
+      stopped-at k = record { ran = sofar t (h .w) done begun (some k); steps = done - spared }
+
+      stopped : (k : ℕ) → within upd546 rom sched (length log₀ - length (h .w)) 1 t ≡ still t (some k) → whole skips rom sched log₀ n s ≡ stopped-at k
+      unfolding stopped-at
+      stopped k q =
+          loop-stops upd546 rom sched skips _ (length log₀) t (h .w) done begun (done - spared) (n - (done + 1)) on k
+          (ap (λ (j : ℕ). within upd546 rom sched (length log₀ - length (h .w)) j t) (span-one none-ahead) ∙ q)
+
       -- a cycle that isn't begun
       pub record Held : Type 0 where
-        pub whole-is : within upd546 rom sched (length log₀) n s ≡ sofar t (h .w) done begun (some (r .stop))
+        pub whole-is : whole skips rom sched log₀ n s ≡ record { ran = sofar t (h .w) done begun (some (r .stop)); steps = done - spared }
         pub number-is : (r .stop ≡ 3 → ⊥) → StopNumber (r .stop)
         pub ram-is : ram ≡ t .ram
         pub ports-is : ports ≡ t .ports
         pub part-is : part ≡ midOf at (length log - at) log
 
       held : (r .stop ≡ 0 → ⊥) → Held
-      unfolding landing
+      unfolding landing stopped-at
       held g = go (cycle rom sched t) refl landed-is
         where
           go : (o : Out State) → cycle rom sched t ≡ o → landed r ram ports part ≡ landing o t (midOf at (length log - at) log) → Held
           go (stop k) q z =
               let same : r .stop ≡ k = ap (λ (x : Landing). x .stop) z in
               record {
-                whole-is = loop-stops upd546 rom sched _ (length log₀) t (h .w) done begun (n - (done + 1)) on k q ∙ ap (λ (x : ℕ). sofar t (h .w) done begun (some x)) (sym same);
+                whole-is = stopped k (one-stops upd546 rom sched (length log₀ - length (h .w)) t k q) ∙ ap stopped-at (sym same);
                 number-is = λ d. subst StopNumber (sym same) (stop-number rom sched t k q);
                 ram-is = ap (λ (x : Landing). x .ram) z;
                 ports-is = ap (λ (x : Landing). x .ports) z;
@@ -156,7 +317,7 @@ module _ (rom sched log₀ : List ℕ) (n : ℕ) (s : State) (log : List ℕ) (t
                   let same : r .stop ≡ 3 = ap (λ (x : Landing). x .stop) z in
                   let full = leb-false (length x) (length (midOf at (length log - at) log)) y in
                   record {
-                    whole-is = loop-fills upd546 rom sched _ (length log₀) t (h .w) done begun (n - (done + 1)) on t′ x b q (omega (arith, full, lent-length)) ∙ ap (λ (x : ℕ). sofar t (h .w) done begun (some x)) (sym same);
+                    whole-is = stopped 3 (one-fills upd546 rom sched (length log₀ - length (h .w)) t t′ x b q (omega (arith, full, lent-length))) ∙ ap stopped-at (sym same);
                     number-is = λ d. absurd (d same);
                     ram-is = ap (λ (x : Landing). x .ram) z;
                     ports-is = ap (λ (x : Landing). x .ports) z;
@@ -165,8 +326,17 @@ module _ (rom sched log₀ : List ℕ) (n : ℕ) (s : State) (log : List ℕ) (t
 
       -- the answer of a run that stops here
       pub stops : (g : r .stop ≡ 0 → ⊥) → {state : State} → state ≡ stateOf (t .core) ram ports (t .cycle .0)
-          → record { end = endOf (some (r .stop)); state = state; cycles = done; clocks = 4 * done; begun = begun; written = at; steps = done; log = putMid at (length log - at) log part }
-          ≡ plain upd546 rom sched s log₀ n
+          → record {
+            end = endOf (some (r .stop));
+            state = state;
+            cycles = done;
+            clocks = 4 * done;
+            begun = begun;
+            written = at;
+            steps = done - spared;
+            log = putMid at (length log - at) log part;
+          }
+          ≡ runBy skips rom sched s log₀ n
       stops g q =
           let k = held g in
           let same = q ∙ ap₂ (λ (x y : List ℕ). stateOf (t .core) x y (t .cycle .0)) (k .ram-is) (k .ports-is) in
@@ -224,7 +394,7 @@ module _ (rom sched log₀ : List ℕ) (n : ℕ) (s : State) (log : List ℕ) (t
         counts = (cycled .begun, omega (arith, gone g .bytes-is, gone g .fits, h .place, h .room))
 
         pub goes-on : (next : Cursor) → Stands sched (t .cycle .0 + 1) next → {t′ : State} → t′ ≡ stateOf (r .core) ram ports (s .cycle .0 + (done + 1))
-            → At rom sched log₀ n s (putMid at (length log - at) log part) t′ next (at + r .bytes) (done + 1) (begun + r .begun)
+            → At skips rom sched log₀ n s (putMid at (length log - at) log part) t′ next (at + r .bytes) (done + 1) (begun + r .begun) spared
         goes-on next k q =
             let o = gone g in
             let x = o .x in
@@ -238,6 +408,10 @@ module _ (rom sched log₀ : List ℕ) (n : ℕ) (s : State) (log : List ℕ) (t
             ∙ ap (λ (z : List ℕ). h .w ++ (x ++ z)) (drop-drop (length x) (length (h .w)) log₀ ∙ ap (λ (k : ℕ). drop k log₀) long)
             ∙ sym (append-assoc (h .w) x (drop (length (h .w ++ x)) log₀)) in
             let fits : length (h .w ++ x) ≤ length log₀ = omega (arith, long, o .fits, h .room) in
+            let steps : done - spared + 1 ≡ done + 1 - spared = omega (arith, h .less) in
+            let left : suc (n - (done + 1)) - 1 ≡ n - (done + 1) = omega arith in
+            let half = loop-goes upd546 rom sched skips _ (length log₀) t (h .w) done begun (done - spared) (n - (done + 1)) on (o .to) x (r .begun) 1
+            (sym (span-one none-ahead)) (omega arith) (one-goes upd546 rom sched (length log₀ - length (h .w)) t (o .to) x (r .begun) (o .cycle-is) (o .fits)) in
             rw to-is
             (record {
               w = h .w ++ x;
@@ -251,5 +425,19 @@ module _ (rom sched log₀ : List ℕ) (n : ℕ) (s : State) (log : List ℕ) (t
               room = fits;
               size = ap length log-now ∙ length-append (h .w ++ x) (drop (length (h .w ++ x)) log₀) ∙ omega (arith, length-drop (length (h .w ++ x)) log₀, fits);
               log-is = log-now;
-              half = loop-goes upd546 rom sched _ (length log₀) t (h .w) done begun (n - (done + 1)) on (o .to) x (r .begun) (o .cycle-is) (o .fits);
+              less = omega (arith, h .less);
+              half = rw (steps, left) at half;
+            })
+
+        pub cycle-forward : {log′ ram′ ports′ : List ℕ} {core′ : Core} {at′ begun′ spared′ span : ℕ} → log′ ≡ putMid at (length log - at) log part
+            → core′ ≡ r .core → ram′ ≡ ram → ports′ ≡ ports → at′ ≡ at + r .bytes → begun′ ≡ begun + r .begun → spared′ ≡ spared → span ≡ 1
+            → Forward skips rom sched log₀ n s t cursor done log′ core′ ram′ ports′ at′ begun′ spared′ span
+        cycle-forward e₁ e₂ e₃ e₄ e₅ e₆ e₇ e₈ =
+            let here : t .cycle .0 ≡ t .cycle .0 + (1 - 1) = omega arith in
+            rw (e₁, e₂, e₃, e₄, e₅, e₆, e₇, e₈)
+            (record {
+              some-cycles = omega arith;
+              within-run = omega arith;
+              stands = subst (λ (c : ℕ). Stands sched c cursor) here (h .stands);
+              on = λ next k. goes-on next (subst (λ (c : ℕ). Stands sched (c + 1) next) (sym here) k) refl;
             })

@@ -1,6 +1,6 @@
 -- What refuses a run, number by number, and what holds where none does. Assumes nothing.
 use mathlib.Core.Path.{_≡_, _∙_, refl, sym}
-use mathlib.Core.Bool.{true, false}
+use mathlib.Core.Bool.{Bool, true, false}
 use mathlib.Core.List.{List}
 use Prim.Native.Nat.{ℕ, zero, suc, _+_, _≤_}
 use lib.Dec.{eqb, leb}
@@ -10,13 +10,14 @@ use native.Mathlib.Omega.{arith}
 use Rattle.runs.specs.declared.Refusal.{Refusal}
 use Rattle.runs.specs.declared.Refusal.the-variants as why
 use Rattle.runs.specs.Numbers.{refusalNumber}
-use Rattle.runs.specs.TwoRunners.{refused, cycleLimit, firstOf, runNumber, plain}
+use Rattle.runs.specs.TwoRunners.{refused, cycleLimit, firstOf, runNumber, plain, skipping}
 use Rattle.runs.proofs.Refusals.{first-at, passes}
 use Rattle.upd546.specs.declared.State.{State}
 use Rattle.upd546.specs.TheMachine.{romLength}
 use Rattle.upd546.specs.TheLineSchedule.{scheduleNumber}
 use Rattle.upd546.specs.StateImage.{stateNumber}
 use Rattle.upd546.specs.TwoRunners.{panelNumber, upd546}
+use Rattle.runner.specs.Either.{runBy}
 
 module _ (rom sched : List ℕ) (s : State) (n : ℕ) where
   pub by-rom : (length rom ≡ romLength → ⊥) → 21 ≡ runNumber upd546 rom sched s n
@@ -78,13 +79,15 @@ refusal-some why.ImageMark e = omega arith
 refusal-some why.ImageVersion e = omega arith
 refusal-some why.Field e = omega arith
 
-refused-by : (rom sched log : List ℕ) (s : State) (n k : ℕ) → k ≡ runNumber upd546 rom sched s n → (k ≡ 0 → ⊥)
-    → record { end = refused k; state = s; cycles = 0; clocks = 0; begun = 0; written = 0; steps = 0; log = log } ≡ plain upd546 rom sched s log n
-unfolding plain
-refused-by rom sched log s n zero e h = absurd (h refl)
-refused-by rom sched log s n (suc k) e h = rw (← e)
+refused-by : (skips : Bool) (rom sched log : List ℕ) (s : State) (n k : ℕ) → k ≡ runNumber upd546 rom sched s n → (k ≡ 0 → ⊥)
+    → record { end = refused k; state = s; cycles = 0; clocks = 0; begun = 0; written = 0; steps = 0; log = log } ≡ runBy skips rom sched s log n
+unfolding plain skipping
+refused-by skips rom sched log s n zero e h = absurd (h refl)
+refused-by false rom sched log s n (suc k) e h = rw (← e)
+refused-by true rom sched log s n (suc k) e h = rw (← e)
 
 -- the answer of a refused run
-pub tells-refused : (rom sched log : List ℕ) (s : State) (n : ℕ) (w : Refusal) → refusalNumber w ≡ runNumber upd546 rom sched s n
-    → record { end = refused (refusalNumber w); state = s; cycles = 0; clocks = 0; begun = 0; written = 0; steps = 0; log = log } ≡ plain upd546 rom sched s log n
-tells-refused rom sched log s n w e = refused-by rom sched log s n (refusalNumber w) e (refusal-some w)
+pub tells-refused : (skips : Bool) (rom sched log : List ℕ) (s : State) (n : ℕ) (w : Refusal) → refusalNumber w ≡ runNumber upd546 rom sched s n
+    → record { end = refused (refusalNumber w); state = s; cycles = 0; clocks = 0; begun = 0; written = 0; steps = 0; log = log }
+    ≡ runBy skips rom sched s log n
+tells-refused skips rom sched log s n w e = refused-by skips rom sched log s n (refusalNumber w) e (refusal-some w)

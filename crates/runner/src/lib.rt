@@ -1,6 +1,6 @@
-// The plain runner: what refuses a run, and the loop over its cycles. The state goes in by value and comes back by value;
+// The two runners: what refuses a run, and the one loop over its cycles that both go through. The state goes in by value and comes back by value;
 // inside a run the core is a local and RAM, latches, log and tables are lent.
-// It may not know what a cycle does, only that it lands where its definition says.
+// It may not know what a cycle does, only that it lands where its definition says, nor where a jump is taken.
 use cycle::one_cycle;
 use runs::ClockCycles;
 use runs::MachineCycles;
@@ -9,20 +9,25 @@ use runs::Refusal;
 use runs::RunEnd;
 use runs::Stop;
 use schedule::Cursor;
+use tables::PositionTable;
 use upd546::Core;
+use upd546::Interrupt;
 use upd546::LATCHES;
 use upd546::Lines;
 use upd546::RAM_WORDS;
 use upd546::ROM_LENGTH;
 use upd546::RunAnswer;
 use upd546::State;
+use upd546::Timer;
 ghost use mathlib.Core.Path.{_≡_};
-ghost use Prim.Native.Nat.{_*_, _≤_};
+ghost use Prim.Native.Nat.{_-_, _*_, _≤_};
 ghost use Rattle.runs.specs.Numbers.{stopNumber, outcomeNumber};
-ghost use Rattle.runs.specs.TwoRunners.{cycleLimit, runNumber, plain};
+ghost use Rattle.runs.specs.TwoRunners.{cycleLimit, runNumber, plain, skipping};
 ghost use Rattle.runs.specs.Laws.{Bytes};
 ghost use Rattle.upd546.specs.TwoRunners.{upd546, answerOf};
 ghost use Rattle.cycle.specs.Landing.{stateOf};
+ghost use Rattle.jump.specs.Boundary.{Boundary};
+ghost use Rattle.runner.specs.Either.{Ahead, runBy};
 ghost use Rattle.laws.proofs.Stops.{StopNumber};
 
 // What refuses a run: 21, then the schedule, then the state, then 2.
@@ -84,9 +89,16 @@ fn lines_of(c: Cursor) -> Lines
 }
 
 // What a run answers that did so many cycles.
-fn answer(end: RunEnd, state: State, done: u64, begun: u64, written: usize) -> RunAnswer
-    requires { ⌜ done ≤ cycleLimit ⌝ }
-    ensures { λ r. ⌜ r ≡ record { end = end; state = state; cycles = record { 0 = done }; clocks = record { 0 = 4 * done }; begun = begun; written = written; steps = done } ⌝ }
+fn answer(
+    end: RunEnd,
+    state: State,
+    done: u64,
+    begun: u64,
+    written: usize,
+    spared: u64,
+) -> RunAnswer
+    requires { ⌜ (done ≤ cycleLimit) × (spared ≤ done) ⌝ }
+    ensures { λ r. ⌜ r ≡ record { end = end; state = state; cycles = record { 0 = done }; clocks = record { 0 = 4 * done }; begun = begun; written = written; steps = done - spared } ⌝ }
 {
     RunAnswer {
         end,
@@ -95,16 +107,52 @@ fn answer(end: RunEnd, state: State, done: u64, begun: u64, written: usize) -> R
         clocks: runs::clocks(MachineCycles(done)),
         begun,
         written,
-        steps: done,
+        steps: done - spared,
     }
 }
 
-// The cycles of a run that isn't refused.
-fn drive(rom: &[u8], sched: &[u8], s: State, log: &mut [u8], n: u64) -> RunAnswer
+// The cycles that the next step jumps, or 0: the plain runner never jumps.
+fn jump_ahead(
+    rom: &[u8],
+    sched: &[u8],
+    positions: &PositionTable,
+    pc: u16,
+    owed: u8,
+    interrupt: Interrupt,
+    timer: Timer,
+    cursor: Cursor,
+    number: u64,
+    left: u64,
+    skips: bool,
+) -> u64
+    requires { ⌜ Boundary (now rom) (now sched) (now positions) timer cursor number left ⌝ }
+    ensures { λ r. ⌜ Ahead skips (now (rom .entry)) (now (sched .entry)) pc owed interrupt timer number left r ⌝ }
+{
+    if skips {
+        return jump::jump_length(
+            rom,
+            sched,
+            positions,
+            pc,
+            owed,
+            interrupt,
+            timer,
+            cursor,
+            number,
+            left,
+        );
+    }
+    0
+}
+
+// The cycles of a run that isn't refused, by either runner. `spared` counts the cycles that took no step of their own.
+fn drive(rom: &[u8], sched: &[u8], s: State, log: &mut [u8], n: u64, skips: bool) -> RunAnswer
     requires { ⌜ runNumber upd546 (now rom) (now sched) s n ≡ 0 ⌝ }
-    ensures { λ r. ⌜ answerOf r (now (log .exit)) ≡ plain upd546 (now (rom .entry)) (now (sched .entry)) s (now (log .entry)) n ⌝ }
+    ensures { λ r. ⌜ answerOf r (now (log .exit)) ≡ runBy skips (now (rom .entry)) (now (sched .entry)) s (now (log .entry)) n ⌝ }
 {
     let table = tables::instruction_table();
+    let positions = tables::position_table();
+    let registers = tables::register_table();
     let start = s.cycle.0;
     let given = s.core;
     let mut core = instructions::same(given);
@@ -114,29 +162,59 @@ fn drive(rom: &[u8], sched: &[u8], s: State, log: &mut [u8], n: u64) -> RunAnswe
     let mut at: usize = 0;
     let mut done: u64 = 0;
     let mut begun: u64 = 0;
+    let mut spared: u64 = 0;
     while done < n {
         let number = start + done;
-        let lines = lines_of(cursor);
-        let o = one_cycle(
+        let j = jump_ahead(
             rom,
-            &table,
-            core,
-            &mut ram,
-            &mut ports,
-            &mut log[at..],
-            lines,
+            sched,
+            &positions,
+            core.flow.pc,
+            core.owed,
+            core.interrupt,
+            core.timer,
+            cursor,
             number,
+            n - done,
+            skips,
         );
-        if o.stop != 0 {
-            let stop = RunEnd::Stopped(stop_of(o.stop));
-            return answer(stop, state_of(core, ram, ports, number), done, begun, at);
+        let mut span: u64 = 1;
+        if j != 0 {
+            let next = jump::jumped(&positions, &registers, core, j);
+            core = instructions::same(next);
+            begun = begun + j;
+            spared = spared + (j - 1);
+            span = j;
+        } else {
+            let lines = lines_of(cursor);
+            let o = one_cycle(
+                rom,
+                &table,
+                core,
+                &mut ram,
+                &mut ports,
+                &mut log[at..],
+                lines,
+                number,
+            );
+            if o.stop != 0 {
+                let stop = RunEnd::Stopped(stop_of(o.stop));
+                return answer(
+                    stop,
+                    state_of(core, ram, ports, number),
+                    done,
+                    begun,
+                    at,
+                    spared,
+                );
+            }
+            let next = o.core;
+            core = instructions::same(next);
+            at = at + o.bytes;
+            begun = begun + o.begun;
         }
-        let next = o.core;
-        core = instructions::same(next);
-        at = at + o.bytes;
-        begun = begun + o.begun;
-        cursor = schedule::moved(sched, cursor, number);
-        done = done + 1;
+        cursor = schedule::moved(sched, cursor, number + (span - 1));
+        done = done + span;
     }
     answer(
         RunEnd::Finished,
@@ -144,12 +222,20 @@ fn drive(rom: &[u8], sched: &[u8], s: State, log: &mut [u8], n: u64) -> RunAnswe
         done,
         begun,
         at,
+        spared,
     )
 }
 
-// THE PLAIN RUNNER.
-pub fn run_plain(rom: &[u8], sched: &[u8], s: State, log: &mut [u8], n: MachineCycles) -> RunAnswer
-    ensures { λ r. ⌜ answerOf r (now (log .exit)) ≡ plain upd546 (now (rom .entry)) (now (sched .entry)) s (now (log .entry)) (n .0) ⌝ }
+// Either runner: refused, or driven.
+fn run(
+    rom: &[u8],
+    sched: &[u8],
+    s: State,
+    log: &mut [u8],
+    n: MachineCycles,
+    skips: bool,
+) -> RunAnswer
+    ensures { λ r. ⌜ answerOf r (now (log .exit)) ≡ runBy skips (now (rom .entry)) (now (sched .entry)) s (now (log .entry)) (n .0) ⌝ }
 {
     let by = refusal(rom, sched, s, n);
     if let Outcome::Refused(why) = by {
@@ -163,5 +249,25 @@ pub fn run_plain(rom: &[u8], sched: &[u8], s: State, log: &mut [u8], n: MachineC
             steps: 0,
         };
     }
-    drive(rom, sched, s, log, n.0)
+    drive(rom, sched, s, log, n.0, skips)
+}
+
+// THE PLAIN RUNNER.
+pub fn run_plain(rom: &[u8], sched: &[u8], s: State, log: &mut [u8], n: MachineCycles) -> RunAnswer
+    ensures { λ r. ⌜ answerOf r (now (log .exit)) ≡ plain upd546 (now (rom .entry)) (now (sched .entry)) s (now (log .entry)) (n .0) ⌝ }
+{
+    run(rom, sched, s, log, n, false)
+}
+
+// THE TIMER-SKIPPING RUNNER.
+pub fn run_skipping(
+    rom: &[u8],
+    sched: &[u8],
+    s: State,
+    log: &mut [u8],
+    n: MachineCycles,
+) -> RunAnswer
+    ensures { λ r. ⌜ answerOf r (now (log .exit)) ≡ skipping upd546 (now (rom .entry)) (now (sched .entry)) s (now (log .entry)) (n .0) ⌝ }
+{
+    run(rom, sched, s, log, n, true)
 }

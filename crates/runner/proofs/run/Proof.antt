@@ -4,8 +4,8 @@ use denote.Ref.{now}
 use Rattle.runs.specs.Numbers.{outcomeNumber}
 use Rattle.runner.proofs.Refusing.{tells-refused}
 use borrow.Author.Needs.{needs}
-use Rattle.runner.proofs.run_plain.Statement.{statement}
-use Rattle.runner.proofs.run_plain.Tie as tie
+use Rattle.runner.proofs.run.Statement.{statement}
+use Rattle.runner.proofs.run.Tie as tie
 
 refusal-requires : tie.Need-refusal-requires
 refusal-requires c κs = search needs
@@ -17,7 +17,7 @@ returns : tie.Need-returns
 returns c =
     let a = c .before .before .before .before .before .before .before .args in
     let w = c .before .by .given in
-    tells-refused (now (a .rom)) (now (a .sched)) (now (a .log)) (a .s) (a .n .0) (w .0 .0) (sym (ap outcomeNumber (w .1)) ∙ c .before .before .before .refusal .ensures)
+    tells-refused (a .skips) (now (a .rom)) (now (a .sched)) (now (a .log)) (a .s) (a .n .0) (w .0 .0) (sym (ap outcomeNumber (w .1)) ∙ c .before .before .before .refusal .ensures)
 
 enum-told : tie.Need-enum-told
 enum-told c = search needs
@@ -31,8 +31,8 @@ same-length c = search needs
 returns-2 : tie.Need-returns-2
 returns-2 c = search needs
 
-pub run-plain-spec : {M : Type 1} → statement M
-run-plain-spec =
+pub run-spec : {M : Type 1} → statement M
+run-spec =
     tie.close
     (tie.spec
     refusal-requires
