@@ -8,13 +8,14 @@ use Prim.Native.Nat.{ℕ, zero, suc, _+_, _-_, _*_, _/_, _%_, _<_, _≤_, min}
 use native.Mathlib.Nat.{add-zero, sub-zero}
 use native.Mathlib.Omega.{arith}
 use lib.Dec.{eqb, leb, ltb}
-use lib.ListN.{replicate, getD-replicate, List·getD-eq-default}
+use lib.ListN.{length, replicate, getD-replicate, List·getD-eq-default}
 use lib.Seq.{set-getD}
 use borrow.Author.Tests.{ltb-true, leb-true, eqb-true, eqb-false, lt-ltb, le-ltb, le-leb, not-true}
 use Rattle.runs.specs.Machine.{Machine, Out, stop, went}
 use Rattle.runs.specs.TwoRunners.{cycleLimit, Ran, firstOf, begins, unbroken, within}
 use Rattle.runs.specs.Laws.{Panel}
 use Rattle.runs.proofs.Iterate as iterate
+use Rattle.runs.proofs.Cut.{roomy}
 use Rattle.upd546.specs.declared.Core.{Core}
 use Rattle.upd546.specs.declared.Timer.{Timer}
 use Rattle.upd546.specs.declared.Lines.{Lines}
@@ -33,33 +34,6 @@ use Rattle.laws.proofs.Sound.{accepted-valid, valid-accepted}
 use Rattle.laws.proofs.Lines.{lines-same}
 use Rattle.laws.proofs.Chip.{chip-laws}
 use Rattle.laws.proofs.Timer.{tick-left, running-left}
-
--- CYCLES THAT APPEND NOTHING
-
-no-bytes-left : (w v : List ℕ) → w ++ v ≡ [] → w ≡ []
-no-bytes-left [] v e = refl
-no-bytes-left (x ∷ w) v e = cc
-
-no-bytes-right : (w v : List ℕ) → w ++ v ≡ [] → v ≡ []
-no-bytes-right [] v e = e
-no-bytes-right (x ∷ w) v e = cc
-
--- such cycles go on a log of any room as they go with room for every record
-within-unbroken : (M : Machine) (rom sched : List ℕ) (room n : ℕ) (s : M .State) → unbroken M rom sched n s .bytes ≡ []
-    → within M rom sched room n s ≡ unbroken M rom sched n s
-unfolding unbroken within
-within-unbroken M rom sched room zero s e = refl
-within-unbroken M rom sched room (suc n) s e = go (M .cycle rom sched s) refl (λ t. within-unbroken M rom sched room n t)
-  where
-    go : (o : Out (M .State)) → M .cycle rom sched s ≡ o
-        → ((t : M .State) → unbroken M rom sched n t .bytes ≡ [] → within M rom sched room n t ≡ unbroken M rom sched n t)
-        → within M rom sched room (suc n) s ≡ unbroken M rom sched (suc n) s
-    go (stop k) q ih = rw q
-    go (went t w b) q ih =
-        let f : w ++ unbroken M rom sched n t .bytes ≡ [] = rw q at e in
-        let z : w ≡ [] = no-bytes-left w (unbroken M rom sched n t .bytes) f in
-        let h = ih t (no-bytes-right w (unbroken M rom sched n t .bytes) f) in
-        rw (q, z, le-leb 0 room (omega arith), sub-zero room, h)
 
 -- ONE CYCLE OF THE WAITING LOOP
 
@@ -307,7 +281,8 @@ module _ (rom sched : List ℕ) (s : State) (j : ℕ) (small : s .core .timer .r
 
   pub turns-within : (room : ℕ) → within upd546 rom sched room j s ≡ quietly j (jumped j s)
   turns-within room =
-      within-unbroken upd546 rom sched room j s (ap (λ (r : Ran State). r .bytes) turns-unbroken) ∙ turns-unbroken
+      let none : length (unbroken upd546 rom sched j s .bytes) ≤ room = omega (arith, ap (λ (r : Ran State). length (r .bytes)) turns-unbroken) in
+      roomy upd546 rom sched j room s none ∙ turns-unbroken
 
 -- THE LENGTH OF A JUMP
 

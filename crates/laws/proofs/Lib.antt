@@ -11,3 +11,4 @@ pub mod Packing
 pub mod Tails
 pub mod Images
 pub mod Jump
+pub mod Demand3

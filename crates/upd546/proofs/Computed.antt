@@ -42,3 +42,7 @@ getD-entries (suc n) f (suc k) d h = getD-entries n (λ i. f (suc i)) k d (le-of
 pub entries-of : (l : List ℕ) → l ≡ entries (length l) (λ i. getD l i 0)
 entries-of [] = refl
 entries-of (x ∷ xs) = ap (λ (t : List ℕ). x ∷ t) (entries-of xs)
+
+-- a list of three entries, entry by entry
+pub three : (l : List ℕ) → length l ≡ 3 → (getD l 0 0 ∷ getD l 1 0 ∷ getD l 2 0 ∷ []) ≡ l
+three l h = sym (rw h at (entries-of l))

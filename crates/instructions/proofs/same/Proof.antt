@@ -1,7 +1,7 @@
 -- A core is what its fields are; its stack has three entries. Assumes nothing.
 use mathlib.Core.Path.{_≡_}
 use lib.ListN.{length}
-use Rattle.instructions.proofs.Lists.{three}
+use Rattle.upd546.proofs.Computed.{three}
 use borrow.Author.Needs.{needs}
 use Rattle.instructions.proofs.same.Statement.{statement}
 use Rattle.instructions.proofs.same.Tie as tie
