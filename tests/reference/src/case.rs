@@ -29,6 +29,7 @@ pub struct Case {
     pub name: String,
     /// The number that it has to end with, where that is told.
     pub ends: Option<u8>,
+    runner: Runner,
     filter: u8,
     rom_length: u16,
     rom_seed: u32,
@@ -52,6 +53,7 @@ impl Case {
         Case {
             name: name.into(),
             ends: None,
+            runner: Runner::Plain,
             filter: 0,
             rom_length: ROM,
             rom_seed: 0,
@@ -66,6 +68,15 @@ impl Case {
             state: State::fresh(),
             log_length: LOG,
             n: 0,
+        }
+    }
+
+    /// The same on the timer-skipping runner.
+    pub fn skipping(&self) -> Case {
+        Case {
+            name: format!("{}, skipping", self.name),
+            runner: Runner::Skipping,
+            ..self.clone()
         }
     }
 
@@ -156,7 +167,7 @@ impl Case {
             .map(|place| (7 * place + 13) as u8)
             .collect();
         let answer = run_counted(
-            Runner::Plain,
+            self.runner,
             &rom,
             &schedule,
             &state,
@@ -171,7 +182,7 @@ impl Case {
     pub fn bytes(&self) -> Vec<u8> {
         let lists = [&self.rom_patches, &self.schedule_patches, &self.ram_patches]
             .map(|patches| list(patches));
-        let mut bytes = vec![0, self.filter];
+        let mut bytes = vec![u8::from(self.runner == Runner::Skipping), self.filter];
         bytes.extend(self.rom_length.to_be_bytes());
         bytes.extend(self.rom_seed.to_be_bytes());
         bytes.extend(self.schedule_length.to_be_bytes());

@@ -10,7 +10,7 @@
 //!
 //! | at | bytes | what |
 //! |---|---|---|
-//! | 0 | 1 | runner: 0 plain, 1 timer-skipping (kept for later) |
+//! | 0 | 1 | runner: 0 plain, 1 timer-skipping |
 //! | 1 | 1 | ROM: the sum of its filters |
 //! | 2 | 2 | ROM: length, at most 2,100 |
 //! | 4 | 4 | ROM: seed |
@@ -95,6 +95,7 @@ fn always_skips(code: u8) -> bool {
     code == 0x49
 }
 
+/// Each case on both runners.
 fn all_cases() -> Vec<Case> {
     let mut cases = codes::cases();
     cases.extend(bench::cases());
@@ -103,6 +104,8 @@ fn all_cases() -> Vec<Case> {
     cases.extend(stops::cases());
     cases.extend(refusals::cases());
     cases.extend(roms::cases());
+    let skipping: Vec<Case> = cases.iter().map(Case::skipping).collect();
+    cases.extend(skipping);
     cases
 }
 
@@ -110,6 +113,8 @@ fn all_cases() -> Vec<Case> {
 struct Outcome {
     text: String,
     coverage: Coverage,
+    /// Cycles that took no step of their own.
+    spared: u64,
     faults: Vec<String>,
 }
 
@@ -118,12 +123,14 @@ fn run_all(cases: &[Case]) -> Outcome {
     let mut coverage = Coverage::new();
     let mut faults = Vec::new();
     let mut numbers = Vec::new();
+    let mut spared = 0;
     for (place, case) in cases.iter().enumerate() {
         let (answer, log) = case.run(&mut coverage);
         if case.ends.is_some_and(|number| number != answer.number) {
             faults.push(format!("{}: ends with {}", case.name, answer.number));
         }
         numbers.push(answer.number);
+        spared += answer.cycles - answer.steps;
         text.push_str(&line(place, &answer, &log));
     }
     text.push_str(&format!("{} cases\n", cases.len()));
@@ -132,10 +139,14 @@ fn run_all(cases: &[Case]) -> Outcome {
             faults.push(format!("no case ends with {number}"));
         }
     }
+    if spared == 0 {
+        faults.push(String::from("no case jumps"));
+    }
     faults.extend(uncovered(&coverage));
     Outcome {
         text,
         coverage,
+        spared,
         faults,
     }
 }
@@ -191,6 +202,7 @@ fn report(cases: &[Case], file: &[u8], outcome: &Outcome) {
         executed(skipped),
         sum(skipped)
     );
+    println!("{} cycles spared their step", outcome.spared);
     for fault in &outcome.faults {
         println!("fault: {fault}");
     }
