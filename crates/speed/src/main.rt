@@ -1,4 +1,4 @@
-// Runs the plain runner on a made ROM and a full schedule, so that its speed can be measured (tests/speed). It may not know how a
+// Runs either runner on a made ROM and a full schedule, so that its speed can be measured (tests/speed). It may not know how a
 // run goes, nor the time.
 use libc::STDIN_FILENO;
 use libc::STDOUT_FILENO;
@@ -16,7 +16,7 @@ struct Sums {
     pc: u16,
 }
 
-// The input: a seed (4 bytes, big-endian), a load, a runner (0: the plain one) and the number of slices (2 bytes).
+// The input: a seed (4 bytes, big-endian), a load, a runner (0 plain, 1 timer-skipping) and the number of slices (2 bytes).
 fn main() {
     let mut input = [0u8; 8];
     let got = io::read_full(STDIN_FILENO, &mut input);

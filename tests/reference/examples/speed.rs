@@ -58,6 +58,7 @@ fn main() {
     let [s0, s1, s2, s3, load, runner, n1, n0] = input;
     let runner = match runner {
         0 => Runner::Plain,
+        1 => Runner::Skipping,
         _ => return println!("no such runner"),
     };
     let mut from = Generator(u32::from_be_bytes([s0, s1, s2, s3]));
