@@ -22,8 +22,8 @@
 //!
 //! N is the case's n, at most 8,191. A slice is a run, a call that is refused or none, a save to a
 //! buffer of 81 bytes and a restore of these bytes. The next slice gets the state that the restore
-//! answers. A run of n cycles is lent a log of 8 n + 8 bytes, in which byte i is (7 i + 13) modulo 256
-//! before the run.
+//! answers. A run of n cycles is lent a log of 8 n + 8 bytes. In a log before a run, and in a buffer
+//! before a save, byte i is (7 i + 13) modulo 256.
 //!
 //! The cut at k: a slice of k cycles by runner k % 2 (0 plain, 1 timer-skipping) with the refused
 //! call k % 6, then a slice of N - k cycles by runner k / 2 % 2 with none.
@@ -44,10 +44,9 @@
 //! | 4 | a restore of 80 zero bytes | 31 |
 //! | 5 | a run of 2^64 - 1 cycles | 2 |
 //!
-//! 0, 6 and 7 are no call. A refused run is by the runner of the slice and lent a log of 80 bytes,
-//! filled as above; so is the buffer of a refused save. A call counts as refused where it answers its
-//! number, a run the state that it was given, no cycles, no instructions and no log bytes, a restore
-//! the fresh state, and where log and buffer stay as they were.
+//! 0, 6 and 7 are no call. A refused run is by the runner of the slice and lent a log of 80 bytes. A
+//! call counts as refused where it answers its number, a run the state that it was given and every
+//! count 0, a restore the fresh state, and where log and buffer stay as they were.
 //!
 //! # The text
 //!
@@ -59,9 +58,11 @@
 //! calls refused.
 //!
 //! A list ends the same where the number of its first run that didn't finish (0 if all finished), the
-//! sums of the cycles and of the instructions begun, the sum of the log bytes written, the digest of
-//! the log bytes written one after the other, and the digest of the image of the last state are those
-//! of the unbroken run.
+//! sums of the cycles, of the instructions begun and of the log bytes written, the log bytes written
+//! one after the other, and the image of the state that the last restore answers are those of the
+//! unbroken run; and where every stop in it has the same number, every run that finished did the cycles
+//! that it was asked for, every save and every restore was done, and every log is past the bytes
+//! written as it was before the run.
 
 mod list;
 mod roms;

@@ -55,6 +55,13 @@ impl Lent {
             if number == 0 {
                 number = answer.number;
             }
+            if answer.number == 0 {
+                assert_eq!(answer.cycles, slice.cycles);
+            } else {
+                assert_eq!(answer.number, number);
+            }
+            let lent = lent_log(slice.cycles);
+            assert_eq!(log[answer.written..], lent[answer.written..]);
             cycles += answer.cycles;
             begun += answer.begun;
             joined.extend_from_slice(&log[..answer.written]);
@@ -71,7 +78,7 @@ impl Lent {
             cycles,
             begun,
             written: joined.len(),
-            image: digest(&image),
+            image: image_digest(&state),
             log: digest(&joined),
         }
     }
@@ -82,7 +89,8 @@ fn refused_run(number: u8, runner: Runner, rom: &[u8], schedule: &[u8], state: &
     let answer = run(runner, rom, schedule, state, &mut log, n);
     assert_eq!((answer.number, answer.refused), (number, true));
     assert_eq!(answer.state, *state);
-    assert_eq!((answer.cycles, answer.begun, answer.written), (0, 0, 0));
+    assert_eq!((answer.cycles, answer.clocks, answer.begun), (0, 0, 0));
+    assert_eq!((answer.written, answer.steps), (0, 0));
     assert_eq!(log, lent_log(9));
 }
 
