@@ -54,7 +54,7 @@ pub fn below_top(s: u32) -> u8 {
 
 // How many bytes a case takes, told by its head.
 pub fn size(head: &[u8]) -> usize
-    ensures { λ r. ⌜ 82 ≤ r ⌝ }
+    ensures { λ r. ⌜ (82 ≤ r) × (r ≤ 196690) ⌝ }
 {
     HEAD + wide(word(head, 76)) + wide(word(head, 78)) + wide(word(head, 80))
 }
@@ -95,6 +95,20 @@ fn lay(target: &mut [u8], address: usize, case: &[u8], from: usize, count: usize
         store(target, address + i, byte(case, from + i));
         i += 1;
     }
+}
+
+pub fn equal(a: &[u8], b: &[u8]) -> bool {
+    if a.len() != b.len() {
+        return false;
+    }
+    let mut i = 0;
+    while i < a.len() {
+        if a[i] != b[i] {
+            return false;
+        }
+        i += 1;
+    }
+    true
 }
 
 pub fn least(a: usize, b: usize) -> usize

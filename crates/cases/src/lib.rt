@@ -1,6 +1,6 @@
 // The cases of the comparison with the other interpreter: how ROM, schedule, state and log are made of a case's bytes, and the
 // digests of what a run leaves. The file, the filters and the digest are told at the top of tests/reference/src/bin/cases/main.rs.
-// Program `images` takes its states, its generator and its digests from here. It may not know how a run goes.
+// Programs `images` and `cuts` take their states, their generator and their digests from here. It may not know how a run goes.
 //
 // The head of a case, by the place of each first byte: 0 runner; ROM: 1 filters, 2 length, 4 seed; schedule: 8 length, 10 gap,
 // 12 seed, 16 first cycle; 24 RAM seed; 28 length of the log; 32 n; 40 cycle number; 48 PC; 50 stack; 56 Acc, C, C', DPH, DPL,
@@ -13,6 +13,7 @@ mod start;
 
 pub use bytes::HEAD;
 pub use bytes::byte;
+pub use bytes::equal;
 pub use bytes::four;
 pub use bytes::next;
 pub use bytes::size;
@@ -28,4 +29,5 @@ pub use schedule::schedule_length;
 pub use start::cycles;
 pub use start::log_length;
 pub use start::make_log;
+pub use start::pattern;
 pub use start::start_state;

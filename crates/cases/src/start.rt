@@ -36,7 +36,7 @@ pub fn make_log(log: &mut [u8]) {
     }
 }
 
-fn pattern(i: usize) -> u8 {
+pub fn pattern(i: usize) -> u8 {
     ((i % 256 * 7 + 13) % 256) as u8
 }
 

@@ -157,12 +157,23 @@ impl Case {
         self
     }
 
+    /// The state that the run starts from.
+    pub fn start(&self) -> State {
+        let mut state = self.state.clone();
+        state.ram = self.made_ram_words();
+        state
+    }
+
+    /// How many cycles it asks for.
+    pub fn cycles(&self) -> u64 {
+        self.n
+    }
+
     /// Runs the case, and answers its log too.
     pub fn run(&self, coverage: &mut Coverage) -> (Answer, Vec<u8>) {
         let rom = self.made_rom_bytes();
         let schedule = self.made_schedule_bytes();
-        let mut state = self.state.clone();
-        state.ram = self.made_ram_words();
+        let state = self.start();
         let mut log: Vec<u8> = (0..self.log_length)
             .map(|place| (7 * place + 13) as u8)
             .collect();
@@ -204,7 +215,7 @@ impl Case {
         bytes
     }
 
-    fn made_rom_bytes(&self) -> Vec<u8> {
+    pub fn made_rom_bytes(&self) -> Vec<u8> {
         let mut rom = vec![0; usize::from(self.rom_length)];
         let mut s = self.rom_seed;
         if s != 0 {
@@ -217,7 +228,7 @@ impl Case {
         rom
     }
 
-    fn made_schedule_bytes(&self) -> Vec<u8> {
+    pub fn made_schedule_bytes(&self) -> Vec<u8> {
         let mut schedule = vec![0; usize::from(self.schedule_length)];
         let mut s = self.schedule_seed;
         let mut cycle = self.first;

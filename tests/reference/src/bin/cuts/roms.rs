@@ -1,0 +1,168 @@
+//! The panels that are cut: a program, its lines and the cycles of its unbroken run.
+
+use reference::case::{Case, FEW_JCP, FEW_JUMPS, INSIDE, NO_STOPS};
+
+/// A ROM on which a run goes on and comes round by many ways.
+const LASTING: u8 = NO_STOPS | FEW_JCP | INSIDE | FEW_JUMPS;
+
+/// At 03C: INC Z, OE, EI, RT.
+const ANSWER: [u8; 7] = [0x4A, 0x0D, 0x00, 0x4A, 0x44, 0x31, 0x48];
+
+pub fn panels() -> Vec<Case> {
+    let mut panels = waits();
+    panels.extend(interrupts());
+    panels.extend(instructions());
+    panels.extend(stops());
+    panels.extend(starts());
+    panels.extend(any());
+    panels
+}
+
+/// Loops on TTM, of short and of long intervals, with records between and without.
+fn waits() -> Vec<Case> {
+    vec![
+        Case::new("waits of 63 cycles")
+            .rom(0, &[0x14, 0x80, 0x05, 0xC2, 0x0D, 0x00, 0x44, 0xC0])
+            .n(2_000)
+            .ends(0),
+        Case::new("one wait of 4,032 cycles")
+            .rom(0, &[0x14, 0xBF, 0x05, 0xC2, 0x0D, 0x00, 0x44, 0xC0])
+            .schedule(&[
+                (700, 0x12, 0x34, 1),
+                (1_401, 0x56, 0x78, 0),
+                (2_800, 0, 0, 1),
+            ])
+            .n(4_100)
+            .ends(0),
+        Case::new("waits with records close together")
+            .rom(0, &[0x14, 0x84, 0x05, 0xC2, 0x40, 0x44, 0x1D, 0x00, 0xC0])
+            .made_schedule(2_000, 91, 25, 3)
+            .n(2_500)
+            .ends(0),
+        // The wait is left for the answer and gone on with.
+        Case::new("interrupts in a wait")
+            .rom(0, &[0x31, 0x14, 0x8F, 0x05, 0xC3, 0x0D, 0x00, 0x44, 0xC1])
+            .rom(0x3C, &ANSWER)
+            .made_schedule(600, 92, 160, 20)
+            .n(3_000)
+            .ends(0),
+    ]
+}
+
+/// Interrupts between EI and RT, in chains of EI, and in the answer.
+fn interrupts() -> Vec<Case> {
+    vec![
+        Case::new("EI and RT")
+            .rom(0, &[0x31, 0x00, 0x20, 0x33, 0x13, 0xC1, 0xC1])
+            .rom(0x3C, &ANSWER)
+            .made_schedule(8_000, 93, 5, 1)
+            .n(2_000)
+            .ends(0),
+        Case::new("chains of EI, DI and TIT")
+            .rom(
+                0,
+                &[
+                    0x31, 0x31, 0x31, 0x44, 0x01, 0x03, 0x0D, 0x00, 0x31, 0x40, 0xC0,
+                ],
+            )
+            .rom(0x3C, &[0x31, 0x31, 0x1D, 0x48, 0x48])
+            .made_schedule(8_000, 94, 4, 2)
+            .n(2_000)
+            .ends(0),
+    ]
+}
+
+fn instructions() -> Vec<Case> {
+    vec![
+        // TC and FBF before CI, LDI, STM, OCD, JMP and CAL, with C 1; CLI before OCD; XC.
+        Case::new("skips over two bytes")
+            .rom(
+                0,
+                &[0x1B, 0x04, 0x17, 0x30, 0x04, 0x15, 0x55, 0x20, 0x14, 0x80],
+            )
+            .rom(10, &[0x04, 0x1E, 0x77, 0x20, 0xA7, 0xD0, 0x04, 0xAF, 0xD0])
+            .rom(
+                19,
+                &[0x0D, 0x00, 0x44, 0x16, 0x00, 0x1E, 0x12, 0x1A, 0x00, 0xC0],
+            )
+            .n(1_500)
+            .ends(0),
+        Case::new("OCD for ever")
+            .rom(0, &[0x1E, 0x5A, 0x1E, 0xC3, 0x1E, 0x0F, 0xC0])
+            .n(1_500)
+            .ends(0),
+        Case::new("chains of LDI and of STM")
+            .rom(
+                0,
+                &[
+                    0x15, 0x23, 0x15, 0x45, 0x15, 0x00, 0x02, 0x14, 0x80, 0x14, 0x81,
+                ],
+            )
+            .rom(11, &[0x15, 0x71, 0x0D, 0x00, 0x3D, 0x44, 0x05, 0xC0, 0xC0])
+            .rom(0x3C, &ANSWER)
+            .with(|state| state.inte = 1)
+            .made_schedule(900, 95, 40, 0)
+            .n(1_500)
+            .ends(0),
+        Case::new("calls and returns that skip")
+            .rom(0x000, &[0xA9, 0x00, 0x00, 0x0D, 0xC0, 0x44, 0xC0])
+            .rom(0x100, &[0xAA, 0x40, 0x00, 0x49])
+            .rom(0x240, &[0xAB, 0xBF, 0x1D, 0x00, 0x49])
+            .rom(0x3BF, &[0x0D, 0x00, 0x1E, 0x49, 0x49])
+            .made_ram(11)
+            .n(1_500)
+            .ends(0),
+    ]
+}
+
+/// Stops late in the run: the list goes on after them.
+fn stops() -> Vec<Case> {
+    vec![
+        Case::new("1C after a wait")
+            .rom(0, &[0x14, 0x86, 0x05, 0xC2, 0x44, 0x1E, 0x99, 0x1C])
+            .n(900)
+            .ends(23),
+        Case::new("JMP above the ROM after a count")
+            .rom(0, &[0x80, 0x1D, 0xC0, 0x81, 0x1D, 0xC0, 0x44, 0xA7, 0xD1])
+            .n(1_500)
+            .ends(22),
+        Case::new("a skip at 7CF")
+            .rom(0, &[0x44, 0x0D, 0xC0, 0xA7, 0xCD])
+            .rom(0x7CD, &[0x44, 0x1B, 0x04])
+            .n(200)
+            .ends(22),
+    ]
+}
+
+/// Starts that no run reaches, and the last cycle.
+fn starts() -> Vec<Case> {
+    vec![
+        Case::new("mark STM, three owed, TM 1 with the timer running")
+            .rom(0, &[0x05, 0xC0, 0x44, 0x14, 0x82, 0xC0])
+            .with(|state| (state.mark, state.owed, state.tm) = (3, 3, 1))
+            .with(|state| (state.register, state.counter) = (33, 2))
+            .n(1_000)
+            .ends(0),
+        Case::new("up to the last cycle")
+            .rom(0, &[0x14, 0x90, 0x05, 0xC2, 0x44, 0x1E, 0x3C, 0xC0])
+            .with(|state| state.cycle = (1 << 48) - 1 - 1_500)
+            .made_schedule(300, 96, 60, (1 << 48) - 1 - 1_600)
+            .n(1_500)
+            .ends(0),
+    ]
+}
+
+/// ROMs of the generator.
+fn any() -> Vec<Case> {
+    [(1_001, 97, 6), (2_003, 98, 30), (3_005, 99, 200)]
+        .into_iter()
+        .map(|(seed, records, gap)| {
+            Case::new(format!("any ROM {seed}"))
+                .made_rom(seed, LASTING)
+                .made_ram(seed)
+                .made_schedule(4_000, records, gap, 0)
+                .n(1_500)
+                .ends(0)
+        })
+        .collect()
+}

@@ -1,0 +1,223 @@
+//! The lists are run on this interpreter too, and the cuts fall where they have to.
+
+use std::collections::BTreeSet;
+
+use reference::restore;
+
+use super::*;
+use crate::list::{Refused, Slice};
+
+/// What a panel lends.
+struct Lent {
+    rom: Vec<u8>,
+    schedule: Vec<u8>,
+}
+
+impl Lent {
+    fn of(panel: &Panel) -> Lent {
+        Lent {
+            rom: panel.case.made_rom_bytes(),
+            schedule: panel.case.made_schedule_bytes(),
+        }
+    }
+
+    fn check_refused(&self, call: Refused, runner: Runner, state: &State) {
+        let short = &self.rom[..1_999];
+        match call {
+            Refused::Rom => refused_run(21, runner, short, &self.schedule, state, 9),
+            Refused::Schedule => refused_run(11, runner, &self.rom, &[0; 7], state, 9),
+            Refused::Cycles => refused_run(2, runner, &self.rom, &self.schedule, state, u64::MAX),
+            Refused::Buffer => {
+                let mut buffer = lent_log(9);
+                assert_eq!(save(state, &mut buffer), 1);
+                assert_eq!(buffer, lent_log(9));
+            }
+            Refused::Image => assert_eq!(restore(&[0; 80]), (31, State::fresh())),
+        }
+    }
+
+    fn run_list(&self, start: &State, slices: &[Slice]) -> End {
+        let mut state = start.clone();
+        let mut image = [0; IMAGE];
+        let mut joined = Vec::new();
+        let (mut number, mut cycles, mut begun) = (0, 0, 0);
+        for slice in slices {
+            let mut log = lent_log(slice.cycles);
+            let answer = run(
+                slice.runner,
+                &self.rom,
+                &self.schedule,
+                &state,
+                &mut log,
+                slice.cycles,
+            );
+            assert!(!answer.refused && answer.number != 3);
+            if number == 0 {
+                number = answer.number;
+            }
+            if answer.number == 0 {
+                assert_eq!(answer.cycles, slice.cycles);
+            } else {
+                assert_eq!(answer.number, number);
+            }
+            let lent = lent_log(slice.cycles);
+            assert_eq!(log[answer.written..], lent[answer.written..]);
+            cycles += answer.cycles;
+            begun += answer.begun;
+            joined.extend_from_slice(&log[..answer.written]);
+            if let Some(call) = slice.refused {
+                self.check_refused(call, slice.runner, &answer.state);
+            }
+            assert_eq!(save(&answer.state, &mut image), 0);
+            let (restored, again) = restore(&image);
+            assert_eq!(restored, 0);
+            state = again;
+        }
+        End {
+            number,
+            cycles,
+            begun,
+            written: joined.len(),
+            image: image_digest(&state),
+            log: digest(&joined),
+        }
+    }
+}
+
+fn refused_run(number: u8, runner: Runner, rom: &[u8], schedule: &[u8], state: &State, n: u64) {
+    let mut log = lent_log(9);
+    let answer = run(runner, rom, schedule, state, &mut log, n);
+    assert_eq!((answer.number, answer.refused), (number, true));
+    assert_eq!(answer.state, *state);
+    assert_eq!((answer.cycles, answer.clocks, answer.begun), (0, 0, 0));
+    assert_eq!((answer.written, answer.steps), (0, 0));
+    assert_eq!(log, lent_log(9));
+}
+
+#[test]
+fn every_list_ends_as_the_unbroken_run() {
+    for panel in panels() {
+        let lent = Lent::of(&panel);
+        let start = panel.case.start();
+        let (end, _) = panel.unbroken(Runner::Plain);
+        assert_eq!(panel.unbroken(Runner::Skipping).0, end);
+        for slices in panel.cut_lists().iter().chain(&panel.drawn_lists()) {
+            let name = &panel.case.name;
+            assert_eq!(lent.run_list(&start, slices), end, "{name}: {slices:?}");
+        }
+    }
+}
+
+#[test]
+fn a_restore_that_forgets_is_seen() {
+    // A fresh state in the middle of each run.
+    for panel in panels() {
+        let lent = Lent::of(&panel);
+        let (end, _) = panel.unbroken(Runner::Plain);
+        let slices = &list::cut(panel.case.cycles(), end.cycles / 2);
+        let first = lent.run_list(&panel.case.start(), &slices[..1]);
+        let second = lent.run_list(&State::fresh(), &slices[1..]);
+        assert_ne!(
+            (first.begun + second.begun, second.image),
+            (end.begun, end.image)
+        );
+    }
+}
+
+#[test]
+fn every_panel_ends_as_it_has_to() {
+    assert_eq!(faults(&panels()), Vec::<String>::new());
+    let numbers: BTreeSet<u8> = panels()
+        .iter()
+        .map(|panel| panel.unbroken(Runner::Plain).0.number)
+        .collect();
+    assert_eq!(numbers, BTreeSet::from([0, 22, 23]));
+}
+
+/// The states at the cuts of a panel.
+fn states(panel: &Panel) -> Vec<State> {
+    let lent = Lent::of(panel);
+    let mut state = panel.case.start();
+    let mut states = vec![state.clone()];
+    for _ in 0..panel.cuts {
+        let mut log = [0; 16];
+        let Lent { rom, schedule } = &lent;
+        let answer = run(Runner::Plain, rom, schedule, &state, &mut log, 1);
+        state = answer.state;
+        states.push(state.clone());
+    }
+    states
+}
+
+#[test]
+fn cuts_fall_everywhere() {
+    let states: Vec<State> = panels().iter().flat_map(states).collect();
+    let falls = |name: &str, condition: &dyn Fn(&State) -> bool| {
+        let count = states.iter().filter(|state| condition(state)).count();
+        assert!(count >= 10, "{name}: {count} cuts");
+    };
+    for owed in 1..=2 {
+        falls("cycles owed", &|s| s.owed == owed);
+    }
+    falls("an interrupt to be accepted", &|s| {
+        s.int == 1 && s.inte == 1 && s.owed == 0 && s.mark != 2
+    });
+    falls("an interrupt after EI", &|s| s.int == 1 && s.mark == 2);
+    falls("in the answer", &|s| (0x3C..0x43).contains(&s.pc));
+    falls("mark LDI with cycles owed", &|s| s.mark == 1 && s.owed > 0);
+    falls("mark STM with cycles owed", &|s| s.mark == 3 && s.owed > 0);
+    falls("mark STM at its end", &|s| s.mark == 3 && s.owed == 0);
+    falls("a running timer", &|s| s.register > 1 && s.counter > 1);
+    falls("the timer's last step", &|s| {
+        s.register == 32 && s.counter == 0
+    });
+    falls("TM set", &|s| s.tm == 1);
+    falls("level low", &|s| s.level == 0);
+    falls("C and C' set", &|s| s.carry == 1 && s.saved == 1);
+    falls("PC above 7CF", &|s| s.pc > 0x7CF);
+}
+
+#[test]
+fn waits_are_jumped_and_nothing_else() {
+    for panel in panels() {
+        let (end, steps) = panel.unbroken(Runner::Skipping);
+        let name = &panel.case.name;
+        let words = ["wait", "timer running", "last cycle"];
+        let waits = words.iter().any(|word| name.contains(word));
+        if waits {
+            assert!(2 * steps < end.cycles, "{name}: {steps} steps");
+        } else {
+            assert_eq!(steps, end.cycles, "{name}");
+        }
+    }
+}
+
+#[test]
+fn lists_are_of_every_kind() {
+    for panel in panels() {
+        let n = panel.case.cycles();
+        let lists = panel.drawn_lists();
+        let counts: BTreeSet<usize> = lists.iter().map(Vec::len).collect();
+        assert!(counts.len() >= 18 && counts.contains(&20));
+        for slices in &lists {
+            assert_eq!(slices.iter().map(|slice| slice.cycles).sum::<u64>(), n);
+        }
+        let cuts = panel.cut_lists();
+        assert_eq!(cuts.len() as u64, n + 1);
+        for lists in [&lists, &cuts] {
+            for number in 1..=5 {
+                let call = Refused::of(number);
+                assert!(lists.iter().flatten().any(|slice| slice.refused == call));
+            }
+            for pair in [
+                [Runner::Plain, Runner::Plain],
+                [Runner::Plain, Runner::Skipping],
+                [Runner::Skipping, Runner::Plain],
+                [Runner::Skipping, Runner::Skipping],
+            ] {
+                let runs = |w: &[Slice]| [w[0].runner, w[1].runner] == pair;
+                assert!(lists.iter().any(|slices| slices.windows(2).any(runs)));
+            }
+        }
+    }
+}
