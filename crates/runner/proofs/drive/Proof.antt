@@ -16,21 +16,6 @@ use Rattle.runner.proofs.Driving.{At, Forward, starts, boundary, ready,
 use borrow.Author.Needs.{needs}
 use Rattle.runner.proofs.drive.Statement.{statement}
 use Rattle.runner.proofs.drive.Tie as tie
-use Rattle.runner.proofs.drive.Reads as reads
-use Rattle.runner.proofs.drive.Lts as lts
-use Rattle.cycle.proofs.one_cycle.Reads as one-cycle-reads
-use Rattle.instructions.proofs.same.Reads as same-reads
-use Rattle.jump.proofs.jumped.Reads as jumped-reads
-use Rattle.runner.proofs.answer.Reads as answer-reads
-use Rattle.runner.proofs.jump_ahead.Reads as jump-ahead-reads
-use Rattle.runner.proofs.lines_of.Reads as lines-of-reads
-use Rattle.runner.proofs.state_of.Reads as state-of-reads
-use Rattle.runner.proofs.stop_of.Reads as stop-of-reads
-use Rattle.schedule.proofs.moved.Reads as moved-reads
-use Rattle.schedule.proofs.start.Reads as start-reads
-use Rattle.tables.proofs.instruction_table.Reads as instruction-table-reads
-use Rattle.tables.proofs.position_table.Reads as position-table-reads
-use Rattle.tables.proofs.register_table.Reads as register-table-reads
 
 abbrev Inv-loop : tie.InvT-loop
 Inv-loop rom sched log₀ n skips table positions registers start core₀ ram₀ ports₀ cursor₀ at₀ done₀ begun₀ spared₀ log core ram ports cursor at done begun spared =
@@ -41,21 +26,21 @@ abbrev μ-loop : tie.MeasureT-loop
     n - done
 
 -- the length of the jump ahead, of the state where the loop stands
-ahead : (c : lts.After-jump-ahead (instruction-table-reads.Asked, instruction-table-reads.Learnt, position-table-reads.Asked, position-table-reads.Learnt, register-table-reads.Asked, register-table-reads.Learnt, same-reads.Asked, same-reads.Learnt, start-reads.Asked, start-reads.Learnt, jump-ahead-reads.Asked, jump-ahead-reads.Learnt, jumped-reads.Asked, jumped-reads.Learnt, lines-of-reads.Asked, lines-of-reads.Learnt, one-cycle-reads.Asked, one-cycle-reads.Learnt, stop-of-reads.Asked, stop-of-reads.Learnt, state-of-reads.Asked, state-of-reads.Learnt, answer-reads.Asked, answer-reads.Learnt, moved-reads.Asked, moved-reads.Learnt) reads.Pre reads.Post Inv-loop μ-loop)
+ahead : (c : tie.After-jump-ahead Inv-loop μ-loop)
     → let a = c .before .before .before .before .before .before .before .before .before .before .before .before .before .before .before .args in
     let l = c .before .before .before .loop in
     c .jump-ahead .result ≡ jumpBy (a .skips) (now (a .rom)) (now (a .sched)) (stateOf (l .core) (l .ram) (l .ports) (a .s .cycle .0 + l .done)) (a .n - l .done)
 ahead c = c .jump-ahead .ensures .ahead-is _ (record { pc-is = refl; owed-is = refl; interrupt-is = refl; timer-is = refl; cycle-is = refl })
 
 -- the plain runner, or no jump ahead
-none : (c : lts.Else1 (instruction-table-reads.Asked, instruction-table-reads.Learnt, position-table-reads.Asked, position-table-reads.Learnt, register-table-reads.Asked, register-table-reads.Learnt, same-reads.Asked, same-reads.Learnt, start-reads.Asked, start-reads.Learnt, jump-ahead-reads.Asked, jump-ahead-reads.Learnt, jumped-reads.Asked, jumped-reads.Learnt, lines-of-reads.Asked, lines-of-reads.Learnt, one-cycle-reads.Asked, one-cycle-reads.Learnt, stop-of-reads.Asked, stop-of-reads.Learnt, state-of-reads.Asked, state-of-reads.Learnt, answer-reads.Asked, answer-reads.Learnt, moved-reads.Asked, moved-reads.Learnt) reads.Pre reads.Post Inv-loop μ-loop)
+none : (c : tie.Else1 Inv-loop μ-loop)
     → let a = c .before .before .before .before .before .before .before .before .before .before .before .before .before .before .before .before .args in
     let l = c .before .before .before .before .loop in
     0 ≡ jumpBy (a .skips) (now (a .rom)) (now (a .sched)) (stateOf (l .core) (l .ram) (l .ports) (a .s .cycle .0 + l .done)) (a .n - l .done)
 none c = sym (c .if1 .left) ∙ ahead (c .before)
 
 -- a step forward, by a jump or by a cycle
-forward : (c : lts.Joined1 (instruction-table-reads.Asked, instruction-table-reads.Learnt, position-table-reads.Asked, position-table-reads.Learnt, register-table-reads.Asked, register-table-reads.Learnt, same-reads.Asked, same-reads.Learnt, start-reads.Asked, start-reads.Learnt, jump-ahead-reads.Asked, jump-ahead-reads.Learnt, jumped-reads.Asked, jumped-reads.Learnt, lines-of-reads.Asked, lines-of-reads.Learnt, one-cycle-reads.Asked, one-cycle-reads.Learnt, stop-of-reads.Asked, stop-of-reads.Learnt, state-of-reads.Asked, state-of-reads.Learnt, answer-reads.Asked, answer-reads.Learnt, moved-reads.Asked, moved-reads.Learnt) reads.Pre reads.Post Inv-loop μ-loop)
+forward : (c : tie.Joined1 Inv-loop μ-loop)
     → let a = c .before .before .before .before .before .before .before .before .before .before .before .before .before .before .before .before .args in
     let l = c .before .before .before .before .loop in
     let v = c .if1 in
