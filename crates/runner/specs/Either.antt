@@ -3,11 +3,14 @@ use mathlib.Core.Path.{_≡_}
 use mathlib.Core.Bool.{Bool, true, false}
 use mathlib.Core.List.{List}
 use Prim.Native.Nat.{ℕ}
-use Rattle.runs.specs.TwoRunners.{RunAnswer, plain, skipping}
+use Rattle.runs.specs.TwoRunners.{RunAnswer, runNumber, plain, skipping}
 use Rattle.upd546.specs.declared.Interrupt.{Interrupt}
 use Rattle.upd546.specs.declared.Timer.{Timer}
 use Rattle.upd546.specs.declared.State.{State}
 use Rattle.upd546.specs.TwoRunners.{jumpLength, upd546}
+use Rattle.tables.specs.Tables.{instructionTable, positionTable, registerTable}
+use Rattle.schedule.specs.declared.Cursor.{Cursor}
+use Rattle.schedule.specs.Cursor.{Stands}
 use Rattle.jump.specs.Boundary.{Shows}
 
 -- the timer-skipping runner where `skips` is true, else the plain one
@@ -23,3 +26,11 @@ jumpBy true rom sched s left = jumpLength rom sched s left
 -- r is that number for every state that shows this
 pub record Ahead (skips : Bool) (rom sched : List ℕ) (pc owed : ℕ) (interrupt : Interrupt) (timer : Timer) (n left r : ℕ) : Type 0 where
   pub ahead-is : (s : State) → Shows s pc owed interrupt timer n → r ≡ jumpBy skips rom sched s left
+
+-- what the loop starts with: a run that isn't refused, the tables, and a cursor that stands at the state's cycle
+pub record Set (rom sched table positions registers : List ℕ) (s : State) (first : Cursor) (n : ℕ) : Type 0 where
+  pub taken : runNumber upd546 rom sched s n ≡ 0
+  pub instructions : table ≡ instructionTable
+  pub position-table : positions ≡ positionTable
+  pub register-table : registers ≡ registerTable
+  pub stands : Stands sched (s .cycle .0) first

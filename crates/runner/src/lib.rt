@@ -9,7 +9,9 @@ use runs::Refusal;
 use runs::RunEnd;
 use runs::Stop;
 use schedule::Cursor;
+use tables::InstructionTable;
 use tables::PositionTable;
+use tables::RegisterTable;
 use upd546::Core;
 use upd546::Interrupt;
 use upd546::LATCHES;
@@ -27,7 +29,7 @@ ghost use Rattle.runs.specs.Laws.{Bytes};
 ghost use Rattle.upd546.specs.TwoRunners.{upd546, answerOf};
 ghost use Rattle.cycle.specs.Landing.{stateOf};
 ghost use Rattle.jump.specs.Boundary.{Boundary};
-ghost use Rattle.runner.specs.Either.{Ahead, runBy};
+ghost use Rattle.runner.specs.Either.{Ahead, Set, runBy};
 ghost use Rattle.laws.proofs.Stops.{StopNumber};
 
 // What refuses a run: 21, then the schedule, then the state, then 2.
@@ -145,20 +147,29 @@ fn jump_ahead(
     0
 }
 
-// The cycles of a run that isn't refused, by either runner. `spared` counts the cycles that took no step of their own.
-fn drive(rom: &[u8], sched: &[u8], s: State, log: &mut [u8], n: u64, skips: bool) -> RunAnswer
-    requires { ⌜ runNumber upd546 (now rom) (now sched) s n ≡ 0 ⌝ }
+// The loop of both runners, from the state s on with its cursor and the tables. `spared` counts the cycles that took no step of
+// their own.
+fn turns(
+    rom: &[u8],
+    sched: &[u8],
+    table: &InstructionTable,
+    positions: &PositionTable,
+    registers: &RegisterTable,
+    s: State,
+    first: Cursor,
+    log: &mut [u8],
+    n: u64,
+    skips: bool,
+) -> RunAnswer
+    requires { ⌜ Set (now rom) (now sched) (now table) (now positions) (now registers) s first n ⌝ }
     ensures { λ r. ⌜ answerOf r (now (log .exit)) ≡ runBy skips (now (rom .entry)) (now (sched .entry)) s (now (log .entry)) n ⌝ }
 {
-    let table = tables::instruction_table();
-    let positions = tables::position_table();
-    let registers = tables::register_table();
     let start = s.cycle.0;
     let given = s.core;
     let mut core = instructions::same(given);
     let mut ram = s.ram;
     let mut ports = s.ports;
-    let mut cursor = schedule::start(sched, start);
+    let mut cursor = first;
     let mut at: usize = 0;
     let mut done: u64 = 0;
     let mut begun: u64 = 0;
@@ -168,7 +179,7 @@ fn drive(rom: &[u8], sched: &[u8], s: State, log: &mut [u8], n: u64, skips: bool
         let j = jump_ahead(
             rom,
             sched,
-            &positions,
+            positions,
             core.flow.pc,
             core.owed,
             core.interrupt,
@@ -180,7 +191,7 @@ fn drive(rom: &[u8], sched: &[u8], s: State, log: &mut [u8], n: u64, skips: bool
         );
         let mut span: u64 = 1;
         if j != 0 {
-            let next = jump::jumped(&positions, &registers, core, j);
+            let next = jump::jumped(positions, registers, core, j);
             core = instructions::same(next);
             begun = begun + j;
             spared = spared + (j - 1);
@@ -189,7 +200,7 @@ fn drive(rom: &[u8], sched: &[u8], s: State, log: &mut [u8], n: u64, skips: bool
             let lines = lines_of(cursor);
             let o = one_cycle(
                 rom,
-                &table,
+                table,
                 core,
                 &mut ram,
                 &mut ports,
@@ -223,6 +234,29 @@ fn drive(rom: &[u8], sched: &[u8], s: State, log: &mut [u8], n: u64, skips: bool
         begun,
         at,
         spared,
+    )
+}
+
+// The cycles of a run that isn't refused, by either runner. The tables are made once in a run.
+fn drive(rom: &[u8], sched: &[u8], s: State, log: &mut [u8], n: u64, skips: bool) -> RunAnswer
+    requires { ⌜ runNumber upd546 (now rom) (now sched) s n ≡ 0 ⌝ }
+    ensures { λ r. ⌜ answerOf r (now (log .exit)) ≡ runBy skips (now (rom .entry)) (now (sched .entry)) s (now (log .entry)) n ⌝ }
+{
+    let table = tables::instruction_table();
+    let positions = tables::position_table();
+    let registers = tables::register_table();
+    let first = schedule::start(sched, s.cycle.0);
+    turns(
+        rom,
+        sched,
+        &table,
+        &positions,
+        &registers,
+        s,
+        first,
+        log,
+        n,
+        skips,
     )
 }
 
