@@ -1,6 +1,6 @@
 -- The loop of both runners: where it stands, a jump, a stop, a cycle that is begun, the finish. Assumes nothing.
 use mathlib.Core.Path.{_≡_, _∙_, refl, sym, ap}
-use mathlib.Core.Logic.{⊎-elim}
+use mathlib.Core.Logic.{inl, inr}
 use Prim.Native.Nat.{_+_, _-_}
 use native.Mathlib.Nat.{add-zero}
 use native.Mathlib.Omega.{arith}
@@ -55,15 +55,17 @@ forward c =
     let more = c .before .before .loop-test .taken in
     let at-sched = c .before .before .before .before .before .before .before .before .before in
     let at-rom = at-sched .before in
-    ⊎-elim
-    (λ w. jumps-forward h more (c .before .jump-ahead .result) (ahead (c .before)) (w .0 .taken)
-    (λ i. omega (arith, at-rom .shared-slice-known .given i)) (λ i. omega (arith, at-sched .shared-slice-known2 .given i)) (w .3)
-    (w .4 ∙ w .2 .ensures ∙ w .1 .ensures) (w .5) (w .6) (w .7) (w .8) (w .9) (w .10))
-    (λ w. cycle-forward h more (sym (w .0 .left) ∙ ahead (c .before)) (w .5 .result) (w .5 .last .1 .1 .1 .0) (w .5 .last .1 .1 .1 .1 .0)
-    (w .5 .last .1 .1 .1 .1 .1 .0) (rw (w .1 .ensures) at (w .5 .ensures)) (λ i. omega (arith, at-rom .shared-slice-known .given i))
-    (λ i. omega (arith, at-sched .shared-slice-known2 .given i)) (w .9 .left) (w .14) (w .15 ∙ w .11 .ensures) (w .16) (w .17) (w .18) (w .19)
-    (w .20) (w .21))
-    (c .if1 .came)
+    elim (c .if1 .came) [
+      | inl w ↦
+          jumps-forward h more (c .before .jump-ahead .result) (ahead (c .before)) (w .0 .taken)
+          (λ i. omega (arith, at-rom .shared-slice-known .given i)) (λ i. omega (arith, at-sched .shared-slice-known2 .given i)) (w .3)
+          (w .4 ∙ w .2 .ensures ∙ w .1 .ensures) (w .5) (w .6) (w .7) (w .8) (w .9) (w .10)
+      | inr w ↦
+          cycle-forward h more (sym (w .0 .left) ∙ ahead (c .before)) (w .5 .result) (w .5 .last .1 .1 .1 .0) (w .5 .last .1 .1 .1 .1 .0)
+          (w .5 .last .1 .1 .1 .1 .1 .0) (rw (w .1 .ensures) at (w .5 .ensures)) (λ i. omega (arith, at-rom .shared-slice-known .given i))
+          (λ i. omega (arith, at-sched .shared-slice-known2 .given i)) (w .9 .left) (w .14) (w .15 ∙ w .11 .ensures) (w .16) (w .17) (w .18) (w .19)
+          (w .20) (w .21)
+    ]
 
 same-requires : tie.Need-same-requires Inv-loop μ-loop
 same-requires c κs = search needs
