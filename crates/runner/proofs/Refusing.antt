@@ -1,23 +1,22 @@
--- What refuses a run, number by number, and what holds where none does. Assumes nothing.
+-- What refuses a run, number by number. Assumes nothing.
 use mathlib.Core.Path.{_≡_, _∙_, refl, sym}
 use mathlib.Core.Bool.{Bool, true, false}
 use mathlib.Core.List.{List}
 use Prim.Native.Nat.{ℕ, zero, suc, _+_, _≤_}
 use lib.Dec.{eqb, leb}
 use lib.ListN.{length}
-use borrow.Author.Tests.{eq-eqb, ne-eqb, eqb-true, leb-true}
+use borrow.Author.Tests.{eq-eqb, ne-eqb}
 use native.Mathlib.Omega.{arith}
 use Rattle.runs.specs.declared.Refusal.{Refusal}
 use Rattle.runs.specs.declared.Refusal.the-variants as why
 use Rattle.runs.specs.Numbers.{refusalNumber}
 use Rattle.runs.specs.TwoRunners.{refused, cycleLimit, firstOf, runNumber, plain, skipping}
-use Rattle.runs.proofs.Refusals.{first-at, passes}
 use Rattle.upd546.specs.declared.State.{State}
 use Rattle.upd546.specs.TheMachine.{romLength}
 use Rattle.upd546.specs.TheLineSchedule.{scheduleNumber}
 use Rattle.upd546.specs.StateImage.{stateNumber}
 use Rattle.upd546.specs.TwoRunners.{panelNumber, upd546}
-use Rattle.runner.specs.Either.{runBy}
+use Rattle.turns.specs.Either.{runBy}
 
 module _ (rom sched : List ℕ) (s : State) (n : ℕ) where
   pub by-rom : (length rom ≡ romLength → ⊥) → 21 ≡ runNumber upd546 rom sched s n
@@ -44,26 +43,6 @@ module _ (rom sched : List ℕ) (s : State) (n : ℕ) where
         pub by-none : leb (s .cycle .0 + n) cycleLimit ≡ true → 0 ≡ runNumber upd546 rom sched s n
         unfolding runNumber panelNumber firstOf
         by-none h = rw (eq-eqb (length rom) romLength r, c, v, h)
-
--- a run that isn't refused
-pub record Taken (rom sched : List ℕ) (s : State) (n : ℕ) : Type 0 where
-  pub panel : panelNumber rom sched ≡ 0
-  pub rom-length : length rom ≡ romLength
-  pub schedule : scheduleNumber sched ≡ 0
-  pub state : stateNumber s ≡ 0
-  pub limit : s .cycle .0 + n ≤ cycleLimit
-
-pub run-taken : (rom sched : List ℕ) (s : State) (n : ℕ) → runNumber upd546 rom sched s n ≡ 0 → Taken rom sched s n
-unfolding runNumber panelNumber
-run-taken rom sched s n e =
-    let panel = first-at _ e 0 in
-    record {
-      panel = panel;
-      rom-length = eqb-true (length rom) romLength (passes (eqb (length rom) romLength) 20 (first-at _ panel 0));
-      schedule = first-at _ panel 1;
-      state = first-at _ e 1;
-      limit = leb-true (s .cycle .0 + n) cycleLimit (passes (leb (s .cycle .0 + n) cycleLimit) 1 (first-at _ e 2));
-    }
 
 -- every refusal has a number
 refusal-some : (w : Refusal) → refusalNumber w ≡ 0 → ⊥

@@ -1,6 +1,6 @@
 -- The tables, the cursor, and the loop. Assumes nothing.
 use denote.Ref.{now}
-use Rattle.runner.proofs.Refusing.{run-taken}
+use Rattle.turns.proofs.Taken.{run-taken}
 use borrow.Author.Needs.{needs}
 use Rattle.runner.proofs.drive.Statement.{statement}
 use Rattle.runner.proofs.drive.Tie as tie
@@ -19,8 +19,8 @@ start-requires c κs =
     let at-entry = c .before .before .before .before .before .before in
     run-taken (now (at-entry .args .rom)) (now (at-entry .args .sched)) (at-entry .args .s) (at-entry .args .n) (at-entry .pre) .schedule
 
-turns-requires : tie.Need-turns-requires
-turns-requires c κs = search needs
+take-requires : tie.Need-take-requires
+take-requires c κs = search needs
 
 same-length : tie.Need-same-length
 same-length c = search needs
@@ -36,6 +36,6 @@ drive-spec =
     position-table-requires
     register-table-requires
     start-requires
-    turns-requires
+    take-requires
     same-length
     returns)

@@ -1,7 +1,7 @@
 -- Clock cycles are four per machine cycle. Assumes nothing.
 use borrow.Author.Needs.{needs}
-use Rattle.runner.proofs.answer.Statement.{statement}
-use Rattle.runner.proofs.answer.Tie as tie
+use Rattle.turns.proofs.answer.Statement.{statement}
+use Rattle.turns.proofs.answer.Tie as tie
 
 clocks-requires : tie.Need-clocks-requires
 clocks-requires c κs = search needs

@@ -1,8 +1,8 @@
 -- Each stop has its number. Assumes nothing.
 use mathlib.Core.Path.{sym}
 use borrow.Author.Needs.{needs}
-use Rattle.runner.proofs.stop_of.Statement.{statement}
-use Rattle.runner.proofs.stop_of.Tie as tie
+use Rattle.turns.proofs.stop_of.Statement.{statement}
+use Rattle.turns.proofs.stop_of.Tie as tie
 
 returns : tie.Need-returns
 returns c = search needs

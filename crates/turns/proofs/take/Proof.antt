@@ -10,13 +10,13 @@ use Rattle.upd546.specs.declared.Core.{Core}
 use Rattle.upd546.specs.declared.State.{State}
 use Rattle.upd546.specs.TwoRunners.{upd546}
 use Rattle.cycle.specs.Landing.{stateOf}
-use Rattle.runner.specs.Either.{runBy, jumpBy}
-use Rattle.runner.proofs.Refusing.{run-taken}
-use Rattle.runner.proofs.Driving.{At, Forward, starts, boundary, ready, jumpable, within-run, jumps-forward, cycle-forward}
-use Rattle.runner.proofs.Driving.{finishes, stops, stop-length, stop-known, counts}
+use Rattle.turns.specs.Either.{runBy, jumpBy}
+use Rattle.turns.proofs.Taken.{run-taken}
+use Rattle.turns.proofs.Turning.{At, Forward, starts, boundary, ready, jumpable, within-run, jumps-forward, cycle-forward}
+use Rattle.turns.proofs.Turning.{finishes, stops, stop-length, stop-known, counts}
 use borrow.Author.Needs.{needs}
-use Rattle.runner.proofs.turns.Statement.{statement}
-use Rattle.runner.proofs.turns.Tie as tie
+use Rattle.turns.proofs.take.Statement.{statement}
+use Rattle.turns.proofs.take.Tie as tie
 
 abbrev Inv-loop : tie.InvT-loop
 Inv-loop rom sched table positions registers log₀ n skips start core₀ ram₀ ports₀ cursor₀ at₀ done₀ begun₀ spared₀ log core ram ports cursor at done begun spared =
@@ -321,8 +321,8 @@ returns-2 c =
     rw (c .answer2 .ensures, at-state-of2 .state-of2 .ensures)
     (finishes (at-loop .loop .inv) (at-loop-test .loop-test .left) ∙ ap (λ (x : State). runBy (a .skips) (now (a .rom)) (now (a .sched)) x (now (a .log)) (a .n)) e)
 
-pub turns-spec : {M : Type 1} → statement M
-turns-spec =
+pub take-spec : {M : Type 1} → statement M
+take-spec =
     tie.close
     (tie.spec
     Inv-loop

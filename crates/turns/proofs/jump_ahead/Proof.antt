@@ -1,8 +1,8 @@
 -- The length of the jump, or none. Assumes nothing.
 use mathlib.Core.Path.{refl}
 use borrow.Author.Needs.{needs}
-use Rattle.runner.proofs.jump_ahead.Statement.{statement}
-use Rattle.runner.proofs.jump_ahead.Tie as tie
+use Rattle.turns.proofs.jump_ahead.Statement.{statement}
+use Rattle.turns.proofs.jump_ahead.Tie as tie
 
 jump-length-requires : tie.Need-jump-length-requires
 jump-length-requires c κs = search needs

@@ -36,8 +36,8 @@ use Rattle.cycle.specs.declared.Stepped.{Stepped}
 use Rattle.cycle.specs.Landing.{Landing, stateOf, landed, landing, Ready}
 use Rattle.jump.specs.Boundary.{Boundary, Jumpable}
 use Rattle.jump.proofs.Lengths.{stands-last}
-use Rattle.runner.specs.Either.{runBy, jumpBy}
-use Rattle.runner.proofs.Refusing.{Taken, run-taken}
+use Rattle.turns.specs.Either.{runBy, jumpBy}
+use Rattle.turns.proofs.Taken.{run-taken}
 
 -- the whole run, of the runner that `skips` chooses
 abbrev whole : Bool → List ℕ → List ℕ → List ℕ → ℕ → State → Steps State

@@ -1,0 +1,211 @@
+// The loop of both runners: cycle after cycle, or a jump, from a state on. The state goes in by value and comes back by value; inside
+// the loop the core is a local and RAM, latches, log and tables are lent.
+// It may not know what a cycle does, only that it lands where its definition says, nor where a jump is taken, nor what refuses a run.
+use cycle::one_cycle;
+use runs::MachineCycles;
+use runs::RunEnd;
+use runs::Stop;
+use schedule::Cursor;
+use tables::InstructionTable;
+use tables::PositionTable;
+use tables::RegisterTable;
+use upd546::Core;
+use upd546::Interrupt;
+use upd546::LATCHES;
+use upd546::Lines;
+use upd546::RAM_WORDS;
+use upd546::RunAnswer;
+use upd546::State;
+use upd546::Timer;
+ghost use mathlib.Core.Path.{_≡_};
+ghost use Prim.Native.Nat.{_-_, _*_, _≤_};
+ghost use Rattle.runs.specs.Numbers.{stopNumber};
+ghost use Rattle.runs.specs.TwoRunners.{cycleLimit};
+ghost use Rattle.upd546.specs.TwoRunners.{answerOf};
+ghost use Rattle.cycle.specs.Landing.{stateOf};
+ghost use Rattle.jump.specs.Boundary.{Boundary};
+ghost use Rattle.laws.proofs.Stops.{StopNumber};
+ghost use Rattle.turns.specs.Either.{Ahead, Set, runBy};
+
+// The stop of a number.
+fn stop_of(k: u8) -> Stop
+    requires { ⌜ ((k ≡ 3 → ⊥) → StopNumber k) ⌝ }
+    ensures { λ r. ⌜ stopNumber r ≡ k ⌝ }
+{
+    match k {
+        3 => Stop::LogFull,
+        22 => Stop::RomEnd,
+        _ => Stop::NoInstruction,
+    }
+}
+
+fn state_of(core: Core, ram: [u8; RAM_WORDS], ports: [u8; LATCHES], n: u64) -> State
+    ensures { λ r. ⌜ r ≡ stateOf core ram ports n ⌝ }
+{
+    State {
+        core,
+        ports,
+        ram,
+        cycle: MachineCycles(n),
+    }
+}
+
+// The lines that the cursor holds, field by field.
+fn lines_of(c: Cursor) -> Lines
+    ensures { λ r. ⌜ r ≡ c .lines ⌝ }
+{
+    Lines {
+        a: c.lines.a,
+        b: c.lines.b,
+        c: c.lines.c,
+        d: c.lines.d,
+        int: c.lines.int,
+    }
+}
+
+// What a run answers that did so many cycles.
+fn answer(
+    end: RunEnd,
+    state: State,
+    done: u64,
+    begun: u64,
+    written: usize,
+    spared: u64,
+) -> RunAnswer
+    requires { ⌜ (done ≤ cycleLimit) × (spared ≤ done) ⌝ }
+    ensures { λ r. ⌜ r ≡ record { end = end; state = state; cycles = record { 0 = done }; clocks = record { 0 = 4 * done }; begun = begun; written = written; steps = done - spared } ⌝ }
+{
+    RunAnswer {
+        end,
+        state,
+        cycles: MachineCycles(done),
+        clocks: runs::clocks(MachineCycles(done)),
+        begun,
+        written,
+        steps: done - spared,
+    }
+}
+
+// The cycles that the next step jumps, or 0: the plain runner never jumps.
+fn jump_ahead(
+    rom: &[u8],
+    sched: &[u8],
+    positions: &PositionTable,
+    pc: u16,
+    owed: u8,
+    interrupt: Interrupt,
+    timer: Timer,
+    cursor: Cursor,
+    number: u64,
+    left: u64,
+    skips: bool,
+) -> u64
+    requires { ⌜ Boundary (now rom) (now sched) (now positions) timer cursor number left ⌝ }
+    ensures { λ r. ⌜ Ahead skips (now (rom .entry)) (now (sched .entry)) pc owed interrupt timer number left r ⌝ }
+{
+    if skips {
+        return jump::jump_length(
+            rom,
+            sched,
+            positions,
+            pc,
+            owed,
+            interrupt,
+            timer,
+            cursor,
+            number,
+            left,
+        );
+    }
+    0
+}
+
+// The loop of both runners, from the state s on with its cursor and the tables. `spared` counts the cycles that took no step of
+// their own.
+pub fn take(
+    rom: &[u8],
+    sched: &[u8],
+    table: &InstructionTable,
+    positions: &PositionTable,
+    registers: &RegisterTable,
+    s: State,
+    first: Cursor,
+    log: &mut [u8],
+    n: u64,
+    skips: bool,
+) -> RunAnswer
+    requires { ⌜ Set (now rom) (now sched) (now table) (now positions) (now registers) s first n ⌝ }
+    ensures { λ r. ⌜ answerOf r (now (log .exit)) ≡ runBy skips (now (rom .entry)) (now (sched .entry)) s (now (log .entry)) n ⌝ }
+{
+    let start = s.cycle.0;
+    let given = s.core;
+    let mut core = instructions::same(given);
+    let mut ram = s.ram;
+    let mut ports = s.ports;
+    let mut cursor = first;
+    let mut at: usize = 0;
+    let mut done: u64 = 0;
+    let mut begun: u64 = 0;
+    let mut spared: u64 = 0;
+    while done < n {
+        let number = start + done;
+        let j = jump_ahead(
+            rom,
+            sched,
+            positions,
+            core.flow.pc,
+            core.owed,
+            core.interrupt,
+            core.timer,
+            cursor,
+            number,
+            n - done,
+            skips,
+        );
+        let mut span: u64 = 1;
+        if j != 0 {
+            let next = jump::jumped(positions, registers, core, j);
+            core = instructions::same(next);
+            begun = begun + j;
+            spared = spared + (j - 1);
+            span = j;
+        } else {
+            let lines = lines_of(cursor);
+            let o = one_cycle(
+                rom,
+                table,
+                core,
+                &mut ram,
+                &mut ports,
+                &mut log[at..],
+                lines,
+                number,
+            );
+            if o.stop != 0 {
+                let stop = RunEnd::Stopped(stop_of(o.stop));
+                return answer(
+                    stop,
+                    state_of(core, ram, ports, number),
+                    done,
+                    begun,
+                    at,
+                    spared,
+                );
+            }
+            let next = o.core;
+            core = instructions::same(next);
+            at = at + o.bytes;
+            begun = begun + o.begun;
+        }
+        cursor = schedule::moved(sched, cursor, number + (span - 1));
+        done = done + span;
+    }
+    answer(
+        RunEnd::Finished,
+        state_of(core, ram, ports, start + done),
+        done,
+        begun,
+        at,
+        spared,
+    )
+}
