@@ -79,3 +79,20 @@ fn forward(
         Runner::Skipping => told(run_skipping(rom, sched, s, log, n)),
     }
 }
+
+// A run of n cycles by this runner brings the lent machine forward; a refused one leaves it as it was.
+pub fn drive(
+    machine: &mut Machine,
+    kind: Runner,
+    rom: &[u8],
+    sched: &[u8],
+    log: &mut [u8],
+    n: MachineCycles,
+) -> Report
+    ensures { λ r. ⌜ broughtTo r (now (machine .exit)) (now (log .exit)) ≡ runAnswer upd546 (kindOf kind) (now (rom .entry)) (now (sched .entry)) (now (machine .entry) .state) (now (log .entry)) (n .0) ⌝ }
+{
+    let m = *machine;
+    let a = forward(m, kind, rom, sched, log, n);
+    *machine = a.machine;
+    a.report
+}
