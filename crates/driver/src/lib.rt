@@ -96,3 +96,23 @@ pub fn drive(
     *machine = a.machine;
     a.report
 }
+
+// A machine that is kept in a local and lent for the run. Its parameters are plain, so whoever calls it needs no walk.
+pub fn driven(
+    start: Machine,
+    kind: Runner,
+    rom: &[u8],
+    sched: &[u8],
+    log: &mut [u8],
+    n: MachineCycles,
+) -> DriveAnswer
+    ensures { λ r. ⌜ broughtTo (r .report) (r .machine) (now (log .exit)) ≡ runAnswer upd546 (kindOf kind) (now (rom .entry)) (now (sched .entry)) (start .state) (now (log .entry)) (n .0) ⌝ }
+{
+    let mut kept = start;
+    let report = drive(&mut kept, kind, rom, sched, log, n);
+    let machine = kept;
+    DriveAnswer {
+        machine: machine,
+        report: report,
+    }
+}
