@@ -1,6 +1,7 @@
 -- "The board's driver keeps one machine and lends it for a run, which brings it forward": which run, and what it answers.
 -- Assumes nothing: these are definitions.
 use Prim.Native.Nat.{ℕ}
+use mathlib.Core.Path.{_≡_}
 use mathlib.Core.List.{List}
 use Rattle.runs.specs.TwoRunners.{RunAnswer}
 use Rattle.runs.specs.Numbers.{endOf}
@@ -28,3 +29,13 @@ broughtTo r m log = record {
   steps = r .steps;
   log = log;
 }
+
+-- "These change nothing, with all counts 0": the machine and the log after a refused run, and its report.
+pub record AsItWas (r : Report) (m m′ : Machine) (log log′ : List ℕ) : Type 0 where
+  pub machine-kept : m′ ≡ m
+  pub log-kept : log′ ≡ log
+  pub no-cycles : r .cycles .0 ≡ 0
+  pub no-clocks : r .clocks .0 ≡ 0
+  pub none-begun : r .begun ≡ 0
+  pub none-written : r .written ≡ 0
+  pub no-steps : r .steps ≡ 0
