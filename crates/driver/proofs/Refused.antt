@@ -1,0 +1,71 @@
+-- What `drive` and `driven` ensure, where the run is refused: the machine and the log are as they were. Assumes nothing.
+use mathlib.Core.Path.{_≡_, _∙_, refl, sym, ap, subst}
+use mathlib.Core.List.{List}
+use Prim.Native.Nat.{ℕ, zero, suc}
+use Rattle.runs.specs.declared.Refusal.{Refusal}
+use Rattle.runs.specs.declared.Refusal.the-variants as why
+use Rattle.runs.specs.declared.RunEnd.{RunEnd}
+use Rattle.runs.specs.declared.RunEnd.the-variants.{Refused}
+use Rattle.runs.specs.Numbers.{refusalNumber, endOf}
+use Rattle.runs.specs.TwoRunners.{RunAnswer, End, refused, runNumber}
+use Rattle.runs.specs.Lists.{Kind, run, runAnswer, refusal, refusalOf, ChangesNothing}
+use Rattle.runs.proofs.Calls.{by-number, changes-nothing}
+use Rattle.upd546.specs.declared.State.{State}
+use Rattle.upd546.specs.TwoRunners.{upd546}
+use Rattle.driver.specs.declared.Machine.{Machine}
+use Rattle.driver.specs.declared.Report.{Report}
+use Rattle.driver.specs.Lending.{broughtTo, AsItWas}
+
+-- a refusal's number isn't 0
+numbered : (y : Refusal) → (k : ℕ) × (refusalNumber y ≡ suc k)
+numbered why.BufferShort = (0, refl)
+numbered why.CycleLimit = (1, refl)
+numbered why.ScheduleLength = (10, refl)
+numbered why.ScheduleLong = (11, refl)
+numbered why.RecordBytes = (12, refl)
+numbered why.RecordOrder = (13, refl)
+numbered why.RomLength = (20, refl)
+numbered why.ImageLength = (30, refl)
+numbered why.ImageMark = (31, refl)
+numbered why.ImageVersion = (32, refl)
+numbered why.Field = (33, refl)
+
+module _ (kind : Kind) (rom sched : List ℕ) (m : Machine) (log : List ℕ) (n : ℕ) where
+  -- what a refused run answers, with this number
+  abbrev nothing : ℕ → RunAnswer State
+  nothing k =
+      record { end = refused k; state = m .state; cycles = 0; clocks = 0; begun = 0; written = 0; steps = 0; log = log }
+
+  answers-nothing : (k : ℕ) → refusal upd546 (run kind rom sched (m .state) log n) ≡ suc k
+      → runAnswer upd546 kind rom sched (m .state) log n ≡ nothing (suc k)
+  answers-nothing k e =
+      subst (λ (j : ℕ). ChangesNothing upd546 j (run kind rom sched (m .state) log n)) e
+      (changes-nothing upd546 (run kind rom sched (m .state) log n))
+
+  module _ (r : Report) (m′ : Machine) (log′ : List ℕ) (e : broughtTo r m′ log′ ≡ runAnswer upd546 kind rom sched (m .state) log n) where
+    as-it-was : (k : ℕ) → broughtTo r m′ log′ ≡ nothing k → AsItWas r m m′ log log′
+    as-it-was k a = record {
+      machine-kept = λ i. record { state = a i .state };
+      log-kept = ap (λ (z : RunAnswer State). z .log) a;
+      no-cycles = ap (λ (z : RunAnswer State). z .cycles) a;
+      no-clocks = ap (λ (z : RunAnswer State). z .clocks) a;
+      none-begun = ap (λ (z : RunAnswer State). z .begun) a;
+      none-written = ap (λ (z : RunAnswer State). z .written) a;
+      no-steps = ap (λ (z : RunAnswer State). z .steps) a;
+    }
+
+    -- A report of a refusal: the machine and the log are as they were.
+    pub refused-as-it-was : (y : Refusal) → r .end ≡ Refused y → AsItWas r m m′ log log′
+    refused-as-it-was y end =
+        let number : refusal upd546 (run kind rom sched (m .state) log n) ≡ refusalNumber y =
+        sym (ap (λ (z : RunAnswer State). refusalOf (z .end)) e) ∙ ap (λ (z : RunEnd). refusalOf (endOf z)) end in
+        let k = numbered y in
+        as-it-was (suc (k .0)) (e ∙ answers-nothing (k .0) (number ∙ k .1))
+
+    -- A run that the documents refuse: that is what the report says, with their number, and nothing is changed.
+    pub numbered-as-it-was : (k : ℕ) → runNumber upd546 rom sched (m .state) n ≡ suc k
+        → (endOf (r .end) ≡ refused (suc k)) × AsItWas r m m′ log log′
+    numbered-as-it-was k number =
+        let a : broughtTo r m′ log′ ≡ nothing (suc k) =
+        e ∙ answers-nothing k (by-number upd546 (run kind rom sched (m .state) log n) ∙ number) in
+        (ap (λ (z : RunAnswer State). z .end) a, as-it-was (suc k) a)

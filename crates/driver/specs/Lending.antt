@@ -1,0 +1,41 @@
+-- "The board's driver keeps one machine and lends it for a run, which brings it forward": which run, and what it answers.
+-- Assumes nothing: these are definitions.
+use Prim.Native.Nat.{ℕ}
+use mathlib.Core.Path.{_≡_}
+use mathlib.Core.List.{List}
+use Rattle.runs.specs.TwoRunners.{RunAnswer}
+use Rattle.runs.specs.Numbers.{endOf}
+use Rattle.runs.specs.Lists.{Kind, plainOne, skippingOne}
+use Rattle.upd546.specs.declared.State.{State}
+use Rattle.driver.specs.declared.Machine.{Machine}
+use Rattle.driver.specs.declared.Report.{Report}
+use Rattle.driver.specs.declared.Runner.{Runner}
+use Rattle.driver.specs.declared.Runner.the-variants.{Plain, Skipping}
+
+-- "by the plain or the timer-skipping runner"
+abbrev pub kindOf : Runner → Kind
+kindOf Plain = plainOne
+kindOf Skipping = skippingOne
+
+-- A run's report, with the machine and the lent log as they stand when the run returns, in the terms of the definitions.
+abbrev pub broughtTo : Report → Machine → List ℕ → RunAnswer State
+broughtTo r m log = record {
+  end = endOf (r .end);
+  state = m .state;
+  cycles = r .cycles .0;
+  clocks = r .clocks .0;
+  begun = r .begun;
+  written = r .written;
+  steps = r .steps;
+  log = log;
+}
+
+-- "These change nothing, with all counts 0": the machine and the log after a refused run, and its report.
+pub record AsItWas (r : Report) (m m′ : Machine) (log log′ : List ℕ) : Type 0 where
+  pub machine-kept : m′ ≡ m
+  pub log-kept : log′ ≡ log
+  pub no-cycles : r .cycles .0 ≡ 0
+  pub no-clocks : r .clocks .0 ≡ 0
+  pub none-begun : r .begun ≡ 0
+  pub none-written : r .written ≡ 0
+  pub no-steps : r .steps ≡ 0

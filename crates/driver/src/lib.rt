@@ -1,0 +1,118 @@
+// The board's driver: the board keeps one machine and lends it for a run, which brings it forward.
+// It may not know how a run goes, only what its runner answers.
+use runner::run_plain;
+use runner::run_skipping;
+use runs::ClockCycles;
+use runs::MachineCycles;
+use runs::RunEnd;
+use upd546::RunAnswer;
+use upd546::State;
+ghost use mathlib.Core.Path.{_≡_};
+ghost use mathlib.Core.List.{List};
+ghost use Prim.Native.Nat.{ℕ};
+ghost use Rattle.runs.specs.Lists.{runAnswer};
+ghost use Rattle.upd546.specs.TwoRunners.{upd546, answerOf};
+ghost use Rattle.driver.specs.Lending.{kindOf, broughtTo};
+
+// The machine that the board keeps.
+pub struct Machine {
+    pub state: State,
+}
+
+// Which of the two runners a run goes by.
+pub enum Runner {
+    Plain,
+    Skipping,
+}
+
+// What a run answers besides the state. The log that it was lent holds `written` bytes of records.
+pub struct Report {
+    pub end: RunEnd,
+    pub cycles: MachineCycles,
+    pub clocks: ClockCycles,
+    pub begun: u64,
+    pub written: usize,
+    pub steps: u64,
+}
+
+// The machine after a run, and the run's report.
+pub struct DriveAnswer {
+    pub machine: Machine,
+    pub report: Report,
+}
+
+// The state that a run answers is the machine's, and the rest is its report.
+fn told(a: RunAnswer) -> DriveAnswer
+    ensures { λ r. ⌜ ((log : List ℕ) → broughtTo (r .report) (r .machine) log ≡ answerOf a log) ⌝ }
+{
+    let state = a.state;
+    let end = a.end;
+    let cycles = a.cycles;
+    let clocks = a.clocks;
+    DriveAnswer {
+        machine: Machine { state },
+        report: Report {
+            end,
+            cycles,
+            clocks,
+            begun: a.begun,
+            written: a.written,
+            steps: a.steps,
+        },
+    }
+}
+
+// A run of n cycles by this runner, with the machine by value and back.
+fn forward(
+    machine: Machine,
+    kind: Runner,
+    rom: &[u8],
+    sched: &[u8],
+    log: &mut [u8],
+    n: MachineCycles,
+) -> DriveAnswer
+    ensures { λ r. ⌜ broughtTo (r .report) (r .machine) (now (log .exit)) ≡ runAnswer upd546 (kindOf kind) (now (rom .entry)) (now (sched .entry)) (machine .state) (now (log .entry)) (n .0) ⌝ }
+{
+    let s = machine.state;
+    match kind {
+        Runner::Plain => told(run_plain(rom, sched, s, log, n)),
+        Runner::Skipping => told(run_skipping(rom, sched, s, log, n)),
+    }
+}
+
+// A run of n cycles by this runner brings the lent machine forward; a refused one leaves it as it was.
+pub fn drive(
+    machine: &mut Machine,
+    kind: Runner,
+    rom: &[u8],
+    sched: &[u8],
+    log: &mut [u8],
+    n: MachineCycles,
+) -> Report
+    ensures { λ r. ⌜ broughtTo r (now (machine .exit)) (now (log .exit)) ≡ runAnswer upd546 (kindOf kind) (now (rom .entry)) (now (sched .entry)) (now (machine .entry) .state) (now (log .entry)) (n .0) ⌝ }
+{
+    let m = *machine;
+    let a = forward(m, kind, rom, sched, log, n);
+    *machine = a.machine;
+    a.report
+}
+
+// A machine that is kept in a local and lent for the run. Its parameters are plain, so whoever calls it needs no walk.
+pub fn driven(
+    start: Machine,
+    kind: Runner,
+    rom: &[u8],
+    sched: &[u8],
+    log: &mut [u8],
+    n: MachineCycles,
+) -> DriveAnswer
+    ensures { λ r. ⌜ broughtTo (r .report) (r .machine) (now (log .exit)) ≡ runAnswer upd546 (kindOf kind) (now (rom .entry)) (now (sched .entry)) (start .state) (now (log .entry)) (n .0) ⌝ }
+{
+    let mut kept = start;
+    let report = drive(&mut kept, kind, rom, sched, log, n);
+    let machine = kept;
+    DriveAnswer {
+        machine: machine,
+        report: report,
+    }
+}
