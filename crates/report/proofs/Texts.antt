@@ -1,9 +1,9 @@
 -- Which text a run and an input have. Assumes nothing.
 use mathlib.Core.Path.{_≡_, _∙_, refl, sym, ap}
 use mathlib.Core.List.{List, [], _∷_, _++_}
-use Prim.Native.Nat.{ℕ, _+_, _<_, _≤_, min}
+use Prim.Native.Nat.{ℕ, _+_, _<_, _≤_}
 use native.Mathlib.Omega.{arith}
-use lib.ListN.{length, getD, take, drop, replicate, length-take}
+use lib.ListN.{length, getD, take, drop, replicate}
 use borrow.Author.Tests.{lt-ltb, le-ltb}
 use Rattle.runs.specs.declared.Stop.{Stop}
 use Rattle.runs.specs.declared.Refusal.{Refusal}
@@ -19,7 +19,8 @@ use Rattle.upd546.specs.TwoRunners.{upd546, answerOf}
 use Rattle.upd546.specs.Reports.{refusedText, reportText, onEnd, traceLog, traceText}
 use Rattle.io.specs.Counts.{Counts}
 use Rattle.report.specs.Writing.{Appended}
-use Rattle.report.specs.Records.{runText}
+use Rattle.report.specs.Records.{runText, Traced}
+use Rattle.report.proofs.Writing.{front, kept-length}
 
 -- HOW A RUN ENDED
 
@@ -65,7 +66,10 @@ module _ (input : List ℕ) where
 
 -- A TEXT AT THE FRONT OF A BUFFER
 
-pub counted : {b b₁ w : List ℕ} {r : ℕ} → Appended b 0 w b₁ r → Counts r b₁
+counted : {b b₁ w : List ℕ} {r : ℕ} → Appended b 0 w b₁ r → Counts r b₁
 counted {b} {b₁} {w} {r} p =
-    let whole : length (take r b₁) ≡ length w = ap length (p .stands) in
-    (omega (arith, whole, length-take r b₁, p .ends), omega (arith, whole, p .ends))
+    let whole : length (take r b₁) ≡ length w = ap length (front p) in
+    (omega (arith, kept-length p, p .fits), omega (arith, whole, p .ends))
+
+pub traced : {input b b₁ : List ℕ} {r : ℕ} → Appended b 0 (traceText input) b₁ r → Traced input b b₁ r
+traced p = record { counts = counted p; size = omega (arith, p .ends); text = p .stands }

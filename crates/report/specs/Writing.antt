@@ -1,14 +1,15 @@
 -- Text written into a buffer, piece behind piece. Assumes nothing: these are definitions.
 use mathlib.Core.Path.{_≡_}
 use mathlib.Core.List.{List, _++_}
-use Prim.Native.Nat.{ℕ, _+_}
-use lib.ListN.{length, take}
+use Prim.Native.Nat.{ℕ, _+_, _≤_}
+use lib.ListN.{length, take, drop}
 use Rattle.upd546.specs.Reports.{decimal, space, newline, endWord}
 
--- the text w was written into a buffer at a place, and r is the place behind it; what stood before the place stands there still
+-- the text w was written into a buffer at a place, and r is the place behind it; all else in the buffer is as before
 pub record Appended (before : List ℕ) (at : ℕ) (w after : List ℕ) (r : ℕ) : Type 0 where
   pub ends : r ≡ at + length w
-  pub stands : take r after ≡ take at before ++ w
+  pub fits : r ≤ length before
+  pub stands : after ≡ take at before ++ w ++ drop r before
 
 -- every text fits so many bytes: 2,048 lines of at most 25 bytes each, a heading of 17, and an end of at most 67
 abbrev pub textLength : ℕ

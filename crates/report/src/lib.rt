@@ -14,10 +14,9 @@ ghost use Rattle.upd546.specs.TheMachine.{romLength, fresh, entries};
 ghost use Rattle.upd546.specs.Bytes.{numberOf};
 ghost use Rattle.upd546.specs.Ports.{portI};
 ghost use Rattle.upd546.specs.TwoRunners.{upd546, answerOf};
-ghost use Rattle.upd546.specs.Reports.{decimal, portLetter, hexDigit, recordLine, recordLines, refusedText, reportText, onEnd, traceLog, traceText};
+ghost use Rattle.upd546.specs.Reports.{decimal, portLetter, hexDigit, recordLine, recordLines, refusedText, reportText, onEnd, traceLog};
 ghost use Rattle.report.specs.Writing.{Appended, endLine, textLength};
-ghost use Rattle.report.specs.Records.{Legible, Recorded, Reportable, recordCycle, runText};
-ghost use Rattle.io.specs.Counts.{Counts};
+ghost use Rattle.report.specs.Records.{Legible, Recorded, Reportable, recordCycle, runText, Traced};
 
 // "n (4 bytes, big-endian)"
 const COUNT_LENGTH: usize = 4;
@@ -217,7 +216,7 @@ fn empty_log() -> [u8; LOG_LENGTH]
 
 // THE TEXT OF PROGRAM `trace` for its input, at the front of a buffer: its length.
 pub fn trace(input: &[u8], out: &mut [u8; TEXT_LENGTH]) -> usize
-    ensures { λ r. ⌜ Counts r (now (out .exit)) × (take r (now (out .exit)) ≡ traceText (now (input .entry))) ⌝ }
+    ensures { λ r. ⌜ Traced (now (input .entry)) (now (out .entry)) (now (out .exit)) r ⌝ }
 {
     if input.len() < SCHEDULE_AT {
         return put_refused(out, 21);

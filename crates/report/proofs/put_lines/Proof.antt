@@ -20,7 +20,7 @@ abbrev μ-loop : tie.MeasureT-loop
 loop-holds : tie.Need-loop-holds Inv-loop μ-loop
 loop-holds c =
     let a = c .before .before .args in
-    (omega arith, told (no-lines (now (a .log))) (none (a .at) (now (a .out))), omega arith, refl)
+    (omega arith, told (no-lines (now (a .log))) (none (a .at) (now (a .out)) (omega arith)), omega arith, refl)
 
 put-line-requires : tie.Need-put-line-requires Inv-loop μ-loop
 put-line-requires c κs =

@@ -1,8 +1,9 @@
 -- An input that is too short, and one that is split and run. Assumes nothing.
-use mathlib.Core.Path.{_∙_, refl}
+use mathlib.Core.Path.{refl}
 use denote.Ref.{now}
 use Rattle.laws.proofs.Tails.{mid-tail}
-use Rattle.report.proofs.Texts.{counted, short-text, long-text}
+use Rattle.report.proofs.Writing.{told}
+use Rattle.report.proofs.Texts.{traced, short-text, long-text}
 use borrow.Author.Needs.{needs}
 use Rattle.report.proofs.trace.Statement.{statement}
 use Rattle.report.proofs.trace.Tie as tie
@@ -14,7 +15,7 @@ returns : tie.Need-returns
 returns c =
     let refused = c .put-refused .ensures in
     let input = now (c .before .before .before .before .args .input) in
-    (counted refused, refused .stands ∙ short-text input (c .before .before .if1 .taken))
+    traced (told (short-text input (c .before .before .if1 .taken)) refused)
 
 count-of-requires : tie.Need-count-of-requires
 count-of-requires c κs = search needs
@@ -53,7 +54,8 @@ returns-2 c =
     let at-count = at-log .before in
     let at-if1 = at-count .before in
     let input = now (at-if1 .before .before .args .input) in
-    (counted ran, ran .stands ∙ long-text input (at-if1 .if1 .left) refl (mid-tail 2004 input) (at-log .empty-log .ensures .0) (at-count .count-of .ensures))
+    let same = long-text input (at-if1 .if1 .left) refl (mid-tail 2004 input) (at-log .empty-log .ensures .0) (at-count .count-of .ensures) in
+    traced (told same ran)
 
 pub trace-spec : {M : Type 1} → statement M
 trace-spec =
