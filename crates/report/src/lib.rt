@@ -1,0 +1,233 @@
+// The report of a panel: the input of program `trace` split into n, ROM and schedule, a fresh state run on the plain runner, and
+// the text of what it answers. It may not know how a run goes, nor where input comes from and text goes to.
+use runs::MachineCycles;
+use runs::RunEnd;
+use upd546::ROM_LENGTH;
+use upd546::RunAnswer;
+ghost use mathlib.Core.Path.{_≡_};
+ghost use mathlib.Core.List.{_∷_, [], _++_};
+ghost use Prim.Native.Nat.{_+_, _*_, _/_, _<_, _≤_};
+ghost use lib.ListN.{length, getD, take, drop, replicate};
+ghost use Rattle.runs.specs.Numbers.{endOf};
+ghost use Rattle.runs.specs.TwoRunners.{plain};
+ghost use Rattle.upd546.specs.TheMachine.{romLength, fresh, entries};
+ghost use Rattle.upd546.specs.Bytes.{numberOf};
+ghost use Rattle.upd546.specs.Ports.{portI};
+ghost use Rattle.upd546.specs.TwoRunners.{upd546, answerOf};
+ghost use Rattle.upd546.specs.Reports.{decimal, portLetter, hexDigit, recordLine, recordLines, refusedText, reportText, onEnd, traceLog};
+ghost use Rattle.report.specs.Writing.{Appended, endLine, textLength};
+ghost use Rattle.report.specs.Records.{Legible, Recorded, Reportable, recordCycle, runText, Traced};
+
+// "n (4 bytes, big-endian)"
+const COUNT_LENGTH: usize = 4;
+
+// "under 2,004 bytes being 21"
+const SCHEDULE_AT: usize = COUNT_LENGTH + ROM_LENGTH;
+
+// "a log of 16,384 bytes"
+const LOG_LENGTH: usize = 16384;
+
+const RECORD_LENGTH: usize = 8;
+
+// A number of 64 bits has at most 20 digits.
+const DIGITS: usize = 20;
+
+// Every text fits this many bytes: 2,048 lines of at most 25 bytes, and the two others.
+pub const TEXT_LENGTH: usize = 65536;
+
+// Copies bytes to a place of the text, and answers the place behind them.
+fn put(out: &mut [u8], at: usize, bytes: &[u8]) -> usize
+    requires { ⌜ at + length (now bytes) ≤ length (now out) ⌝ }
+    ensures { λ r. ⌜ Appended (now (out .entry)) at (now (bytes .entry)) (now (out .exit)) r ⌝ }
+{
+    bytes::copy(bytes, &mut out[at..]);
+    at + bytes.len()
+}
+
+fn put_byte(out: &mut [u8], at: usize, byte: u8) -> usize
+    requires { ⌜ at < length (now out) ⌝ }
+    ensures { λ r. ⌜ Appended (now (out .entry)) at (byte ∷ []) (now (out .exit)) r ⌝ }
+{
+    out[at] = byte;
+    at + 1
+}
+
+fn put_decimal(out: &mut [u8], at: usize, n: u64) -> usize
+    requires { ⌜ at + 20 ≤ length (now out) ⌝ }
+    ensures { λ r. ⌜ Appended (now (out .entry)) at (decimal n) (now (out .exit)) r × (r ≤ at + 20) ⌝ }
+{
+    let mut digits = [0u8; DIGITS];
+    let k = io::decimal(n, &mut digits);
+    put(out, at, &digits[..k])
+}
+
+fn port_letter(port: u8) -> u8
+    requires { ⌜ port ≤ portI ⌝ }
+    ensures { λ r. ⌜ r ≡ portLetter port ⌝ }
+{
+    b'A' + port
+}
+
+fn hex_digit(value: u8) -> u8
+    requires { ⌜ value < 16 ⌝ }
+    ensures { λ r. ⌜ r ≡ hexDigit value ⌝ }
+{
+    if value < 10 {
+        return b'0' + value;
+    }
+    b'A' + (value - 10)
+}
+
+// A byte of a log as a u64.
+fn wide_at(log: &[u8], at: usize) -> u64
+    requires { ⌜ at < length (now log) ⌝ }
+    ensures { λ r. ⌜ (r ≡ getD (now (log .entry)) at 0) × (r < 256) ⌝ }
+{
+    log[at] as u64
+}
+
+// The cycle of the record that begins at a place of a log.
+fn cycle_at(log: &[u8], at: usize) -> u64
+    requires { ⌜ at + 8 ≤ length (now log) ⌝ }
+    ensures { λ r. ⌜ r ≡ recordCycle (now (log .entry)) at ⌝ }
+{
+    let b0 = wide_at(log, at);
+    let b1 = wide_at(log, at + 1);
+    let b2 = wide_at(log, at + 2);
+    let b3 = wide_at(log, at + 3);
+    let b4 = wide_at(log, at + 4);
+    let b5 = wide_at(log, at + 5);
+    ((((b0 * 256 + b1) * 256 + b2) * 256 + b3) * 256 + b4) * 256 + b5
+}
+
+// A number and one byte behind it.
+fn put_number(out: &mut [u8], at: usize, n: u64, after: u8) -> usize
+    requires { ⌜ at + 21 ≤ length (now out) ⌝ }
+    ensures { λ r. ⌜ Appended (now (out .entry)) at (decimal n ++ (after ∷ [])) (now (out .exit)) r × (r ≤ at + 21) ⌝ }
+{
+    let to = put_decimal(out, at, n);
+    put_byte(out, to, after)
+}
+
+// The line of record i of a log.
+fn put_line(out: &mut [u8], at: usize, log: &[u8], i: usize) -> usize
+    requires { ⌜ (at + 25 ≤ length (now out)) × (8 * i + 8 ≤ length (now log)) × Legible (now log) (i + 1) ⌝ }
+    ensures { λ r. ⌜ Appended (now (out .entry)) at (recordLine (now (log .entry)) i) (now (out .exit)) r × (r ≤ at + 25) ⌝ }
+{
+    let from = RECORD_LENGTH * i;
+    let letter = port_letter(log[from + 6]);
+    let digit = hex_digit(log[from + 7]);
+    let to = put_number(out, at, cycle_at(log, from), b' ');
+    put(out, to, &[letter, b' ', digit, b'\n'])
+}
+
+// The lines of the first records of a log.
+fn put_lines(out: &mut [u8], at: usize, log: &[u8], count: usize) -> usize
+    requires { ⌜ (at + 25 * count ≤ length (now out)) × (8 * count ≤ length (now log)) × Legible (now log) count ⌝ }
+    ensures { λ r. ⌜ Appended (now (out .entry)) at (recordLines (now (log .entry)) count) (now (out .exit)) r × (r ≤ at + 25 * count) ⌝ }
+{
+    let mut to = at;
+    let mut i = 0;
+    while i < count {
+        to = put_line(out, to, log, i);
+        i += 1;
+    }
+    to
+}
+
+// "A refusal prints only `refused` and the number."
+fn put_refused(out: &mut [u8], number: u8) -> usize
+    requires { ⌜ 29 ≤ length (now out) ⌝ }
+    ensures { λ r. ⌜ Appended (now (out .entry)) 0 (refusedText number) (now (out .exit)) r ⌝ }
+{
+    let to = put(out, 0, b"refused ");
+    put_number(out, to, number as u64, b'\n')
+}
+
+// "then cycles, instructions, stop (0 if finished)"
+fn put_end(out: &mut [u8], at: usize, cycles: u64, begun: u64, number: u8) -> usize
+    requires { ⌜ at + 67 ≤ length (now out) ⌝ }
+    ensures { λ r. ⌜ Appended (now (out .entry)) at (endLine cycles begun number) (now (out .exit)) r ⌝ }
+{
+    let words = put(out, at, b"end ");
+    let counted = put_number(out, words, cycles, b' ');
+    let told = put_number(out, counted, begun, b' ');
+    put_number(out, told, number as u64, b'\n')
+}
+
+// The text of a run that isn't refused.
+fn put_report(out: &mut [u8], answer: RunAnswer, log: &[u8], number: u8) -> usize
+    requires { ⌜ Reportable answer (now log) (now out) ⌝ }
+    ensures { λ r. ⌜ Appended (now (out .entry)) 0 (reportText (answerOf answer (now (log .entry))) number) (now (out .exit)) r ⌝ }
+{
+    let headed = put(out, 0, b"cycle port value\n");
+    let listed = put_lines(out, headed, log, answer.written / RECORD_LENGTH);
+    put_end(out, listed, answer.cycles.0, answer.begun, number)
+}
+
+// The text of a run.
+fn put_answer(out: &mut [u8], answer: RunAnswer, log: &[u8]) -> usize
+    requires { ⌜ Reportable answer (now log) (now out) ⌝ }
+    ensures { λ r. ⌜ Appended (now (out .entry)) 0 (onEnd (endOf (answer .end)) (answerOf answer (now (log .entry)))) (now (out .exit)) r ⌝ }
+{
+    let end = answer.end;
+    match end {
+        RunEnd::Finished => put_report(out, answer, log, 0),
+        RunEnd::Stopped(why) => put_report(out, answer, log, runs::stop_number(why)),
+        RunEnd::Refused(why) => put_refused(out, runs::refusal_number(why)),
+    }
+}
+
+// "runs a fresh state on the plain runner"
+fn run_fresh(rom: &[u8], sched: &[u8], log: &mut [u8], n: u64) -> RunAnswer
+    ensures { λ r. ⌜ (answerOf r (now (log .exit)) ≡ plain upd546 (now (rom .entry)) (now (sched .entry)) fresh (now (log .entry)) n) × Recorded (r .written) (now (log .exit)) ⌝ }
+{
+    let state = upd546::fresh_state();
+    runner::run_plain(rom, sched, state, log, MachineCycles(n))
+}
+
+// The text of n cycles of a panel, on a log of 16,384 bytes.
+fn put_run(out: &mut [u8], rom: &[u8], sched: &[u8], log: &mut [u8], n: u64) -> usize
+    requires { ⌜ (length (now log) ≡ traceLog) × (textLength ≤ length (now out)) ⌝ }
+    ensures { λ r. ⌜ Appended (now (out .entry)) 0 (runText (now (rom .entry)) (now (sched .entry)) (now (log .entry)) n) (now (out .exit)) r ⌝ }
+{
+    let answer = run_fresh(rom, sched, log, n);
+    put_answer(out, answer, log)
+}
+
+// n, the first 4 bytes.
+fn count_of(input: &[u8]) -> u64
+    requires { ⌜ 4 ≤ length (now input) ⌝ }
+    ensures { λ r. ⌜ r ≡ numberOf (take 4 (now (input .entry))) ⌝ }
+{
+    let b0 = wide_at(input, 0);
+    let b1 = wide_at(input, 1);
+    let b2 = wide_at(input, 2);
+    let b3 = wide_at(input, 3);
+    ((b0 * 256 + b1) * 256 + b2) * 256 + b3
+}
+
+// "a log of 16,384 bytes"; the length is what lending it as a slice asks.
+fn empty_log() -> [u8; LOG_LENGTH]
+    ensures { λ r. ⌜ (r ≡ replicate traceLog 0) × (traceLog ≡ length r) ⌝ }
+{
+    [0; LOG_LENGTH]
+}
+
+// THE TEXT OF PROGRAM `trace` for its input, at the front of a buffer: its length.
+pub fn trace(input: &[u8], out: &mut [u8; TEXT_LENGTH]) -> usize
+    ensures { λ r. ⌜ Traced (now (input .entry)) (now (out .entry)) (now (out .exit)) r ⌝ }
+{
+    if input.len() < SCHEDULE_AT {
+        return put_refused(out, 21);
+    }
+    let n = count_of(input);
+    let mut log = empty_log();
+    put_run(
+        out,
+        &input[COUNT_LENGTH..SCHEDULE_AT],
+        &input[SCHEDULE_AT..],
+        &mut log,
+        n,
+    )
+}
