@@ -1,5 +1,5 @@
-// How another crate uses the libraries: a panel runs for three cycles, is kept as bytes, and goes on from them after a switch-off.
-// It prints the port log as it grows. The ROM is document 01's example: OCD A5, LI 3, OE, and then a code that is none.
+// How another crate uses the libraries: a panel runs for three cycles, is kept as bytes, and goes on from them after a switch-off;
+// then the bytes are damaged. It prints the port log as it grows. The ROM is document 01's example: OCD A5, LI 3, OE, and then a code that is none.
 use libc::STDOUT_FILENO;
 use runs::MachineCycles;
 use runs::Outcome;
@@ -21,6 +21,8 @@ fn main() {
     let mut image = [0u8; IMAGE_LENGTH];
     evening(&rom, &mut image);
     morning(&rom, &image);
+    image[13] = 0x80;
+    damaged(&image);
 }
 
 // Three cycles from the fresh state, and a save.
@@ -37,6 +39,13 @@ fn morning(rom: &[u8], image: &[u8]) {
     let state = answer.state;
     told(b"restored ", outcome);
     run(rom, state, 7);
+}
+
+// DP has 7 bits, so the image is refused with 34. The answer's state is the fresh one.
+fn damaged(image: &[u8]) {
+    let answer = image::restore(image);
+    let outcome = answer.outcome;
+    told(b"damaged ", outcome);
 }
 
 fn run(rom: &[u8], state: State, n: u64) -> State {
