@@ -25,6 +25,7 @@ fn waits() -> Vec<Case> {
             .rom(0, &[0x14, 0x80, 0x05, 0xC2, 0x0D, 0x00, 0x44, 0xC0])
             .n(2_000)
             .ends(0),
+        // The run ends with a jump that begins at STM's end.
         Case::new("one wait of 4,032 cycles")
             .rom(0, &[0x14, 0xBF, 0x05, 0xC2, 0x0D, 0x00, 0x44, 0xC0])
             .schedule(&[
@@ -32,7 +33,7 @@ fn waits() -> Vec<Case> {
                 (1_401, 0x56, 0x78, 0),
                 (2_800, 0, 0, 1),
             ])
-            .n(4_100)
+            .n(4_101)
             .ends(0),
         Case::new("waits with records close together")
             .rom(0, &[0x14, 0x84, 0x05, 0xC2, 0x40, 0x44, 0x1D, 0x00, 0xC0])

@@ -192,6 +192,28 @@ fn waits_are_jumped_and_nothing_else() {
     }
 }
 
+/// The steps of the timer-skipping runner for n cycles of a panel, and the state that it comes to.
+fn skipped(panel: &Panel, n: u64) -> (u64, State) {
+    let Lent { rom, schedule } = Lent::of(panel);
+    let start = panel.case.start();
+    let mut log = lent_log(n);
+    let answer = run(Runner::Skipping, &rom, &schedule, &start, &mut log, n);
+    (answer.steps, answer.state)
+}
+
+#[test]
+fn a_run_ends_with_a_jump_from_mark_stm() {
+    let ends = |panel: &Panel| {
+        let n = panel.case.cycles();
+        let (last, _) = skipped(panel, n);
+        // Where the last step begins.
+        let before = |&k: &u64| skipped(panel, k).0 < last;
+        let from = (0..n).rev().find(before).expect("a run of no cycles");
+        n - from >= 2 && skipped(panel, from).1.mark == 3
+    };
+    assert!(panels().iter().any(ends));
+}
+
 #[test]
 fn lists_are_of_every_kind() {
     for panel in panels() {
