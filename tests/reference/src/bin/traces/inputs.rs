@@ -3,6 +3,11 @@
 //! 34 and 2 refuse no trace: the fresh state is sound, and its cycle number, 0, plus an n of 4 bytes
 //! stays far below 2^48 - 1.
 
+use std::fs;
+use std::path::Path;
+
+use reference::trace;
+
 /// An input, and the last line of its text.
 pub struct Input {
     pub name: String,
@@ -23,7 +28,33 @@ pub fn all() -> Vec<Input> {
     inputs.extend(full_logs());
     inputs.extend(stops());
     inputs.extend(lines());
+    inputs.extend(samples());
     inputs
+}
+
+/// The panels of samples/, whose texts stand beside them.
+fn samples() -> Vec<Input> {
+    let folder = Path::new(env!("CARGO_MANIFEST_DIR")).join("../../samples");
+    [
+        ("lamp", "end 200 131 0"),
+        ("call", "end 100 92 0"),
+        ("blink", "end 1500 1489 0"),
+        ("short", "refused 21"),
+        ("order", "refused 14"),
+        ("level", "refused 13"),
+        ("torn", "refused 11"),
+    ]
+    .map(|(name, last)| {
+        let bytes = fs::read(folder.join(format!("{name}.panel"))).expect("the panel is there");
+        let text = fs::read_to_string(folder.join(format!("{name}.text"))).expect("its text too");
+        assert_eq!(trace(&bytes), text, "{name}");
+        Input {
+            name: format!("sample {name}"),
+            bytes,
+            last,
+        }
+    })
+    .into()
 }
 
 /// n, code from address 0 on in a ROM of NOPs, schedule.
