@@ -1,13 +1,13 @@
 -- What `drive` and `driven` ensure, where the run is refused: the machine and the log are as they were. Assumes nothing.
 use mathlib.Core.Path.{_≡_, _∙_, refl, sym, ap, subst}
 use mathlib.Core.List.{List}
-use Prim.Native.Nat.{ℕ, zero, suc}
+use Prim.Native.Nat.{ℕ, suc}
 use Rattle.runs.specs.declared.Refusal.{Refusal}
 use Rattle.runs.specs.declared.Refusal.the-variants as why
 use Rattle.runs.specs.declared.RunEnd.{RunEnd}
 use Rattle.runs.specs.declared.RunEnd.the-variants.{Refused}
 use Rattle.runs.specs.Numbers.{refusalNumber, endOf}
-use Rattle.runs.specs.TwoRunners.{RunAnswer, End, refused, runNumber}
+use Rattle.runs.specs.TwoRunners.{RunAnswer, refused, runNumber}
 use Rattle.runs.specs.Lists.{Kind, run, runAnswer, refusal, refusalOf, ChangesNothing}
 use Rattle.runs.proofs.Calls.{by-number, changes-nothing}
 use Rattle.upd546.specs.declared.State.{State}
