@@ -17,7 +17,9 @@ impl Generator {
 }
 
 fn make_rom(from: &mut Generator, load: u8) -> Vec<u8> {
-    let mut rom: Vec<u8> = (0..2_000).map(|_| staying(code(load, from.next()))).collect();
+    let mut rom: Vec<u8> = (0..2_000)
+        .map(|_| staying(code(load, from.next())))
+        .collect();
     if load == 2 {
         rom[..5].copy_from_slice(&[0x14, 0xBF, 0x05, 0xC2, 0xC0]);
     }

@@ -1,12 +1,13 @@
 //! A reference interpreter of the uPD546 as document 01 defines it: one machine cycle after the
-//! other, on a state that is changed in place. `case` is no part of it: what the programs that make
-//! trials share.
+//! other, on a state that is changed in place. `case` and `maker` are no part of it: what the programs
+//! that make trials share.
 
 pub mod case;
 mod image;
 mod instructions;
 mod log;
 mod machine;
+pub mod maker;
 pub mod numbers;
 mod runners;
 mod schedule;

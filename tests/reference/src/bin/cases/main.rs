@@ -69,11 +69,10 @@ mod roms;
 mod starts;
 mod stops;
 
-use std::path::Path;
 use std::process::ExitCode;
-use std::{env, fs, io};
 
 use reference::case::{digest, state_bytes, Case};
+use reference::maker::{make, Made};
 use reference::{Answer, Coverage};
 
 const TITLES: &str = "case number cycles clocks begun written steps state log\n";
@@ -203,41 +202,21 @@ fn report(cases: &[Case], file: &[u8], outcome: &Outcome) {
         sum(skipped)
     );
     println!("{} cycles spared their step", outcome.spared);
-    for fault in &outcome.faults {
-        println!("fault: {fault}");
-    }
 }
 
-fn write_all(folder: &str, cases: &[Case]) -> io::Result<bool> {
-    let file = file_of(cases);
+fn made(cases: &[Case]) -> Made {
+    let stdin = file_of(cases);
     let outcome = run_all(cases);
-    report(cases, &file, &outcome);
-    fs::write(Path::new(folder).join("stdin"), file)?;
-    fs::write(Path::new(folder).join("stdout"), outcome.text)?;
-    Ok(outcome.faults.is_empty())
+    report(cases, &stdin, &outcome);
+    Made {
+        stdin,
+        stdout: outcome.text,
+        faults: outcome.faults,
+    }
 }
 
 fn main() -> ExitCode {
-    let words: Vec<String> = env::args().skip(1).collect();
     let cases = all_cases();
-    match words.as_slice() {
-        [word] if word == "list" => {
-            for (place, case) in cases.iter().enumerate() {
-                println!("{place} {}", case.name);
-            }
-            ExitCode::SUCCESS
-        }
-        [folder] => match write_all(folder, &cases) {
-            Ok(true) => ExitCode::SUCCESS,
-            Ok(false) => ExitCode::FAILURE,
-            Err(error) => {
-                eprintln!("{folder}: {error}");
-                ExitCode::FAILURE
-            }
-        },
-        _ => {
-            eprintln!("usage: cases FOLDER | cases list");
-            ExitCode::FAILURE
-        }
-    }
+    let names = cases.iter().map(|case| case.name.clone()).collect();
+    make("cases", names, || made(&cases))
 }

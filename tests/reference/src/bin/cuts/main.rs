@@ -69,11 +69,10 @@ mod roms;
 #[cfg(test)]
 mod tests;
 
-use std::path::Path;
 use std::process::ExitCode;
-use std::{env, fs, io};
 
 use reference::case::{digest, Case};
+use reference::maker::{make, Made};
 use reference::{run, save, Runner, State};
 
 const TITLES: &str =
@@ -227,39 +226,18 @@ fn faults(panels: &[Panel]) -> Vec<String> {
     faults
 }
 
-fn write_all(folder: &str, panels: &[Panel]) -> io::Result<bool> {
-    let file = file_of(panels);
-    println!("{} panels, {} bytes", panels.len(), file.len());
-    let faults = faults(panels);
-    for fault in &faults {
-        println!("fault: {fault}");
+fn made(panels: &[Panel]) -> Made {
+    let stdin = file_of(panels);
+    println!("{} panels, {} bytes", panels.len(), stdin.len());
+    Made {
+        stdin,
+        stdout: text_of(panels),
+        faults: faults(panels),
     }
-    fs::write(Path::new(folder).join("stdin"), file)?;
-    fs::write(Path::new(folder).join("stdout"), text_of(panels))?;
-    Ok(faults.is_empty())
 }
 
 fn main() -> ExitCode {
-    let words: Vec<String> = env::args().skip(1).collect();
     let panels = panels();
-    match words.as_slice() {
-        [word] if word == "list" => {
-            for (place, panel) in panels.iter().enumerate() {
-                println!("{place} {}", panel.case.name);
-            }
-            ExitCode::SUCCESS
-        }
-        [folder] => match write_all(folder, &panels) {
-            Ok(true) => ExitCode::SUCCESS,
-            Ok(false) => ExitCode::FAILURE,
-            Err(error) => {
-                eprintln!("{folder}: {error}");
-                ExitCode::FAILURE
-            }
-        },
-        _ => {
-            eprintln!("usage: cuts FOLDER | cuts list");
-            ExitCode::FAILURE
-        }
-    }
+    let names = panels.iter().map(|panel| panel.case.name.clone()).collect();
+    make("cuts", names, || made(&panels))
 }

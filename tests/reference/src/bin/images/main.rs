@@ -56,12 +56,11 @@ mod group;
 mod tests;
 
 use std::collections::HashMap;
-use std::path::Path;
 use std::process::ExitCode;
-use std::{env, fs, io};
 
 use bases::{Shape, IMAGE, RAM, STATE};
 use group::{Group, Tally, Trial};
+use reference::maker::{make, Made};
 use reference::State;
 
 const TITLES: &str = "trial base at tries done 1 31 32 33 34 same digest\n";
@@ -446,39 +445,19 @@ fn tried(groups: &[Group]) -> (String, Vec<String>) {
     (text, wrong)
 }
 
-fn write_all(folder: &str, groups: &[Group]) -> io::Result<bool> {
-    let file = file_of(groups);
-    let (text, wrong) = tried(groups);
-    println!("{} groups, {} bytes", groups.len(), file.len());
-    for fault in &wrong {
-        println!("fault: {fault}");
+fn made(groups: &[Group]) -> Made {
+    let stdin = file_of(groups);
+    let (stdout, faults) = tried(groups);
+    println!("{} groups, {} bytes", groups.len(), stdin.len());
+    Made {
+        stdin,
+        stdout,
+        faults,
     }
-    fs::write(Path::new(folder).join("stdin"), file)?;
-    fs::write(Path::new(folder).join("stdout"), text)?;
-    Ok(wrong.is_empty())
 }
 
 fn main() -> ExitCode {
-    let words: Vec<String> = env::args().skip(1).collect();
     let groups = all_groups();
-    match words.as_slice() {
-        [word] if word == "list" => {
-            for (place, group) in groups.iter().enumerate() {
-                println!("{place} {}", group.name);
-            }
-            ExitCode::SUCCESS
-        }
-        [folder] => match write_all(folder, &groups) {
-            Ok(true) => ExitCode::SUCCESS,
-            Ok(false) => ExitCode::FAILURE,
-            Err(error) => {
-                eprintln!("{folder}: {error}");
-                ExitCode::FAILURE
-            }
-        },
-        _ => {
-            eprintln!("usage: images FOLDER | images list");
-            ExitCode::FAILURE
-        }
-    }
+    let names = groups.iter().map(|group| group.name.to_string()).collect();
+    make("images", names, || made(&groups))
 }

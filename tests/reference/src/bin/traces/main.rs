@@ -15,11 +15,10 @@
 
 mod inputs;
 
-use std::path::Path;
 use std::process::ExitCode;
-use std::{env, fs, io};
 
 use inputs::Input;
+use reference::maker::{make, Made};
 use reference::trace;
 
 /// The longest input that a reader takes.
@@ -59,39 +58,19 @@ fn traced(inputs: &[Input]) -> (String, Vec<String>) {
     (text, wrong)
 }
 
-fn write_all(folder: &str, inputs: &[Input]) -> io::Result<bool> {
-    let file = file_of(inputs);
-    let (text, wrong) = traced(inputs);
-    println!("{} inputs, {} bytes", inputs.len(), file.len());
-    for fault in &wrong {
-        println!("fault: {fault}");
+fn made(inputs: &[Input]) -> Made {
+    let stdin = file_of(inputs);
+    let (stdout, faults) = traced(inputs);
+    println!("{} inputs, {} bytes", inputs.len(), stdin.len());
+    Made {
+        stdin,
+        stdout,
+        faults,
     }
-    fs::write(Path::new(folder).join("stdin"), file)?;
-    fs::write(Path::new(folder).join("stdout"), text)?;
-    Ok(wrong.is_empty())
 }
 
 fn main() -> ExitCode {
-    let words: Vec<String> = env::args().skip(1).collect();
     let inputs = inputs::all();
-    match words.as_slice() {
-        [word] if word == "list" => {
-            for (place, input) in inputs.iter().enumerate() {
-                println!("{place} {}", input.name);
-            }
-            ExitCode::SUCCESS
-        }
-        [folder] => match write_all(folder, &inputs) {
-            Ok(true) => ExitCode::SUCCESS,
-            Ok(false) => ExitCode::FAILURE,
-            Err(error) => {
-                eprintln!("{folder}: {error}");
-                ExitCode::FAILURE
-            }
-        },
-        _ => {
-            eprintln!("usage: traces FOLDER | traces list");
-            ExitCode::FAILURE
-        }
-    }
+    let names = inputs.iter().map(|input| input.name.clone()).collect();
+    make("traces", names, || made(&inputs))
 }
