@@ -2,13 +2,13 @@
 use mathlib.Core.Path.{_≡_, _∙_, refl, sym, ap}
 use mathlib.Core.Bool.{Bool, true, false}
 use mathlib.Core.List.{List, [], _∷_}
-use Prim.Native.Nat.{ℕ, zero, suc, _+_, _-_, _*_, _<_, _≤_, _^_}
+use Prim.Native.Nat.{ℕ, zero, suc, _+_, _-_, _*_, _<_, _≤_}
 use native.Mathlib.Omega.{arith}
-use lib.Dec.{leb}
-use lib.ListN.{length, take, drop, replicate, length-take, length-drop}
+use lib.Dec.{leb, lit<}
+use lib.ListN.{length, take, drop, replicate, length-drop}
 use lib.Seq.{take-all, length-take-le}
 use borrow.Author.Tests.{leb-true, leb-false, le-leb, lt-leb, eq-eqb}
-use Rattle.runs.specs.TwoRunners.{cycleLimit, firstOf, unless, runNumber, plain}
+use Rattle.runs.specs.TwoRunners.{cycleLimit, firstOf, runNumber, plain}
 use Rattle.upd546.specs.TheMachine.{romLength, fresh}
 use Rattle.upd546.specs.Bytes.{numberOf}
 use Rattle.upd546.specs.Tests.{allOf}
@@ -16,7 +16,7 @@ use Rattle.upd546.specs.TheLineSchedule.{recordLength, maxRecords, scheduleNumb
 use Rattle.upd546.specs.StateImage.{registersSound, flowSound, interruptSound, timerSound, coreSound, portsSound, ramSound, stateSound, stateNumber}
 use Rattle.upd546.specs.TwoRunners.{upd546, panelNumber}
 use Rattle.upd546.specs.Reports.{refusedText, traceLog, traceText}
-use Rattle.report.specs.Records.{runText}
+use Rattle.report.specs.Texts.{runText}
 use Rattle.report.specs.Inputs.{ReadsEnough, PanelsOnly}
 use Rattle.report.proofs.Texts.{long-text}
 
@@ -50,6 +50,10 @@ reads-enough k h input = go (leb (length input) k) refl
         let more : k < length input = leb-false (length input) k e in
         let cut = length-take-le k input (omega arith) in
         over-text (take k input) (omega (arith, cut)) ∙ sym (over-text input (omega arith))
+
+-- the buffer of program `trace`
+pub buffer-enough : ReadsEnough 65536
+buffer-enough = reads-enough 65536 (lit< tt)
 
 sound : stateNumber fresh ≡ 0
 unfolding stateNumber stateSound coreSound registersSound flowSound interruptSound timerSound portsSound ramSound allOf

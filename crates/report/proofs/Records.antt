@@ -1,5 +1,5 @@
 -- The log of a run that isn't refused is records, each of an effective write: ports C to I, values of 4 bits. Assumes nothing.
-use mathlib.Core.Path.{_≡_, _∙_, refl, sym, ap, subst}
+use mathlib.Core.Path.{_≡_, refl, sym, subst}
 use mathlib.Core.Bool.{Bool, true, false}
 use mathlib.Core.List.{List, [], _∷_, _++_}
 use mathlib.Core.Option.{some}
@@ -19,11 +19,11 @@ use Rattle.upd546.specs.declared.State.{State}
 use Rattle.upd546.specs.declared.RunAnswer.{RunAnswer}
 use Rattle.upd546.specs.TheLineSchedule.{linesAt}
 use Rattle.upd546.specs.Ports.{Write, logRecord, logBytes, portI}
-use Rattle.upd546.specs.Instructions.{Given, Effect, Instruction, instruction}
+use Rattle.upd546.specs.Instructions.{Given, Instruction, instruction}
 use Rattle.upd546.specs.OneMachineCycle.{accepts, taken, given, instructionStop, passedOver, begun, onStop, execute, onOwed, onAccepts, cycle}
 use Rattle.upd546.specs.TwoRunners.{panelNumber, upd546, answerOf}
 use Rattle.laws.specs.Valid.{ValidCore, Valid, ValidLines}
-use Rattle.laws.proofs.Instructions.{All, none, more, ValidWrite, keeps}
+use Rattle.laws.proofs.Instructions.{All, more, ValidWrite, keeps}
 use Rattle.laws.proofs.Lines.{lines-valid}
 use Rattle.laws.proofs.Sound.{accepted-valid}
 use Rattle.laws.proofs.Cycle.{taken-keeps, given-valid, cycle-keeps}
@@ -125,7 +125,8 @@ module _ (rom sched : List ℕ) (br : Bytes rom) (bs : Bytes sched) (s : State) 
       r : Ran State
       r = within upd546 rom sched (length log) n s
 
-      go : (k : ℕ) → runNumber upd546 rom sched s n ≡ k → Legible (told upd546 k (stepwise upd546 r) s log .log) (told upd546 k (stepwise upd546 r) s log .written / 8)
+      go : (k : ℕ) → runNumber upd546 rom sched s n ≡ k
+          → Legible (told upd546 k (stepwise upd546 r) s log .log) (told upd546 k (stepwise upd546 r) s log .written / 8)
       go zero e =
           let f = run-fit upd546 rom sched s n e in
           let p = run-records rom sched br bs (f .panel) n (length log) s (accepted-valid s (f .state)) (f .limit) in
@@ -150,5 +151,6 @@ module _ (rom sched : List ℕ) (br : Bytes rom) (bs : Bytes sched) (s : State) 
       fits = go (runNumber upd546 rom sched s n)
 
 -- the same of a run that answers as it
-pub by-answer : (a : RunAnswer) {log′ : List ℕ} {b : runners.RunAnswer State} → answerOf a log′ ≡ b → Recorded (b .written) (b .log) → Recorded (a .written) log′
+pub by-answer : (a : RunAnswer) {log′ : List ℕ} {b : runners.RunAnswer State} → answerOf a log′ ≡ b → Recorded (b .written) (b .log)
+    → Recorded (a .written) log′
 by-answer a e p = subst (λ (b : runners.RunAnswer State). Recorded (b .written) (b .log)) (sym e) p

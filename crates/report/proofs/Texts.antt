@@ -1,6 +1,6 @@
 -- Which text a run and an input have. Assumes nothing.
-use mathlib.Core.Path.{_≡_, _∙_, refl, sym, ap}
-use mathlib.Core.List.{List, [], _∷_, _++_}
+use mathlib.Core.Path.{_≡_, refl, ap}
+use mathlib.Core.List.{List, [], _∷_}
 use Prim.Native.Nat.{ℕ, _+_, _<_, _≤_}
 use native.Mathlib.Omega.{arith}
 use lib.ListN.{length, getD, take, drop, replicate}
@@ -19,7 +19,7 @@ use Rattle.upd546.specs.TwoRunners.{upd546, answerOf}
 use Rattle.upd546.specs.Reports.{refusedText, reportText, onEnd, traceLog, traceText}
 use Rattle.io.specs.Counts.{Counts}
 use Rattle.report.specs.Writing.{Appended}
-use Rattle.report.specs.Records.{runText, Traced}
+use Rattle.report.specs.Texts.{runText, Traced}
 use Rattle.report.proofs.Writing.{front, kept-length}
 
 -- HOW A RUN ENDED
@@ -59,8 +59,8 @@ module _ (input : List ℕ) where
   short-text h = rw (lt-ltb (length input) (4 + romLength) h)
 
   -- n, ROM and schedule
-  pub long-text : 4 + romLength ≤ length input → {rom sched log : List ℕ} {n : ℕ} → rom ≡ take romLength (drop 4 input) → sched ≡ drop (4 + romLength) input
-      → log ≡ replicate traceLog 0 → n ≡ numberOf (take 4 input) → runText rom sched log n ≡ traceText input
+  pub long-text : 4 + romLength ≤ length input → {rom sched log : List ℕ} {n : ℕ} → rom ≡ take romLength (drop 4 input)
+      → sched ≡ drop (4 + romLength) input → log ≡ replicate traceLog 0 → n ≡ numberOf (take 4 input) → runText rom sched log n ≡ traceText input
   unfolding traceText runText
   long-text h p q r s = rw (p, q, r, s, le-ltb (length input) (4 + romLength) h)
 

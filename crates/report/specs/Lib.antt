@@ -1,3 +1,4 @@
 pub mod Writing
 pub mod Records
+pub mod Texts
 pub mod Inputs

@@ -11,7 +11,21 @@ pub record Appended (before : List ℕ) (at : ℕ) (w after : List ℕ) (r : ℕ
   pub fits : r ≤ length before
   pub stands : after ≡ take at before ++ w ++ drop r before
 
--- every text fits so many bytes: 2,048 lines of at most 25 bytes each, a heading of 17, and an end of at most 67
+-- How many bytes a piece has at most: a number of 64 bits 20; a line of a record five more; the line of a refusal nine more;
+-- the end line its word and three numbers, with a byte behind each.
+abbrev pub numberLength : ℕ
+numberLength = 20
+
+abbrev pub lineLength : ℕ
+lineLength = 25
+
+abbrev pub refusedLength : ℕ
+refusedLength = 29
+
+abbrev pub endLength : ℕ
+endLength = 67
+
+-- every text fits so many: a heading of 17 bytes, 2,048 lines, and an end
 abbrev pub textLength : ℕ
 textLength = 65536
 

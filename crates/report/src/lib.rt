@@ -7,16 +7,17 @@ use upd546::RunAnswer;
 ghost use mathlib.Core.Path.{_≡_};
 ghost use mathlib.Core.List.{_∷_, [], _++_};
 ghost use Prim.Native.Nat.{_+_, _*_, _/_, _<_, _≤_};
-ghost use lib.ListN.{length, getD, take, drop, replicate};
+ghost use lib.ListN.{length, getD, take, replicate};
 ghost use Rattle.runs.specs.Numbers.{endOf};
 ghost use Rattle.runs.specs.TwoRunners.{plain};
-ghost use Rattle.upd546.specs.TheMachine.{romLength, fresh, entries};
+ghost use Rattle.upd546.specs.TheMachine.{fresh};
 ghost use Rattle.upd546.specs.Bytes.{numberOf};
 ghost use Rattle.upd546.specs.Ports.{portI};
 ghost use Rattle.upd546.specs.TwoRunners.{upd546, answerOf};
 ghost use Rattle.upd546.specs.Reports.{decimal, portLetter, hexDigit, recordLine, recordLines, refusedText, reportText, onEnd, traceLog};
-ghost use Rattle.report.specs.Writing.{Appended, endLine, textLength};
-ghost use Rattle.report.specs.Records.{Legible, Recorded, Reportable, recordCycle, runText, Traced};
+ghost use Rattle.report.specs.Writing.{Appended, numberLength, lineLength, refusedLength, endLength, textLength, endLine};
+ghost use Rattle.report.specs.Records.{recordCycle, Legible, Recorded};
+ghost use Rattle.report.specs.Texts.{Reportable, runText, Traced};
 
 // "n (4 bytes, big-endian)"
 const COUNT_LENGTH: usize = 4;
@@ -32,7 +33,7 @@ const RECORD_LENGTH: usize = 8;
 // A number of 64 bits has at most 20 digits.
 const DIGITS: usize = 20;
 
-// Every text fits this many bytes: 2,048 lines of at most 25 bytes, and the two others.
+// Every text fits this many bytes; `textLength` is the same number.
 pub const TEXT_LENGTH: usize = 65536;
 
 // Copies bytes to a place of the text, and answers the place behind them.
@@ -53,8 +54,8 @@ fn put_byte(out: &mut [u8], at: usize, byte: u8) -> usize
 }
 
 fn put_decimal(out: &mut [u8], at: usize, n: u64) -> usize
-    requires { ⌜ at + 20 ≤ length (now out) ⌝ }
-    ensures { λ r. ⌜ Appended (now (out .entry)) at (decimal n) (now (out .exit)) r × (r ≤ at + 20) ⌝ }
+    requires { ⌜ at + numberLength ≤ length (now out) ⌝ }
+    ensures { λ r. ⌜ Appended (now (out .entry)) at (decimal n) (now (out .exit)) r × (r ≤ at + numberLength) ⌝ }
 {
     let mut digits = [0u8; DIGITS];
     let k = io::decimal(n, &mut digits);
@@ -102,8 +103,8 @@ fn cycle_at(log: &[u8], at: usize) -> u64
 
 // A number and one byte behind it.
 fn put_number(out: &mut [u8], at: usize, n: u64, after: u8) -> usize
-    requires { ⌜ at + 21 ≤ length (now out) ⌝ }
-    ensures { λ r. ⌜ Appended (now (out .entry)) at (decimal n ++ (after ∷ [])) (now (out .exit)) r × (r ≤ at + 21) ⌝ }
+    requires { ⌜ at + numberLength + 1 ≤ length (now out) ⌝ }
+    ensures { λ r. ⌜ Appended (now (out .entry)) at (decimal n ++ (after ∷ [])) (now (out .exit)) r × (r ≤ at + numberLength + 1) ⌝ }
 {
     let to = put_decimal(out, at, n);
     put_byte(out, to, after)
@@ -111,8 +112,8 @@ fn put_number(out: &mut [u8], at: usize, n: u64, after: u8) -> usize
 
 // The line of record i of a log.
 fn put_line(out: &mut [u8], at: usize, log: &[u8], i: usize) -> usize
-    requires { ⌜ (at + 25 ≤ length (now out)) × (8 * i + 8 ≤ length (now log)) × Legible (now log) (i + 1) ⌝ }
-    ensures { λ r. ⌜ Appended (now (out .entry)) at (recordLine (now (log .entry)) i) (now (out .exit)) r × (r ≤ at + 25) ⌝ }
+    requires { ⌜ (at + lineLength ≤ length (now out)) × (8 * i + 8 ≤ length (now log)) × Legible (now log) (i + 1) ⌝ }
+    ensures { λ r. ⌜ Appended (now (out .entry)) at (recordLine (now (log .entry)) i) (now (out .exit)) r × (r ≤ at + lineLength) ⌝ }
 {
     let from = RECORD_LENGTH * i;
     let letter = port_letter(log[from + 6]);
@@ -123,8 +124,8 @@ fn put_line(out: &mut [u8], at: usize, log: &[u8], i: usize) -> usize
 
 // The lines of the first records of a log.
 fn put_lines(out: &mut [u8], at: usize, log: &[u8], count: usize) -> usize
-    requires { ⌜ (at + 25 * count ≤ length (now out)) × (8 * count ≤ length (now log)) × Legible (now log) count ⌝ }
-    ensures { λ r. ⌜ Appended (now (out .entry)) at (recordLines (now (log .entry)) count) (now (out .exit)) r × (r ≤ at + 25 * count) ⌝ }
+    requires { ⌜ (at + lineLength * count ≤ length (now out)) × (8 * count ≤ length (now log)) × Legible (now log) count ⌝ }
+    ensures { λ r. ⌜ Appended (now (out .entry)) at (recordLines (now (log .entry)) count) (now (out .exit)) r × (r ≤ at + lineLength * count) ⌝ }
 {
     let mut to = at;
     let mut i = 0;
@@ -137,7 +138,7 @@ fn put_lines(out: &mut [u8], at: usize, log: &[u8], count: usize) -> usize
 
 // "A refusal prints only `refused` and the number."
 fn put_refused(out: &mut [u8], number: u8) -> usize
-    requires { ⌜ 29 ≤ length (now out) ⌝ }
+    requires { ⌜ refusedLength ≤ length (now out) ⌝ }
     ensures { λ r. ⌜ Appended (now (out .entry)) 0 (refusedText number) (now (out .exit)) r ⌝ }
 {
     let to = put(out, 0, b"refused ");
@@ -145,12 +146,12 @@ fn put_refused(out: &mut [u8], number: u8) -> usize
 }
 
 // "then cycles, instructions, stop (0 if finished)"
-fn put_end(out: &mut [u8], at: usize, cycles: u64, begun: u64, number: u8) -> usize
-    requires { ⌜ at + 67 ≤ length (now out) ⌝ }
-    ensures { λ r. ⌜ Appended (now (out .entry)) at (endLine cycles begun number) (now (out .exit)) r ⌝ }
+fn put_end(out: &mut [u8], at: usize, cycles: MachineCycles, begun: u64, number: u8) -> usize
+    requires { ⌜ at + endLength ≤ length (now out) ⌝ }
+    ensures { λ r. ⌜ Appended (now (out .entry)) at (endLine (cycles .0) begun number) (now (out .exit)) r ⌝ }
 {
     let words = put(out, at, b"end ");
-    let counted = put_number(out, words, cycles, b' ');
+    let counted = put_number(out, words, cycles.0, b' ');
     let told = put_number(out, counted, begun, b' ');
     put_number(out, told, number as u64, b'\n')
 }
@@ -162,7 +163,8 @@ fn put_report(out: &mut [u8], answer: RunAnswer, log: &[u8], number: u8) -> usiz
 {
     let headed = put(out, 0, b"cycle port value\n");
     let listed = put_lines(out, headed, log, answer.written / RECORD_LENGTH);
-    put_end(out, listed, answer.cycles.0, answer.begun, number)
+    let cycles = answer.cycles;
+    put_end(out, listed, cycles, answer.begun, number)
 }
 
 // The text of a run.
@@ -179,17 +181,18 @@ fn put_answer(out: &mut [u8], answer: RunAnswer, log: &[u8]) -> usize
 }
 
 // "runs a fresh state on the plain runner"
-fn run_fresh(rom: &[u8], sched: &[u8], log: &mut [u8], n: u64) -> RunAnswer
-    ensures { λ r. ⌜ (answerOf r (now (log .exit)) ≡ plain upd546 (now (rom .entry)) (now (sched .entry)) fresh (now (log .entry)) n) × Recorded (r .written) (now (log .exit)) ⌝ }
+fn run_fresh(rom: &[u8], sched: &[u8], log: &mut [u8], n: MachineCycles) -> RunAnswer
+    ensures { λ r. ⌜ answerOf r (now (log .exit)) ≡ plain upd546 (now (rom .entry)) (now (sched .entry)) fresh (now (log .entry)) (n .0) ⌝ }
+    ensures { λ r. ⌜ Recorded (r .written) (now (log .exit)) ⌝ }
 {
     let state = upd546::fresh_state();
-    runner::run_plain(rom, sched, state, log, MachineCycles(n))
+    runner::run_plain(rom, sched, state, log, n)
 }
 
 // The text of n cycles of a panel, on a log of 16,384 bytes.
-fn put_run(out: &mut [u8], rom: &[u8], sched: &[u8], log: &mut [u8], n: u64) -> usize
+fn put_run(out: &mut [u8], rom: &[u8], sched: &[u8], log: &mut [u8], n: MachineCycles) -> usize
     requires { ⌜ (length (now log) ≡ traceLog) × (textLength ≤ length (now out)) ⌝ }
-    ensures { λ r. ⌜ Appended (now (out .entry)) 0 (runText (now (rom .entry)) (now (sched .entry)) (now (log .entry)) n) (now (out .exit)) r ⌝ }
+    ensures { λ r. ⌜ Appended (now (out .entry)) 0 (runText (now (rom .entry)) (now (sched .entry)) (now (log .entry)) (n .0)) (now (out .exit)) r ⌝ }
 {
     let answer = run_fresh(rom, sched, log, n);
     put_answer(out, answer, log)
@@ -221,7 +224,7 @@ pub fn trace(input: &[u8], out: &mut [u8; TEXT_LENGTH]) -> usize
     if input.len() < SCHEDULE_AT {
         return put_refused(out, 21);
     }
-    let n = count_of(input);
+    let n = MachineCycles(count_of(input));
     let mut log = empty_log();
     put_run(
         out,

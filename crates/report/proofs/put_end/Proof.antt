@@ -29,7 +29,7 @@ returns c =
     let at-cycles = at-begun .before .before .before .before in
     let at-put = at-cycles .before .before .before .before in
     let a = at-put .before .before .before .before .args in
-    told (end-same (a .cycles) (a .begun) (a .number))
+    told (end-same (a .cycles .0) (a .begun) (a .number))
     (then
     (then (then (at-put .put .ensures) (at-cycles .put-number .ensures .0)) (at-begun .put-number2 .ensures .0))
     (at-number .put-number3 .ensures .0))

@@ -26,10 +26,11 @@ put-line-requires : tie.Need-put-line-requires Inv-loop μ-loop
 put-line-requires c κs =
     let at-loop = c .before .before in
     let at-entry = at-loop .before .before .before in
-    let legible = at-entry .pre .2 in (
-      omega (arith, at-entry .pre .0, at-loop .loop .inv, c .before .loop-test .taken),
+    let legible = at-entry .pre .2 in
+    let more = c .before .loop-test .taken in (
+      omega (arith, at-entry .pre .0, at-loop .loop .inv, more),
       omega arith,
-      record { port = λ k h. legible .port k (omega (arith, h, c .before .loop-test .taken)); value = λ k h. legible .value k (omega (arith, h, c .before .loop-test .taken)) },
+      record { port = λ k h. legible .port k (omega (arith, h, more)); value = λ k h. legible .value k (omega (arith, h, more)) },
     )
 
 add-i : tie.Need-add-i Inv-loop μ-loop

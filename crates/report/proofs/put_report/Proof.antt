@@ -22,7 +22,7 @@ same-length c = search needs
 returns : tie.Need-returns
 returns c =
     let at-end = c .before .before in
-    let at-lines = at-end .before .before .before .before in
+    let at-lines = at-end .before .before .before .before .before in
     let at-put = at-lines .before .before .before .before .before in
     then (then (at-put .put .ensures) (at-lines .put-lines .ensures .0)) (at-end .put-end .ensures)
 

@@ -23,7 +23,8 @@ returns c =
     let at-answer = c .before .before in
     let at-run = at-answer .before .before .before .before .before in
     let a = at-run .before .before .before .before .before .before .args in
-    told (run-text (now (a .rom)) (now (a .sched)) (now (a .log)) (a .n) (at-run .run-fresh .result) (at-run .run-fresh .ensures .0)) (at-answer .put-answer .ensures)
+    let same = run-text (now (a .rom)) (now (a .sched)) (now (a .log)) (a .n .0) (at-run .run-fresh .result) (at-run .run-fresh .ensures .0) in
+    told same (at-answer .put-answer .ensures)
 
 pub put-run-spec : {M : Type 1} → statement M
 put-run-spec =

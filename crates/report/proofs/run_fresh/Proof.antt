@@ -27,7 +27,7 @@ returns c =
     let same = rw (at-fresh .fresh-state .ensures) at (at-plain .run-plain .ensures) in
     let bytes-of-rom : Bytes (now (a .rom)) = λ i. omega (arith, at-rom .shared-slice-known .given i) in
     let bytes-of-sched : Bytes (now (a .sched)) = λ i. omega (arith, at-sched .shared-slice-known2 .given i) in
-    (same, by-answer (at-plain .run-plain .result) same (recorded (now (a .rom)) (now (a .sched)) bytes-of-rom bytes-of-sched fresh (now (a .log)) (a .n)))
+    (same, by-answer (at-plain .run-plain .result) same (recorded (now (a .rom)) (now (a .sched)) bytes-of-rom bytes-of-sched fresh (now (a .log)) (a .n .0)))
 
 pub run-fresh-spec : {M : Type 1} → statement M
 run-fresh-spec = tie.close (tie.spec fresh-state-requires run-plain-requires same-length returns)
