@@ -1,5 +1,6 @@
 //! ROMs, schedules and states to try things on.
 
+pub use reference::draw::Draw;
 use reference::{run, Answer, Runner, State};
 
 pub const LAST_CYCLE: u64 = (1 << 48) - 1;
@@ -8,34 +9,6 @@ pub const OTHER: u8 = 0;
 pub const LDI: u8 = 1;
 pub const EI: u8 = 2;
 pub const STM: u8 = 3;
-
-/// A small generator of numbers (xorshift, the upper half of a product).
-pub struct Rng(u64);
-
-impl Rng {
-    pub fn new(seed: u64) -> Rng {
-        Rng(seed.wrapping_mul(0x9E37_79B9_7F4A_7C15) | 1)
-    }
-
-    pub fn next(&mut self) -> u32 {
-        self.0 ^= self.0 >> 12;
-        self.0 ^= self.0 << 25;
-        self.0 ^= self.0 >> 27;
-        (self.0.wrapping_mul(0x2545_F491_4F6C_DD1D) >> 32) as u32
-    }
-
-    pub fn below(&mut self, limit: u64) -> u64 {
-        u64::from(self.next()) % limit
-    }
-
-    pub fn upto(&mut self, highest: u8) -> u8 {
-        self.below(u64::from(highest) + 1) as u8
-    }
-
-    pub fn one_in(&mut self, count: u64) -> bool {
-        self.below(count) == 0
-    }
-}
 
 /// A ROM of NOPs with these bytes at these addresses.
 pub fn rom(parts: &[(usize, &[u8])]) -> Vec<u8> {
@@ -83,61 +56,42 @@ pub fn after(rom: &[u8], schedule: &[u8], state: &State, n: u64) -> State {
 }
 
 /// Any valid state, also one that no run reaches.
-pub fn any_state(rng: &mut Rng) -> State {
-    let mut state = State::fresh();
-    state.pc = rng.below(0x800) as u16;
-    state.stack = [0; 3].map(|_| rng.below(0x800) as u16);
-    state.acc = rng.upto(15);
-    state.carry = rng.upto(1);
-    state.saved = rng.upto(1);
-    state.dph = rng.upto(7);
-    state.dpl = rng.upto(15);
-    state.int = rng.upto(1);
-    state.inte = rng.upto(1);
-    state.tm = rng.upto(1);
-    state.level = rng.upto(1);
-    state.mark = rng.upto(3);
-    state.owed = rng.upto(3);
-    state.register = rng.upto(63);
-    state.counter = if state.register == 0 { 0 } else { rng.upto(63) };
-    state.ports = [15, 15, 15, 15, 15, 15, 7].map(|highest| rng.upto(highest));
-    state.ram = [0; 96].map(|_| rng.upto(15));
-    state.cycle = match rng.below(3) {
-        0 => 0,
-        1 => rng.below(1 << 20),
-        _ => rng.below(1 << 24) << 24 | rng.below(1 << 23),
-    };
+pub fn any_state(draw: &mut Draw) -> State {
+    let mut state = draw.state();
+    state.pc = draw.below(0x800) as u16;
+    state.stack = [0; 3].map(|_| draw.below(0x800) as u16);
+    state.ram = [0; 96].map(|_| draw.upto(15));
     state
 }
 
 /// A ROM of random bytes. One in two has few JCP, so that a run goes far before it goes round; two
 /// in three have no codes 1C and 45 and no JMP and CAL to field 7, so that it goes on. Waiting
 /// loops, some with an STM before them, are put in.
-pub fn any_rom(rng: &mut Rng) -> Vec<u8> {
-    let mut rom: Vec<u8> = (0..2_000).map(|_| rng.upto(255)).collect();
-    if rng.one_in(2) {
+pub fn any_rom(draw: &mut Draw) -> Vec<u8> {
+    let mut rom: Vec<u8> = (0..2_000).map(|_| draw.upto(255)).collect();
+    if draw.one_in(2) {
         for byte in &mut rom {
-            if *byte >= 0xC0 && !rng.one_in(8) {
-                *byte = rng.upto(0xBF);
+            if *byte >= 0xC0 && !draw.one_in(8) {
+                *byte = draw.upto(0xBF);
             }
         }
     }
-    if !rng.one_in(3) {
+    if !draw.one_in(3) {
         for byte in &mut rom {
             if matches!(*byte, 0x1C | 0x45 | 0xA7 | 0xAF) {
                 *byte = 0x05;
             }
         }
     }
-    for _ in 0..rng.below(120) {
-        let at = rng.below(1_998) as usize;
+    for _ in 0..draw.below(120) {
+        let at = draw.below(1_998) as usize;
         if at % 64 < 63 {
             rom[at] = 0x05;
             rom[at + 1] = 0xC0 | (at % 64) as u8;
-            if at >= 2 && rng.one_in(2) {
+            if at >= 2 && draw.one_in(2) {
                 rom[at - 2] = 0x14;
-                let longest = if rng.one_in(4) { 255 } else { 3 };
-                rom[at - 1] = rng.upto(longest);
+                let longest = if draw.one_in(4) { 255 } else { 3 };
+                rom[at - 1] = draw.upto(longest);
             }
         }
     }
@@ -145,42 +99,42 @@ pub fn any_rom(rng: &mut Rng) -> Vec<u8> {
 }
 
 /// A schedule with records around the cycles after this one.
-pub fn any_schedule(rng: &mut Rng, from: u64) -> Vec<u8> {
+pub fn any_schedule(draw: &mut Draw, from: u64) -> Vec<u8> {
     let mut schedule = Vec::new();
-    let mut cycle = from.saturating_sub(rng.below(100));
-    let widest = [2, 7, 40, 300, 2_000][rng.below(5) as usize];
-    for _ in 0..rng.below(80) {
+    let mut cycle = from.saturating_sub(draw.below(100));
+    let widest = [2, 7, 40, 300, 2_000][draw.below(5) as usize];
+    for _ in 0..draw.below(80) {
         if cycle > LAST_CYCLE {
             break;
         }
-        let (ab, cd, int) = (rng.upto(255), rng.upto(255), rng.upto(1));
+        let (ab, cd, int) = (draw.upto(255), draw.upto(255), draw.upto(1));
         schedule.extend(record(cycle, ab, cd, int));
-        cycle += 1 + rng.below(widest);
+        cycle += 1 + draw.below(widest);
     }
     schedule
 }
 
 /// A panel to run: ROM, schedule and a start that is often about to wait for the timer.
-pub fn any_panel(rng: &mut Rng) -> (Vec<u8>, Vec<u8>, State) {
-    let rom = any_rom(rng);
-    let mut state = any_state(rng);
-    if !rng.one_in(4) {
+pub fn any_panel(draw: &mut Draw) -> (Vec<u8>, Vec<u8>, State) {
+    let rom = any_rom(draw);
+    let mut state = any_state(draw);
+    if !draw.one_in(4) {
         state.stack = state.stack.map(|address| address % 2_000);
         state.pc %= 2_000;
     }
-    if rng.one_in(2) {
+    if draw.one_in(2) {
         let loops: Vec<usize> = (0..1_999)
             .filter(|&at| rom[at] == 0x05 && rom[at + 1] == 0xC0 | (at % 64) as u8)
             .collect();
         if !loops.is_empty() {
-            state.pc = loops[rng.below(loops.len() as u64) as usize] as u16;
+            state.pc = loops[draw.below(loops.len() as u64) as usize] as u16;
         }
-        if !rng.one_in(4) {
+        if !draw.one_in(4) {
             state.owed = 0;
             state.tm = 0;
             state.int = 0;
         }
     }
-    let schedule = any_schedule(rng, state.cycle);
+    let schedule = any_schedule(draw, state.cycle);
     (rom, schedule, state)
 }

@@ -74,22 +74,22 @@ fn each_flag_has_its_bit() {
 
 #[test]
 fn a_state_saved_and_restored_is_the_same_state() {
-    let rng = &mut Rng::new(11);
+    let draw = &mut Draw::new(11);
     for _ in 0..20_000 {
-        let state = any_state(rng);
+        let state = any_state(draw);
         assert_eq!(restore(&image(&state)), (0, state));
     }
 }
 
 #[test]
 fn an_accepted_image_restored_and_saved_is_the_same_bytes() {
-    let rng = &mut Rng::new(12);
+    let draw = &mut Draw::new(12);
     let mut accepted = 0;
     for _ in 0..50_000 {
-        let mut bytes = image(&any_state(rng));
-        for _ in 0..rng.below(4) {
-            let place = rng.below(81) as usize;
-            bytes[place] ^= 1 << rng.below(8);
+        let mut bytes = image(&any_state(draw));
+        for _ in 0..draw.below(4) {
+            let place = draw.below(81) as usize;
+            bytes[place] ^= 1 << draw.below(8);
         }
         let (number, state) = restore(&bytes);
         if number == 0 {

@@ -21,8 +21,8 @@ const X: usize = 80 + 15;
 const LINES: [u8; 4] = [0b1010, 0b0110, 0b0001, 0b1101];
 
 /// Any state about to begin the instruction: nothing owed, no interrupt, the timer stopped.
-fn start(rng: &mut Rng) -> State {
-    let mut state = any_state(rng);
+fn start(draw: &mut Draw) -> State {
+    let mut state = any_state(draw);
     state.pc = AT;
     state.owed = 0;
     state.mark = OTHER;
@@ -98,11 +98,11 @@ fn set_m(state: &mut State, value: u8) {
 
 /// Any states with every Acc, M, C and row among them.
 fn each_sum(mut test: impl FnMut(&State)) {
-    let rng = &mut Rng::new(1);
+    let draw = &mut Draw::new(1);
     for acc in 0..16 {
         for value in 0..16 {
             for carry in 0..2 {
-                let mut state = start(rng);
+                let mut state = start(draw);
                 state.acc = acc;
                 state.carry = carry;
                 set_m(&mut state, value);
@@ -114,9 +114,9 @@ fn each_sum(mut test: impl FnMut(&State)) {
 
 /// Any states with every DP among them, three times over.
 fn each_dp(mut test: impl FnMut(&State)) {
-    let rng = &mut Rng::new(2);
+    let draw = &mut Draw::new(2);
     for dp in 0..3 * 128 {
-        let mut state = start(rng);
+        let mut state = start(draw);
         state.dph = (dp / 16 % 8) as u8;
         state.dpl = (dp % 16) as u8;
         test(&state);
@@ -151,7 +151,7 @@ fn the_simplest() {
 
 #[test]
 fn di_with_inte_set() {
-    let mut state = start(&mut Rng::new(3));
+    let mut state = start(&mut Draw::new(3));
     state.inte = 1;
     state.int = 0;
     check(&state, &[0x01], 1, |t| t.inte = 0);
@@ -328,10 +328,10 @@ fn jumps_and_calls() {
             t.stack = [s.stack[1], s.stack[2], s.stack[2]];
         });
     });
-    let rng = &mut Rng::new(4);
+    let draw = &mut Draw::new(4);
     for field in 0..8 {
         for _ in 0..40 {
-            let (s, low) = (&start(rng), rng.upto(255));
+            let (s, low) = (&start(draw), draw.upto(255));
             let target = 0x100 * u16::from(field) + u16::from(low);
             check(s, &[0xA0 + field, low], 2, |t| t.pc = target);
             check(s, &[0xA8 + field, low], 2, |t| {
@@ -344,9 +344,9 @@ fn jumps_and_calls() {
 
 #[test]
 fn rts_skips_at_the_popped_address() {
-    let rng = &mut Rng::new(5);
+    let draw = &mut Draw::new(5);
     for back in 0..=0x7CE {
-        let s = &mut start(rng);
+        let s = &mut start(draw);
         s.stack[0] = back;
         // NOPs stand everywhere but at the RTS itself, which is one byte too.
         check(s, &[0x49], 2, |t| {
@@ -356,7 +356,7 @@ fn rts_skips_at_the_popped_address() {
         });
     }
     // Over a CI it costs two further cycles.
-    let mut state = start(rng);
+    let mut state = start(draw);
     state.stack[0] = 0x6FF;
     let rom = rom(&[(usize::from(AT), &[0x49]), (0x6FF, &[0x17])]);
     let state = after(&rom, &[], &state, 1);
@@ -365,9 +365,9 @@ fn rts_skips_at_the_popped_address() {
 
 #[test]
 fn stm_and_ldi() {
-    let rng = &mut Rng::new(6);
+    let draw = &mut Draw::new(6);
     for second in 0..=255 {
-        let s = &mut start(rng);
+        let s = &mut start(draw);
         check(s, &[0x14, second], 2, |t| {
             t.tm = 0;
             t.register = 1;
@@ -444,7 +444,7 @@ fn ports() {
 
 #[test]
 fn a_skip_passes_over_the_bytes_of_each_code() {
-    let mut state = start(&mut Rng::new(7));
+    let mut state = start(&mut Draw::new(7));
     state.carry = 1;
     for code in 0..=255 {
         let two = matches!(code, 0x14..=0x17 | 0x1E | 0xA0..=0xAF);
@@ -458,13 +458,13 @@ fn a_skip_passes_over_the_bytes_of_each_code() {
 
 #[test]
 fn owed_cycles_do_nothing_but_pass() {
-    let rng = &mut Rng::new(8);
-    let rom = any_rom(rng);
+    let draw = &mut Draw::new(8);
+    let rom = any_rom(draw);
     for _ in 0..200 {
-        let mut state = start(rng);
-        state.pc = rng.below(0x800) as u16;
-        state.owed = 1 + rng.upto(2);
-        state.mark = rng.upto(3);
+        let mut state = start(draw);
+        state.pc = draw.below(0x800) as u16;
+        state.owed = 1 + draw.upto(2);
+        state.mark = draw.upto(3);
         let mut expected = state.clone();
         expected.owed -= 1;
         expected.cycle += 1;

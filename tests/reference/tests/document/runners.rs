@@ -124,11 +124,11 @@ fn defined_run(rom: &[u8], schedule: &[u8], start: &State, n: u64) -> (Answer, V
 
 #[test]
 fn the_skipping_runner_is_the_plain_one_but_for_its_steps() {
-    let rng = &mut Rng::new(21);
+    let draw = &mut Draw::new(21);
     let (mut saved_steps, mut stops) = (0, 0);
     for _ in 0..4_000 {
-        let (rom, schedule, start) = any_panel(rng);
-        let n = rng.below(3_000);
+        let (rom, schedule, start) = any_panel(draw);
+        let n = draw.below(3_000);
         let (plain, plain_log) = go(Runner::Plain, &rom, &schedule, &start, n);
         let (mut skipping, skipping_log) = go(Runner::Skipping, &rom, &schedule, &start, n);
         assert!(!plain.refused);
@@ -149,11 +149,11 @@ fn the_skipping_runner_is_the_plain_one_but_for_its_steps() {
 
 #[test]
 fn the_steps_of_the_skipping_runner_are_as_defined() {
-    let rng = &mut Rng::new(22);
+    let draw = &mut Draw::new(22);
     let mut jumps = 0;
     for _ in 0..800 {
-        let (rom, schedule, start) = any_panel(rng);
-        let n = rng.below(700);
+        let (rom, schedule, start) = any_panel(draw);
+        let n = draw.below(700);
         let (skipping, log) = go(Runner::Skipping, &rom, &schedule, &start, n);
         let (defined, defined_log) = defined_run(&rom, &schedule, &start, n);
         assert_eq!(skipping, defined);
@@ -281,12 +281,12 @@ fn the_loop_of_a_jump_stands_in_one_page() {
 
 #[test]
 fn a_run_then_a_run_is_one_run() {
-    let rng = &mut Rng::new(23);
+    let draw = &mut Draw::new(23);
     for _ in 0..3_000 {
-        let (rom, schedule, start) = any_panel(rng);
-        let (a, b) = (rng.below(600), rng.below(600));
+        let (rom, schedule, start) = any_panel(draw);
+        let (a, b) = (draw.below(600), draw.below(600));
         let (whole, whole_log) = go(Runner::Plain, &rom, &schedule, &start, a + b);
-        let runner = if rng.one_in(2) {
+        let runner = if draw.one_in(2) {
             Runner::Plain
         } else {
             Runner::Skipping
@@ -310,35 +310,35 @@ fn a_run_then_a_run_is_one_run() {
 
 #[test]
 fn every_list_of_slices_ends_as_one_unbroken_run() {
-    let rng = &mut Rng::new(24);
+    let draw = &mut Draw::new(24);
     for _ in 0..600 {
-        let (rom, schedule, start) = any_panel(rng);
+        let (rom, schedule, start) = any_panel(draw);
         let mut state = start.clone();
         let (mut asked, mut cycles, mut begun) = (0, 0, 0);
         let mut log = Vec::new();
         let mut numbers = Vec::new();
-        for _ in 0..rng.below(40) {
+        for _ in 0..draw.below(40) {
             // Refused calls among them, with whatever else.
-            match rng.below(6) {
+            match draw.below(6) {
                 0 => {
-                    let other = any_state(rng);
+                    let other = any_state(draw);
                     let mut lent = [0xA5; 40];
                     let answer = run(Runner::Plain, &rom[1..], &schedule, &other, &mut lent, 9);
                     assert_eq!((answer.number, answer.refused), (21, true));
                     assert_eq!((answer.state, lent), (other, [0xA5; 40]));
                 }
-                1 => assert_eq!(save(&any_state(rng), &mut [0; 80]), 1),
+                1 => assert_eq!(save(&any_state(draw), &mut [0; 80]), 1),
                 2 => assert_eq!(restore(&[0; 81]).0, 32),
                 _ => {}
             }
-            let runner = if rng.one_in(2) {
+            let runner = if draw.one_in(2) {
                 Runner::Plain
             } else {
                 Runner::Skipping
             };
             // "A log of at least 8n + 8 bytes": `go` lends just that.
-            let longest = [2, 5, 30, 300][rng.below(4) as usize];
-            let n = rng.below(longest);
+            let longest = [2, 5, 30, 300][draw.below(4) as usize];
+            let n = draw.below(longest);
             let (answer, records) = go(runner, &rom, &schedule, &state, n);
             assert!(!answer.refused);
             asked += n;
@@ -368,15 +368,15 @@ fn every_list_of_slices_ends_as_one_unbroken_run() {
 #[test]
 fn a_log_of_8n_and_8_bytes_is_enough() {
     // OCD begun in the last cycle needs it all; stop 3 never comes.
-    let rng = &mut Rng::new(25);
+    let draw = &mut Draw::new(25);
     for _ in 0..2_000 {
-        let (mut rom, schedule, start) = any_panel(rng);
+        let (mut rom, schedule, start) = any_panel(draw);
         for byte in &mut rom {
-            if rng.one_in(3) {
-                *byte = [0x1E, 0x0E, 0x74, 0x70][rng.below(4) as usize];
+            if draw.one_in(3) {
+                *byte = [0x1E, 0x0E, 0x74, 0x70][draw.below(4) as usize];
             }
         }
-        let (answer, _) = go(Runner::Skipping, &rom, &schedule, &start, rng.below(30));
+        let (answer, _) = go(Runner::Skipping, &rom, &schedule, &start, draw.below(30));
         assert_ne!(answer.number, 3);
     }
     let mut start = State::fresh();
@@ -388,14 +388,14 @@ fn a_log_of_8n_and_8_bytes_is_enough() {
 
 #[test]
 fn the_log_past_its_records_stays_as_it_was() {
-    let rng = &mut Rng::new(26);
+    let draw = &mut Draw::new(26);
     let mut full = 0;
     for _ in 0..2_000 {
-        let (rom, schedule, start) = any_panel(rng);
-        let n = rng.below(500);
+        let (rom, schedule, start) = any_panel(draw);
+        let n = draw.below(500);
         let (whole, whole_log) = go(Runner::Plain, &rom, &schedule, &start, n);
         for runner in [Runner::Plain, Runner::Skipping] {
-            let mut log = vec![0xA5; rng.below(80) as usize];
+            let mut log = vec![0xA5; draw.below(80) as usize];
             let answer = run(runner, &rom, &schedule, &start, &mut log, n);
             assert_eq!(answer.written % 8, 0);
             assert_eq!(log[..answer.written], whole_log[..answer.written]);
@@ -438,12 +438,12 @@ fn can_skip(code: u8) -> bool {
 
 #[test]
 fn the_coverage_counts_each_instruction_begun() {
-    let rng = &mut Rng::new(27);
+    let draw = &mut Draw::new(27);
     for runner in [Runner::Plain, Runner::Skipping] {
         let mut coverage = Coverage::new();
         let mut begun = 0;
         for _ in 0..3_000 {
-            let (rom, schedule, start) = any_panel(rng);
+            let (rom, schedule, start) = any_panel(draw);
             let mut log = vec![0; 8_008];
             let answer = run_counted(
                 runner,

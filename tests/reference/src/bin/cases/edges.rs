@@ -2,8 +2,7 @@
 //! EI and the next instruction, at acceptance; and lines read in the cycle in which they change.
 
 use reference::case::Case;
-
-use crate::draw::Draw;
+use reference::draw::Draw;
 
 const CYCLES: u64 = 40;
 

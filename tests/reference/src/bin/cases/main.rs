@@ -62,7 +62,6 @@
 
 mod bench;
 mod codes;
-mod draw;
 mod edges;
 mod refusals;
 mod roms;

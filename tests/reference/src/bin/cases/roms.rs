@@ -1,9 +1,8 @@
 //! Runs on ROMs of the generator, and long runs of programs.
 
 use reference::case::{Case, FEW_JCP, FEW_JUMPS, INSIDE, NO_PORTS, NO_STOPS};
+use reference::draw::Draw;
 use reference::Coverage;
-
-use crate::draw::Draw;
 
 /// A ROM on which a run goes on and comes round by many ways.
 const LASTING: u8 = NO_STOPS | FEW_JCP | INSIDE | FEW_JUMPS;

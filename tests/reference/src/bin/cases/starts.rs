@@ -1,9 +1,8 @@
 //! Legal states to start from that no run reaches, and legal states of every kind.
 
 use reference::case::{Case, FEW_JCP, INSIDE, NO_STOPS};
+use reference::draw::Draw;
 use reference::State;
-
-use crate::draw::Draw;
 
 pub fn cases() -> Vec<Case> {
     let mut cases = marks();

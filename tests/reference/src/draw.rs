@@ -1,6 +1,6 @@
-//! Numbers drawn for cases: always the same ones.
+//! Numbers and states drawn for cases and tests: always the same ones.
 
-use reference::State;
+use crate::machine::State;
 
 /// A small generator (xorshift, the upper half of a product).
 pub struct Draw(u64);
