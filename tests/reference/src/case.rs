@@ -2,7 +2,7 @@
 //! the digests that their files share. `bin/cases/main.rs` tells the layout.
 
 use crate::machine::State;
-use crate::runners::{run_counted, Answer, Coverage, Runner};
+use crate::runners::{run_observed, Answer, Coverage, Runner};
 
 /// The filters of a ROM.
 pub const NO_STOPS: u8 = 1;
@@ -177,7 +177,7 @@ impl Case {
         let mut log: Vec<u8> = (0..self.log_length)
             .map(|place| (7 * place + 13) as u8)
             .collect();
-        let answer = run_counted(
+        let answer = run_observed(
             self.runner,
             &rom,
             &schedule,

@@ -17,5 +17,5 @@ mod trace;
 
 pub use image::{restore, save};
 pub use machine::State;
-pub use runners::{run, run_counted, Answer, Coverage, Runner};
+pub use runners::{run, run_observed, Answer, Coverage, Runner};
 pub use trace::trace;

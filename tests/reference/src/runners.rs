@@ -61,7 +61,7 @@ impl Default for Coverage {
 }
 
 /// Is told of each instruction begun.
-trait Observer {
+pub trait Observer {
     fn begun(&mut self, code: u8, skipped: bool, times: u64);
 }
 
@@ -97,20 +97,8 @@ pub fn run(
     run_observed(runner, rom, schedule, state, log, n, Nobody)
 }
 
-/// The same, counting the instructions begun by code and skip.
-pub fn run_counted(
-    runner: Runner,
-    rom: &[u8],
-    schedule: &[u8],
-    state: &State,
-    log: &mut [u8],
-    n: u64,
-    cov: &mut Coverage,
-) -> Answer {
-    run_observed(runner, rom, schedule, state, log, n, cov)
-}
-
-fn run_observed<O: Observer>(
+/// The same, telling an observer of the instructions begun: a `&mut Coverage` counts them.
+pub fn run_observed<O: Observer>(
     runner: Runner,
     rom: &[u8],
     schedule: &[u8],

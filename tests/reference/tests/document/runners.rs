@@ -1,6 +1,6 @@
 //! "Two runners", and the lists of demand 3.
 
-use reference::{restore, run, run_counted, save, Answer, Coverage, Runner, State};
+use reference::{restore, run, run_observed, save, Answer, Coverage, Runner, State};
 
 use crate::common::*;
 
@@ -445,7 +445,7 @@ fn the_coverage_counts_each_instruction_begun() {
         for _ in 0..3_000 {
             let (rom, schedule, start) = any_panel(draw);
             let mut log = vec![0; 8_008];
-            let answer = run_counted(
+            let answer = run_observed(
                 runner,
                 &rom,
                 &schedule,
@@ -477,7 +477,7 @@ fn the_coverage_is_the_same_with_jumps() {
     for runner in [Runner::Plain, Runner::Skipping] {
         let mut coverage = Coverage::new();
         let start = waiting(101);
-        run_counted(runner, &rom, &[], &start, &mut [], 200, &mut coverage);
+        run_observed(runner, &rom, &[], &start, &mut [], 200, &mut coverage);
         assert_eq!((coverage.plain[0x05], coverage.skipped[0x05]), (51, 1));
         assert_eq!(coverage.plain[0xD2], 51);
         counts.push(coverage);
