@@ -3,6 +3,7 @@
 
 use std::io::Read;
 
+use reference::case::{next, record, top};
 use reference::{run, Runner, State};
 
 const SLICE: u64 = 100_000;
@@ -11,8 +12,8 @@ struct Generator(u32);
 
 impl Generator {
     fn next(&mut self) -> u8 {
-        self.0 = self.0.wrapping_mul(1_664_525).wrapping_add(1_013_904_223);
-        (self.0 >> 24) as u8
+        self.0 = next(self.0);
+        top(self.0)
     }
 }
 
@@ -48,8 +49,7 @@ fn make_schedule(from: &mut Generator) -> Vec<u8> {
     let mut cycle = 0;
     for _ in 0..4_096 {
         cycle += 1 + 16 * u64::from(from.next());
-        schedule.extend_from_slice(&u64::to_be_bytes(cycle)[2..]);
-        schedule.extend([from.next(), from.next(), from.next() % 2, 0]);
+        schedule.extend(record(cycle, from.next(), from.next(), from.next() % 2));
     }
     schedule
 }

@@ -103,11 +103,7 @@ impl Case {
 
     /// A schedule of these records: cycle, A and B, C and D, INT.
     pub fn schedule(mut self, records: &[(u64, u8, u8, u8)]) -> Case {
-        let mut bytes = Vec::new();
-        for &(cycle, ab, cd, int) in records {
-            bytes.extend_from_slice(&cycle.to_be_bytes()[2..]);
-            bytes.extend([ab, cd, int, 0]);
-        }
+        let bytes = schedule(records);
         self.schedule_length = bytes.len() as u16;
         self.schedule_patches = runs(0, &bytes);
         self
@@ -233,12 +229,11 @@ impl Case {
         let mut s = self.schedule_seed;
         let mut cycle = self.first;
         if s != 0 {
-            for record in schedule.chunks_mut(10) {
+            for place in schedule.chunks_mut(10) {
                 s = next(s);
                 let t = next(s);
-                let mut whole = cycle.to_be_bytes()[2..].to_vec();
-                whole.extend([top(s), below_top(s), top(t) >> 7, 0]);
-                record.copy_from_slice(&whole[..record.len()]);
+                let whole = record(cycle, top(s), below_top(s), top(t) >> 7);
+                place.copy_from_slice(&whole[..place.len()]);
                 cycle = cycle % (1 << 48) + 1;
                 if self.gap > 0 {
                     cycle += u64::from(t >> 16) % u64::from(self.gap);
@@ -262,6 +257,20 @@ impl Case {
         lay(&mut ram, &self.ram_patches);
         ram
     }
+}
+
+/// A record of a schedule: cycle, A and B, C and D, INT.
+pub fn record(cycle: u64, ab: u8, cd: u8, int: u8) -> Vec<u8> {
+    let mut record = cycle.to_be_bytes()[2..].to_vec();
+    record.extend([ab, cd, int, 0]);
+    record
+}
+
+pub fn schedule(records: &[(u64, u8, u8, u8)]) -> Vec<u8> {
+    records
+        .iter()
+        .flat_map(|&(cycle, ab, cd, int)| record(cycle, ab, cd, int))
+        .collect()
 }
 
 /// The generator.
@@ -345,6 +354,30 @@ fn registers(state: &State) -> Vec<u8> {
     bytes.extend([state.int, state.inte, state.tm, state.level]);
     bytes.extend([state.mark, state.owed, state.register, state.counter]);
     bytes
+}
+
+/// Every field at its highest.
+pub fn highest() -> State {
+    State {
+        pc: 0x7FF,
+        stack: [0x7FF; 3],
+        acc: 15,
+        carry: 1,
+        saved: 1,
+        dph: 7,
+        dpl: 15,
+        int: 1,
+        inte: 1,
+        tm: 1,
+        level: 1,
+        mark: 3,
+        owed: 3,
+        register: 63,
+        counter: 63,
+        ports: [15, 15, 15, 15, 15, 15, 7],
+        ram: [15; 96],
+        cycle: (1 << 48) - 1,
+    }
 }
 
 /// The bytes of a state that are digested.

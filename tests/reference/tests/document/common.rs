@@ -1,5 +1,6 @@
 //! ROMs, schedules and states to try things on.
 
+pub use reference::case::{record, schedule};
 pub use reference::draw::Draw;
 use reference::{run, Answer, Runner, State};
 
@@ -17,20 +18,6 @@ pub fn rom(parts: &[(usize, &[u8])]) -> Vec<u8> {
         rom[address..address + bytes.len()].copy_from_slice(bytes);
     }
     rom
-}
-
-/// One schedule record: cycle, ports A and B, C and D, INT level.
-pub fn record(cycle: u64, ab: u8, cd: u8, int: u8) -> Vec<u8> {
-    let mut record = cycle.to_be_bytes()[2..].to_vec();
-    record.extend([ab, cd, int, 0]);
-    record
-}
-
-pub fn schedule(records: &[(u64, u8, u8, u8)]) -> Vec<u8> {
-    records
-        .iter()
-        .flat_map(|&(cycle, ab, cd, int)| record(cycle, ab, cd, int))
-        .collect()
 }
 
 /// One log record.

@@ -1,5 +1,6 @@
 //! "Two runners", and the lists of demand 3.
 
+use reference::codes::{always_skips, can_skip, is_none};
 use reference::{restore, run, run_observed, save, Answer, Coverage, Runner, State};
 
 use crate::common::*;
@@ -412,30 +413,6 @@ fn the_log_past_its_records_stays_as_it_was() {
     assert!(full > 100, "{full}");
 }
 
-/// Whether an instruction with this code can skip.
-fn can_skip(code: u8) -> bool {
-    matches!(
-        code,
-        0x03..=0x05
-            | 0x08
-            | 0x09
-            | 0x0C
-            | 0x0D
-            | 0x0F
-            | 0x13
-            | 0x16
-            | 0x17
-            | 0x1D
-            | 0x1F
-            | 0x20..=0x27
-            | 0x2C..=0x2F
-            | 0x33..=0x37
-            | 0x3C..=0x3F
-            | 0x49
-            | 0x50..=0x5F
-    )
-}
-
 #[test]
 fn the_coverage_counts_each_instruction_begun() {
     let draw = &mut Draw::new(27);
@@ -463,8 +440,8 @@ fn the_coverage_counts_each_instruction_begun() {
         for code in 0..=255 {
             let plain = coverage.plain[usize::from(code)] > 0;
             let skipped = coverage.skipped[usize::from(code)] > 0;
-            let none = matches!(code, 0x1C | 0x45);
-            assert_eq!(plain, !none && code != 0x49, "code {code:02X}");
+            let never_plain = is_none(code) || always_skips(code);
+            assert_eq!(plain, !never_plain, "code {code:02X}");
             assert_eq!(skipped, can_skip(code), "code {code:02X}");
         }
     }

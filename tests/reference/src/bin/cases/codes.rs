@@ -2,10 +2,9 @@
 //! without and with a skip, and longer ones that show each result in the log.
 
 use reference::case::{Case, INSIDE, NO_STOPS};
+use reference::codes::{always_skips, can_skip, is_none};
 use reference::draw::Draw;
 use reference::{Coverage, State};
-
-use crate::{always_skips, can_skip, is_none};
 
 /// Codes of the programs.
 const DI: u8 = 0x01;

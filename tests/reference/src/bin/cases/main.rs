@@ -71,27 +71,11 @@ mod stops;
 use std::process::ExitCode;
 
 use reference::case::{digest, state_bytes, Case};
+use reference::codes::{always_skips, can_skip, is_none};
 use reference::maker::{make, Made};
 use reference::{Answer, Coverage};
 
 const TITLES: &str = "case number cycles clocks begun written steps state log\n";
-
-/// The codes that may skip.
-fn can_skip(code: u8) -> bool {
-    matches!(code,
-        0x03..=0x05 | 0x08 | 0x09 | 0x0C | 0x0D | 0x0F | 0x13 | 0x16 | 0x17 | 0x1D | 0x1F
-        | 0x20..=0x27 | 0x2C..=0x2F | 0x33..=0x37 | 0x3C..=0x3F | 0x49 | 0x50..=0x5F)
-}
-
-/// "1C and 45 are no instructions".
-fn is_none(code: u8) -> bool {
-    matches!(code, 0x1C | 0x45)
-}
-
-/// "RTS, then always a skip".
-fn always_skips(code: u8) -> bool {
-    code == 0x49
-}
 
 /// Each case on both runners.
 fn all_cases() -> Vec<Case> {

@@ -1,6 +1,6 @@
 //! Legal states to start from that no run reaches, and legal states of every kind.
 
-use reference::case::{Case, FEW_JCP, INSIDE, NO_STOPS};
+use reference::case::{highest, Case, FEW_JCP, INSIDE, NO_STOPS};
 use reference::draw::Draw;
 use reference::State;
 
@@ -10,7 +10,10 @@ pub fn cases() -> Vec<Case> {
     cases.extend(above_the_rom());
     cases.push(
         Case::new("every field at its highest")
-            .with(highest)
+            .state(State {
+                cycle: (1 << 48) - 10,
+                ..highest()
+            })
             .ram(0, &[15; 96])
             .n(9),
     );
@@ -95,18 +98,6 @@ fn above_the_rom() -> Vec<Case> {
         }
     }
     cases
-}
-
-fn highest(state: &mut State) {
-    state.pc = 0x7FF;
-    state.stack = [0x7FF; 3];
-    (state.acc, state.carry, state.saved) = (15, 1, 1);
-    (state.dph, state.dpl) = (7, 15);
-    (state.int, state.inte, state.tm, state.level) = (1, 1, 1, 1);
-    (state.mark, state.owed) = (3, 3);
-    (state.register, state.counter) = (63, 63);
-    state.ports = [15, 15, 15, 15, 15, 15, 7];
-    state.cycle = (1 << 48) - 10;
 }
 
 /// Any legal state, any ROM, records close together.

@@ -1,7 +1,7 @@
 //! What the variants are made of: states of real runs, states at the ends of their widths, images
 //! that are none, and shapes of images.
 
-use reference::case::{Case, INSIDE, NO_STOPS};
+use reference::case::{highest, Case, INSIDE, NO_STOPS};
 use reference::{save, Coverage, State};
 
 /// Bytes of an image.
@@ -36,29 +36,6 @@ fn first(case: &Case, from: u64, condition: impl Fn(&State) -> bool) -> State {
         .map(|n| case.clone().n(n).run(&mut Coverage::new()).0.state)
         .find(condition)
         .expect("no such state in 20,000 cycles")
-}
-
-pub fn highest() -> State {
-    State {
-        pc: 0x7FF,
-        stack: [0x7FF; 3],
-        acc: 15,
-        carry: 1,
-        saved: 1,
-        dph: 7,
-        dpl: 15,
-        int: 1,
-        inte: 1,
-        tm: 1,
-        level: 1,
-        mark: 3,
-        owed: 3,
-        register: 63,
-        counter: 63,
-        ports: [15, 15, 15, 15, 15, 15, 7],
-        ram: [15; 96],
-        cycle: (1 << 48) - 1,
-    }
 }
 
 /// PC above 7CF: a run that ends there with 22, after many codes.

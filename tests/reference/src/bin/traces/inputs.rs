@@ -6,6 +6,7 @@
 use std::fs;
 use std::path::Path;
 
+use reference::case::{record, schedule};
 use reference::trace;
 
 /// An input, and the last line of its text.
@@ -76,13 +77,6 @@ fn input(
     }
 }
 
-/// Cycle, lines A and B, C and D, INT level, last byte.
-fn record(cycle: u64, ab: u8, cd: u8, int: u8, last: u8) -> Vec<u8> {
-    let mut record = cycle.to_be_bytes()[2..].to_vec();
-    record.extend([ab, cd, int, last]);
-    record
-}
-
 fn example(name: &str, n: u32, schedule: &[u8], last: &'static str) -> Input {
     input(name, n, &[(0, &EXAMPLE)], schedule, last)
 }
@@ -110,7 +104,7 @@ fn schedule_lengths() -> Vec<Input> {
     };
     let mut full = Vec::new();
     for place in 0..4_096 {
-        full.extend(record(3 * place, place as u8, 0, 1, 0));
+        full.extend(record(3 * place, place as u8, 0, 1));
     }
     let mut inputs = vec![
         of_length(1, "refused 11"),
@@ -138,10 +132,12 @@ fn schedule_lengths() -> Vec<Input> {
 /// "then by record 13 bad INT or last byte, 14 cycle not above the last"
 fn records() -> Vec<Input> {
     let of = |name: &str, records: &[(u64, u8, u8)], last| {
-        let schedule: Vec<u8> = records
-            .iter()
-            .flat_map(|&(cycle, int, end)| record(cycle, 0, 0, int, end))
-            .collect();
+        let mut schedule = Vec::new();
+        for &(cycle, int, end) in records {
+            let mut bytes = record(cycle, 0, 0, int);
+            bytes[9] = end;
+            schedule.extend(bytes);
+        }
         example(name, 10, &schedule, last)
     };
     vec![
@@ -244,7 +240,7 @@ fn lines() -> Vec<Input> {
     for value in 0..16 {
         values.extend([0x90 + value, 0x44]);
     }
-    let fall = [record(0, 0xC3, 0, 1, 0), record(20, 0xA5, 0, 0, 0)].concat();
+    let fall = schedule(&[(0, 0xC3, 0, 1), (20, 0xA5, 0, 0)]);
     vec![
         input("OP to every port", 33, &[(0, &ports)], &[], "end 33 33 0"),
         input("every value", 48, &[(0, &values)], &[], "end 48 32 0"),
