@@ -45,21 +45,7 @@ fn saves_as(state: State, bytes: &[u8]) -> bool {
     if runs::outcome_number(outcome) != 0 {
         return false;
     }
-    equal(&again, bytes)
-}
-
-fn equal(a: &[u8], b: &[u8]) -> bool {
-    if a.len() != b.len() {
-        return false;
-    }
-    let mut i = 0;
-    while i < a.len() {
-        if a[i] != cases::byte(b, i) {
-            return false;
-        }
-        i += 1;
-    }
-    true
+    cases::equal(&again, bytes)
 }
 
 // Lends a save a buffer of so many bytes.
