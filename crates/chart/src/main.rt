@@ -1,5 +1,7 @@
 // Prints the chart of the codes, bytes and base cycles of each, and the positions of the timer's register.
 // It may not know how the tables are packed: it reads them as the runners do.
+use columns::column;
+use columns::number;
 use libc::STDOUT_FILENO;
 use tables::InstructionTable;
 use tables::PositionTable;
@@ -32,10 +34,8 @@ fn codes(table: &InstructionTable, high: u8)
     let mut low: u8 = 0;
     while low < 16 {
         let size = tables::size_of(table, 16 * high + low);
-        io::print_decimal(STDOUT_FILENO, size.bytes as u64);
-        io::write_all(STDOUT_FILENO, b"/");
-        io::print_decimal(STDOUT_FILENO, size.cycles as u64);
-        io::write_all(STDOUT_FILENO, b" ");
+        number(size.bytes as u64, b"/");
+        column(size.cycles as u64);
         low += 1;
     }
     io::write_all(STDOUT_FILENO, b"\n");
@@ -44,6 +44,5 @@ fn codes(table: &InstructionTable, high: u8)
 fn place(table: &PositionTable, register: u8)
     requires { ⌜ (now table ≡ positionTable) × (0 < register) × (register < 64) ⌝ }
 {
-    io::print_decimal(STDOUT_FILENO, tables::position(table, register) as u64);
-    io::write_all(STDOUT_FILENO, b" ");
+    column(tables::position(table, register) as u64);
 }

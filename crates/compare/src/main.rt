@@ -1,5 +1,8 @@
 // Runs the cases of standard input on either runner, as each case says, and writes a line for each: the same text that the other interpreter
 // writes of them. It may not know how a case is laid out, nor how a run goes.
+use columns::column;
+use columns::last;
+use columns::number;
 use libc::STDIN_FILENO;
 use libc::STDOUT_FILENO;
 use upd546::RunAnswer;
@@ -29,8 +32,7 @@ fn all(count: u16) {
         }
         k += 1;
     }
-    io::print_decimal(STDOUT_FILENO, count as u64);
-    io::write_all(STDOUT_FILENO, b" cases\n");
+    number(count as u64, b" cases\n");
 }
 
 fn cut_short() {
@@ -124,11 +126,5 @@ fn line(k: u16, answer: RunAnswer, log: u64) {
     column(answer.written as u64);
     column(answer.steps);
     column(cases::state_digest(state));
-    io::print_decimal(STDOUT_FILENO, log);
-    io::write_all(STDOUT_FILENO, b"\n");
-}
-
-fn column(n: u64) {
-    io::print_decimal(STDOUT_FILENO, n);
-    io::write_all(STDOUT_FILENO, b" ");
+    last(log);
 }

@@ -8,6 +8,9 @@ mod refused;
 mod slices;
 mod unbroken;
 
+use columns::column;
+use columns::last;
+use columns::number;
 use libc::STDIN_FILENO;
 use libc::STDOUT_FILENO;
 use lists::Tally;
@@ -46,8 +49,7 @@ fn all(file: &[u8]) {
         at += size;
         k += 1;
     }
-    io::print_decimal(STDOUT_FILENO, count as u64);
-    io::write_all(STDOUT_FILENO, b" panels\n");
+    number(count as u64, b" panels\n");
 }
 
 // The panel at a place of the file. Its size, or 0 where the file ends before the panel does.
@@ -130,11 +132,5 @@ fn line(k: u16, u: Unbroken, log: u64, steps: u64, cuts: Tally, drawn: Tally) {
     column(drawn.lists as u64);
     column(drawn.same as u64);
     column(drawn.slices as u64);
-    io::print_decimal(STDOUT_FILENO, drawn.refused as u64);
-    io::write_all(STDOUT_FILENO, b"\n");
-}
-
-fn column(n: u64) {
-    io::print_decimal(STDOUT_FILENO, n);
-    io::write_all(STDOUT_FILENO, b" ");
+    last(drawn.refused as u64);
 }

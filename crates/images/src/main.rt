@@ -5,6 +5,9 @@ mod tally;
 mod tries;
 mod variants;
 
+use columns::column;
+use columns::last;
+use columns::number;
 use libc::STDIN_FILENO;
 use libc::STDOUT_FILENO;
 use tally::Tally;
@@ -29,8 +32,7 @@ fn all(file: &[u8]) {
         line(g, tried(file, g));
         k += 1;
     }
-    io::print_decimal(STDOUT_FILENO, count as u64);
-    io::write_all(STDOUT_FILENO, b" groups\n");
+    number(count as u64, b" groups\n");
 }
 
 // All variants of a group.
@@ -56,8 +58,7 @@ fn line(g: Group, t: Tally) {
     column(t.version as u64);
     column(t.field as u64);
     column(t.same as u64);
-    io::print_decimal(STDOUT_FILENO, t.digest);
-    io::write_all(STDOUT_FILENO, b"\n");
+    last(t.digest);
 }
 
 fn name(trial: u8) {
@@ -71,9 +72,4 @@ fn name(trial: u8) {
         _ => io::write_all(STDOUT_FILENO, b"buffer "),
     }
     ;
-}
-
-fn column(n: u64) {
-    io::print_decimal(STDOUT_FILENO, n);
-    io::write_all(STDOUT_FILENO, b" ");
 }

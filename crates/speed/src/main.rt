@@ -1,5 +1,7 @@
 // Runs either runner on a made ROM and a full schedule, so that its speed can be measured (tests/speed). It may not know how a
 // run goes, nor the time.
+use columns::column;
+use columns::last;
 use libc::STDIN_FILENO;
 use libc::STDOUT_FILENO;
 use runs::MachineCycles;
@@ -194,11 +196,5 @@ fn print(sums: Sums) {
     column(sums.begun);
     column(sums.bytes);
     column(sums.digest as u64);
-    io::print_decimal(STDOUT_FILENO, sums.pc as u64);
-    io::write_all(STDOUT_FILENO, b"\n");
-}
-
-fn column(n: u64) {
-    io::print_decimal(STDOUT_FILENO, n);
-    io::write_all(STDOUT_FILENO, b" ");
+    last(sums.pc as u64);
 }

@@ -1,5 +1,6 @@
 // The text of program `trace` for each input of standard input, the same text that the other interpreter writes of them. The file and
 // the text are told at the top of tests/reference/src/bin/traces/main.rs. It may not know how an input is split, nor how a run goes.
+use columns::number;
 use libc::STDIN_FILENO;
 use libc::STDOUT_FILENO;
 ghost use Prim.Native.Nat.{_≤_};
@@ -24,8 +25,7 @@ fn all(count: u16) {
         }
         k += 1;
     }
-    io::print_decimal(STDOUT_FILENO, count as u64);
-    io::write_all(STDOUT_FILENO, b" inputs\n");
+    number(count as u64, b" inputs\n");
 }
 
 fn cut_short() {
@@ -76,8 +76,6 @@ fn tell(k: u16, input: &[u8]) {
 
 fn title(k: u16, size: usize) {
     io::write_all(STDOUT_FILENO, b"input ");
-    io::print_decimal(STDOUT_FILENO, k as u64);
-    io::write_all(STDOUT_FILENO, b" of ");
-    io::print_decimal(STDOUT_FILENO, size as u64);
-    io::write_all(STDOUT_FILENO, b" bytes\n");
+    number(k as u64, b" of ");
+    number(size as u64, b" bytes\n");
 }
