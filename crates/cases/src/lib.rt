@@ -15,6 +15,7 @@ pub use bytes::HEAD;
 pub use bytes::byte;
 pub use bytes::equal;
 pub use bytes::four;
+pub use bytes::least;
 pub use bytes::next;
 pub use bytes::size;
 pub use bytes::store;

@@ -24,7 +24,7 @@ pub fn run(
 pub fn room(n: u32, space: usize) -> usize
     ensures { λ r. ⌜ r ≤ space ⌝ }
 {
-    least(8 * (n as usize) + 8, space)
+    cases::least(8 * (n as usize) + 8, space)
 }
 
 // Whether the bytes from a place on are those that stood there before the run.
@@ -37,13 +37,4 @@ pub fn untouched(log: &[u8], from: usize) -> bool {
         i += 1;
     }
     true
-}
-
-pub fn least(a: usize, b: usize) -> usize
-    ensures { λ r. ⌜ (r ≤ a) × (r ≤ b) ⌝ }
-{
-    if a < b {
-        return a;
-    }
-    b
 }

@@ -101,7 +101,7 @@ fn begin(k: u16, head: &[u8], case: &[u8], rom: &[u8], schedule: &[u8]) {
 // The unbroken run. The lists are compared with what it wrote.
 fn whole(k: u16, head: &[u8], rom: &[u8], schedule: &[u8], start: State, n: u32, log: &mut [u8]) {
     let u = unbroken::run(rom, schedule, start, n, log);
-    let written = lent::least(u.written, log.len());
+    let written = cases::least(u.written, log.len());
     cut(k, u, head, rom, schedule, &log[..written]);
 }
 
