@@ -32,7 +32,7 @@ pub fn word(case: &[u8], at: usize) -> u16
 
 // Four bytes.
 pub fn long(case: &[u8], at: usize) -> u32
-    requires { ⌜ at < 65536 ⌝ }
+    requires { ⌜ at < 2147483648 ⌝ }
 {
     four(word(case, at), word(case, at + 2))
 }

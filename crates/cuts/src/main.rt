@@ -109,7 +109,7 @@ fn whole(k: u16, head: &[u8], rom: &[u8], schedule: &[u8], start: State, n: u32,
 fn cut(k: u16, u: Unbroken, head: &[u8], rom: &[u8], schedule: &[u8], log: &[u8]) {
     let last = cases::word(head, 0);
     let count = cases::word(head, 2);
-    let seed = cases::four(cases::word(head, 4), cases::word(head, 6));
+    let seed = cases::long(head, 4);
     let mut space = io::large_buffer();
     let steps = unbroken::steps(u, rom, schedule, &mut space);
     let cuts = lists::cuts(u, last, rom, schedule, log, &mut space);

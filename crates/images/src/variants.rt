@@ -39,8 +39,8 @@ pub fn read_group(file: &[u8], k: u16) -> Group {
         span: cases::byte(file, from + 3),
         first: cases::word(file, from + 4),
         second: cases::word(file, from + 6),
-        tries: cases::four(cases::word(file, from + 8), cases::word(file, from + 10)),
-        seed: cases::four(cases::word(file, from + 12), cases::word(file, from + 14)),
+        tries: cases::long(file, from + 8),
+        seed: cases::long(file, from + 12),
     }
 }
 

@@ -39,7 +39,7 @@ fn one(k: u16) -> bool {
     if got < 6 {
         return false;
     }
-    let size = cases::four(cases::word(&head, 0), cases::word(&head, 2)) as usize;
+    let size = cases::long(&head, 0) as usize;
     let given = cases::word(&head, 4) as usize;
     let mut space = io::large_buffer();
     let taken = take(&mut space, size, given);

@@ -14,29 +14,20 @@ read-full-requires c κs = search needs
 returns : tie.Need-returns
 returns c = search needs
 
+slice-aggregate-long : tie.Need-slice-aggregate-long
+slice-aggregate-long c = search needs
+
+long-requires : tie.Need-long-requires
+long-requires c κs = search needs
+
+cast-size : tie.Need-cast-size
+cast-size c = search needs
+
 slice-aggregate-word : tie.Need-slice-aggregate-word
 slice-aggregate-word c = search needs
 
 word-requires : tie.Need-word-requires
 word-requires c κs = search needs
-
-slice-aggregate-word-2 : tie.Need-slice-aggregate-word-2
-slice-aggregate-word-2 c = search needs
-
-word-requires-2 : tie.Need-word-requires-2
-word-requires-2 c κs = search needs
-
-four-requires : tie.Need-four-requires
-four-requires c κs = search needs
-
-cast-size : tie.Need-cast-size
-cast-size c = search needs
-
-slice-aggregate-word-3 : tie.Need-slice-aggregate-word-3
-slice-aggregate-word-3 c = search needs
-
-word-requires-3 : tie.Need-word-requires-3
-word-requires-3 c κs = search needs
 
 cast-given : tie.Need-cast-given
 cast-given c = search needs
@@ -72,14 +63,11 @@ one-spec =
     slice-aggregate-read-full
     read-full-requires
     returns
+    slice-aggregate-long
+    long-requires
+    cast-size
     slice-aggregate-word
     word-requires
-    slice-aggregate-word-2
-    word-requires-2
-    four-requires
-    cast-size
-    slice-aggregate-word-3
-    word-requires-3
     cast-given
     large-buffer-requires
     slice-aggregate-take
