@@ -14,6 +14,6 @@ pub fn column(n: u64) {
 }
 
 // The last number of a line.
-pub fn last(n: u64) {
+pub fn last_column(n: u64) {
     number(n, b"\n");
 }

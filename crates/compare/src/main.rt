@@ -1,7 +1,7 @@
 // Runs the cases of standard input on either runner, as each case says, and writes a line for each: the same text that the other interpreter
 // writes of them. It may not know how a case is laid out, nor how a run goes.
 use columns::column;
-use columns::last;
+use columns::last_column;
 use columns::number;
 use libc::STDIN_FILENO;
 use libc::STDOUT_FILENO;
@@ -126,5 +126,5 @@ fn line(k: u16, answer: RunAnswer, log: u64) {
     column(answer.written as u64);
     column(answer.steps);
     column(cases::state_digest(state));
-    last(log);
+    last_column(log);
 }

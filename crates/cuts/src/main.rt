@@ -9,7 +9,7 @@ mod slices;
 mod unbroken;
 
 use columns::column;
-use columns::last;
+use columns::last_column;
 use columns::number;
 use libc::STDIN_FILENO;
 use libc::STDOUT_FILENO;
@@ -132,5 +132,5 @@ fn line(k: u16, u: Unbroken, log: u64, steps: u64, cuts: Tally, drawn: Tally) {
     column(drawn.lists as u64);
     column(drawn.same as u64);
     column(drawn.slices as u64);
-    last(drawn.refused as u64);
+    last_column(drawn.refused as u64);
 }

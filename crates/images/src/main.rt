@@ -6,7 +6,7 @@ mod tries;
 mod variants;
 
 use columns::column;
-use columns::last;
+use columns::last_column;
 use columns::number;
 use libc::STDIN_FILENO;
 use libc::STDOUT_FILENO;
@@ -58,7 +58,7 @@ fn line(g: Group, t: Tally) {
     column(t.version as u64);
     column(t.field as u64);
     column(t.same as u64);
-    last(t.digest);
+    last_column(t.digest);
 }
 
 fn name(trial: u8) {

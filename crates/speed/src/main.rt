@@ -1,7 +1,7 @@
 // Runs either runner on a made ROM and a full schedule, so that its speed can be measured (tests/speed). It may not know how a
 // run goes, nor the time.
 use columns::column;
-use columns::last;
+use columns::last_column;
 use libc::STDIN_FILENO;
 use libc::STDOUT_FILENO;
 use runs::MachineCycles;
@@ -196,5 +196,5 @@ fn print(sums: Sums) {
     column(sums.begun);
     column(sums.bytes);
     column(sums.digest as u64);
-    last(sums.pc as u64);
+    last_column(sums.pc as u64);
 }
