@@ -1,6 +1,6 @@
 // The cases of the comparison with the other interpreter: how ROM, schedule, state and log are made of a case's bytes, and the
 // digests of what a run leaves. The file, the filters and the digest are told at the top of tests/reference/src/bin/cases/main.rs.
-// Programs `images` and `cuts` take their states, their generator and their digests from here. It may not know how a run goes.
+// The other test programs read numbers, make states, draw and digest by it too. It may not know how a run goes.
 //
 // The head of a case, by the place of each first byte: 0 runner; ROM: 1 filters, 2 length, 4 seed; schedule: 8 length, 10 gap,
 // 12 seed, 16 first cycle; 24 RAM seed; 28 length of the log; 32 n; 40 cycle number; 48 PC; 50 stack; 56 Acc, C, C', DPH, DPL,
@@ -20,6 +20,7 @@ pub use bytes::next;
 pub use bytes::size;
 pub use bytes::store;
 pub use bytes::top;
+pub use bytes::two;
 pub use bytes::word;
 pub use digest::log_digest;
 pub use digest::state_digest;

@@ -26,23 +26,15 @@ fn main() {
         io::write_all(STDOUT_FILENO, b"the input is cut short\n");
         return;
     }
-    let seed = four(two(input[0], input[1]), two(input[2], input[3]));
+    let seed = cases::long(&input, 0);
     let load = input[4];
     let runner = input[5];
-    let slices = two(input[6], input[7]);
+    let slices = cases::word(&input, 6);
     if runner > 1 {
         io::write_all(STDOUT_FILENO, b"no such runner\n");
         return;
     }
     measure(seed, load, slices, runner);
-}
-
-fn two(high: u8, low: u8) -> u16 {
-    (high as u16) * 256 + (low as u16)
-}
-
-fn four(high: u16, low: u16) -> u32 {
-    (high as u32) * 65536 + (low as u32)
 }
 
 fn measure(seed: u32, load: u8, slices: u16, runner: u8) {
@@ -53,21 +45,13 @@ fn measure(seed: u32, load: u8, slices: u16, runner: u8) {
     print(run_slices(&rom, &schedule, slices, runner));
 }
 
-fn next_seed(s: u32) -> u32 {
-    (((s as u64) * 1664525 + 1013904223) % 4294967296) as u32
-}
-
-fn top(s: u32) -> u8 {
-    (s / 16777216) as u8
-}
-
 // The last number of the generator is the answer.
 fn make_rom(seed: u32, load: u8, rom: &mut [u8; 2000]) -> u32 {
     let mut s = seed;
     let mut i: usize = 0;
     while i < 2000 {
-        s = next_seed(s);
-        rom[i] = staying(code(load, top(s)));
+        s = cases::next(s);
+        rom[i] = staying(code(load, cases::top(s)));
         i += 1;
     }
     if load == 2 {
@@ -112,15 +96,15 @@ fn make_schedule(seed: u32, schedule: &mut [u8; 40960]) {
     let mut cycle: u32 = 0;
     let mut i: usize = 0;
     while i < 4096 {
-        let gap = next_seed(s);
-        let a = next_seed(gap);
-        let b = next_seed(a);
-        s = next_seed(b);
+        let gap = cases::next(s);
+        let a = cases::next(gap);
+        let b = cases::next(a);
+        s = cases::next(b);
         cycle = cycle + 1 + 16 * (gap / 16777216);
         put_cycle(schedule, 10 * i, cycle);
-        schedule[10 * i + 6] = top(a);
-        schedule[10 * i + 7] = top(b);
-        schedule[10 * i + 8] = top(s) % 2;
+        schedule[10 * i + 6] = cases::top(a);
+        schedule[10 * i + 7] = cases::top(b);
+        schedule[10 * i + 8] = cases::top(s) % 2;
         i += 1;
     }
 }
@@ -129,7 +113,7 @@ fn make_schedule(seed: u32, schedule: &mut [u8; 40960]) {
 fn put_cycle(schedule: &mut [u8; 40960], at: usize, cycle: u32)
     requires { ⌜ at ≤ 40950 ⌝ }
 {
-    schedule[at + 2] = top(cycle);
+    schedule[at + 2] = cases::top(cycle);
     schedule[at + 3] = (cycle / 65536 % 256) as u8;
     schedule[at + 4] = (cycle / 256 % 256) as u8;
     schedule[at + 5] = (cycle % 256) as u8;
@@ -187,7 +171,7 @@ fn digest(sum: u32, log: &[u8; 808008], written: usize) -> u32 {
     if written > 808008 {
         return sum;
     }
-    let last = two(log[written - 3], log[written - 1]);
+    let last = cases::two(log[written - 3], log[written - 1]);
     (((sum as u64) * 31 + (last as u64)) % 1000000007) as u32
 }
 

@@ -13,8 +13,8 @@ abbrev μ-loop : tie.MeasureT-loop
 loop-holds : tie.Need-loop-holds Inv-loop μ-loop
 loop-holds c = search needs
 
-next-seed-requires : tie.Need-next-seed-requires Inv-loop μ-loop
-next-seed-requires c κs = search needs
+next-requires : tie.Need-next-requires Inv-loop μ-loop
+next-requires c κs = search needs
 
 top-requires : tie.Need-top-requires Inv-loop μ-loop
 top-requires c κs = search needs
@@ -53,7 +53,7 @@ make-rom-spec =
     Inv-loop
     μ-loop
     loop-holds
-    next-seed-requires
+    next-requires
     top-requires
     code-requires
     staying-requires

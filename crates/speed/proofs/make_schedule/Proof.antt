@@ -13,17 +13,17 @@ abbrev μ-loop : tie.MeasureT-loop
 loop-holds : tie.Need-loop-holds Inv-loop μ-loop
 loop-holds c = search needs
 
-next-seed-requires : tie.Need-next-seed-requires Inv-loop μ-loop
-next-seed-requires c κs = search needs
+next-requires : tie.Need-next-requires Inv-loop μ-loop
+next-requires c κs = search needs
 
-next-seed-requires-2 : tie.Need-next-seed-requires-2 Inv-loop μ-loop
-next-seed-requires-2 c κs = search needs
+next-requires-2 : tie.Need-next-requires-2 Inv-loop μ-loop
+next-requires-2 c κs = search needs
 
-next-seed-requires-3 : tie.Need-next-seed-requires-3 Inv-loop μ-loop
-next-seed-requires-3 c κs = search needs
+next-requires-3 : tie.Need-next-requires-3 Inv-loop μ-loop
+next-requires-3 c κs = search needs
 
-next-seed-requires-4 : tie.Need-next-seed-requires-4 Inv-loop μ-loop
-next-seed-requires-4 c κs = search needs
+next-requires-4 : tie.Need-next-requires-4 Inv-loop μ-loop
+next-requires-4 c κs = search needs
 
 add-cycle : tie.Need-add-cycle Inv-loop μ-loop
 add-cycle c = search needs
@@ -95,10 +95,10 @@ make-schedule-spec =
     Inv-loop
     μ-loop
     loop-holds
-    next-seed-requires
-    next-seed-requires-2
-    next-seed-requires-3
-    next-seed-requires-4
+    next-requires
+    next-requires-2
+    next-requires-3
+    next-requires-4
     add-cycle
     mul-cycle
     add-cycle-2
