@@ -5,7 +5,7 @@ use Prim.Native.Nat.{ℕ, _+_, _<_, _≤_}
 use lib.ListN.{length}
 use Rattle.runs.specs.Machine.{went}
 use Rattle.runs.specs.TwoRunners.{cycleLimit, logBound, unbroken}
-use Rattle.runs.specs.Laws.{Panel, Stepped, CycleLaws}
+use Rattle.runs.specs.Laws.{Panel, Cycled, CycleLaws}
 use Rattle.runs.proofs.Iterate as iterate
 use Rattle.upd546.specs.declared.State.{State}
 use Rattle.upd546.specs.OneMachineCycle.{cycle}
@@ -22,7 +22,7 @@ chip-laws = record {
 }
   where
     step : (rom sched : List ℕ) (s t : State) (w : List ℕ) (b : ℕ) → Panel upd546 rom sched → stateNumber s ≡ 0 → s .cycle .0 < cycleLimit
-        → cycle rom sched s ≡ went t w b → Stepped upd546 debt s t w
+        → cycle rom sched s ≡ went t w b → Cycled upd546 debt s t w
     step rom sched s t w b p v h e =
         let k = cycle-keeps rom sched s t w b (p .rom-bytes) (p .sched-bytes) (p .accepted) (accepted-valid s v) h e in
         record { sound = valid-accepted t (k .valid); rises = k .rises; records = k .records }

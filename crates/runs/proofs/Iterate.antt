@@ -1,12 +1,12 @@
 -- Cycles one after the other: what n of them keep, and that they append at most 8n + 8 bytes. Assumes nothing.
 use mathlib.Core.Path.{_≡_, refl}
-use mathlib.Core.List.{List, [], _∷_, _++_}
-use Prim.Native.Nat.{ℕ, zero, suc, _+_, _*_, _<_, _≤_}
+use mathlib.Core.List.{List}
+use Prim.Native.Nat.{ℕ, zero, suc, _+_, _*_, _≤_}
 use native.Mathlib.Omega.{arith}
 use lib.ListN.{length, length-append}
 use Rattle.runs.specs.Machine.{Machine, Out, stop, went}
 use Rattle.runs.specs.TwoRunners.{cycleLimit, logBound, Ran, unbroken}
-use Rattle.runs.specs.Laws.{Panel, Stepped, CycleLaws}
+use Rattle.runs.specs.Laws.{Panel, CycleLaws}
 
 -- where n cycles from s stand: an accepted state, a cycle number that rose by the cycles done, and so many bytes at most
 pub record Reached (M : Machine) (debt : M .State → ℕ) (n : ℕ) (s : M .State) (r : Ran (M .State)) : Type 0 where

@@ -17,7 +17,7 @@ pub record Panel (M : Machine) (rom sched : List ℕ) : Type 0 where
   pub accepted : M .panelNumber rom sched ≡ 0
 
 -- a cycle from s to t that appends w; debt is what a second record still has to be paid with
-pub record Stepped (M : Machine) (debt : M .State → ℕ) (s t : M .State) (w : List ℕ) : Type 0 where
+pub record Cycled (M : Machine) (debt : M .State → ℕ) (s t : M .State) (w : List ℕ) : Type 0 where
   pub sound : M .stateNumber t ≡ 0
   pub rises : M .at t ≡ suc (M .at s)
   pub records : length w + debt s ≤ 8 + debt t
@@ -27,7 +27,7 @@ pub record CycleLaws (M : Machine) : Type 0 where
   pub debt-small : (s : M .State) → debt s ≤ 8
   -- a cycle keeps the state accepted, adds 1 to the cycle number and appends 8 bytes at most, but for what it owes
   pub step : (rom sched : List ℕ) (s t : M .State) (w : List ℕ) (b : ℕ) → Panel M rom sched → M .stateNumber s ≡ 0 → M .at s < cycleLimit
-      → M .cycle rom sched s ≡ went t w b → Stepped M debt s t w
+      → M .cycle rom sched s ≡ went t w b → Cycled M debt s t w
 
 -- "a state saved and restored is the same state" (demand 2): the image of an accepted state has its length, is accepted, and is
 -- the image of that state
