@@ -1,5 +1,5 @@
 -- The numbers that refuse an image, in their order. Assumes nothing.
-use mathlib.Core.Path.{_≡_, _∙_, refl, sym, ap}
+use mathlib.Core.Path.{_≡_, _∙_, refl, sym}
 use mathlib.Core.Bool.{Bool, true, false, _&&_}
 use mathlib.Core.List.{List, [], _∷_}
 use Prim.Native.Nat.{ℕ, zero, suc, _+_, _-_, _≤_, _<_}
@@ -8,13 +8,13 @@ use native.Mathlib.Omega.{arith}
 use lib.Dec.{eqb, ltb}
 use lib.ListN.{length, getD, drop, drop-of-length-le}
 use lib.Seq.{drop-cons}
-use borrow.Author.Tests.{eq-eqb, ne-eqb, eqb-true, lt-ltb, le-ltb, ltb-true}
+use borrow.Author.Tests.{eq-eqb, ne-eqb, eqb-true, lt-ltb, le-ltb}
 use Rattle.runs.specs.TwoRunners.{firstOf, unless, restored}
 use Rattle.runs.proofs.Refusals.{first-at, passes}
-use Rattle.upd546.specs.declared.State.{State}
 use Rattle.upd546.specs.TheMachine.{fresh}
 use Rattle.upd546.specs.Tests.{sameNumbers}
-use Rattle.upd546.specs.StateImage.{imageLength, imageMark, imageVersion, part, byte, ofImage, stateSound, stateNumber, fieldsNumber, imageNumber}
+use Rattle.upd546.specs.Bytes.{part}
+use Rattle.upd546.specs.StateImage.{imageLength, imageMark, imageVersion, byte, ofImage, stateSound, stateNumber, fieldsNumber, imageNumber}
 use Rattle.upd546.specs.TwoRunners.{upd546}
 use Rattle.laws.proofs.Parts.{part-cons}
 use Rattle.image.specs.Parts.{headNumber}

@@ -1,11 +1,10 @@
 -- Part behind part: what the stores of a save leave in the buffer. Assumes nothing.
-use mathlib.Core.Path.{_≡_, _∙_, refl, sym, ap}
-use mathlib.Core.List.{List, [], _∷_, _++_}
+use mathlib.Core.Path.{_≡_, _∙_, refl, ap}
+use mathlib.Core.List.{List, [], _++_}
 use Prim.Native.Nat.{ℕ, zero, suc, _+_, _*_, _≤_}
 use native.Mathlib.Omega.{arith}
 use lib.ListN.{length, take, drop, length-append}
-use Rattle.runs.specs.TwoRunners.{firstOf, saveNumber, saved, put}
-use Rattle.runs.specs.TwoRunners as runners
+use Rattle.runs.specs.TwoRunners.{firstOf, saveNumber, saved}
 use Rattle.upd546.specs.declared.Core.{Core}
 use Rattle.upd546.specs.declared.State.{State}
 use Rattle.upd546.specs.Bytes.{bytesOf}

@@ -1,13 +1,13 @@
 -- Parts of an image that the code writes and reads by themselves. Assumes nothing: these are definitions.
-use Prim.Native.Nat.{ℕ, _+_, _*_, _/_, _%_}
+use Prim.Native.Nat.{ℕ, _+_}
 use mathlib.Core.List.{List, [], _∷_, _++_}
 use lib.Dec.{eqb, ltb}
 use lib.ListN.{length}
 use Rattle.runs.specs.TwoRunners.{firstOf, unless}
 use Rattle.upd546.specs.declared.Core.{Core}
-use Rattle.upd546.specs.Bytes.{bytesOf}
+use Rattle.upd546.specs.Bytes.{bytesOf, part}
 use Rattle.upd546.specs.Tests.{sameNumbers}
-use Rattle.upd546.specs.StateImage.{imageLength, imageMark, imageVersion, wordsBytes, coreBytes, part, byte, ofImage}
+use Rattle.upd546.specs.StateImage.{imageLength, imageMark, imageVersion, wordsBytes, coreBytes, byte, ofImage}
 
 -- bytes 0 to 19
 abbrev pub frontBytes : Core → List ℕ

@@ -20,9 +20,9 @@ ghost use lib.ListN.{length, take, drop};
 ghost use Rattle.runs.specs.Numbers.{outcomeNumber};
 ghost use Rattle.runs.specs.TwoRunners.{saved, restored};
 ghost use Rattle.upd546.specs.TheMachine.{latches, ramLength, fresh};
-ghost use Rattle.upd546.specs.Bytes.{bytesOf, numberOf};
+ghost use Rattle.upd546.specs.Bytes.{bytesOf, numberAt, part};
 ghost use Rattle.upd546.specs.Tests.{sameNumbers};
-ghost use Rattle.upd546.specs.StateImage.{imageLength, wordsBytes, coreBytes, packed, imageOf, part, byte, unpacked, ofImage};
+ghost use Rattle.upd546.specs.StateImage.{imageLength, wordsBytes, coreBytes, packed, imageOf, unpacked, ofImage};
 ghost use Rattle.upd546.specs.TwoRunners.{upd546, saveOf, restoreOf};
 ghost use Rattle.laws.specs.Valid.{Scalars, ValidCore, ValidRam, Valid};
 ghost use Rattle.image.specs.Parts.{frontBytes, coreOf, headNumber};
@@ -105,19 +105,6 @@ fn ram_bytes(words: [u8; RAM_WORDS]) -> [u8; RAM_BYTES]
     bytes
 }
 
-fn cycle_bytes(n: u64) -> [u8; 6]
-    ensures { λ r. ⌜ r ≡ bytesOf 6 n ⌝ }
-{
-    [
-        (n / 1099511627776 % 256) as u8,
-        (n / 4294967296 % 256) as u8,
-        (n / 16777216 % 256) as u8,
-        (n / 65536 % 256) as u8,
-        (n / 256 % 256) as u8,
-        (n % 256) as u8,
-    ]
-}
-
 // Bytes 0 to 19.
 fn write_core(c: Core, buffer: &mut [u8])
     requires { ⌜ ValidCore c × (imageLength ≤ length (now buffer)) ⌝ }
@@ -141,7 +128,7 @@ fn write(s: State, buffer: &mut [u8])
     write_core(s.core, buffer);
     put(buffer, PORTS_AT, &ports);
     put(buffer, RAM_AT, &ram_bytes(words));
-    put(buffer, CYCLE_AT, &cycle_bytes(s.cycle.0));
+    big_endian::put_six(&mut buffer[CYCLE_AT..], s.cycle.0);
 }
 
 // SAVE: 34, then 1, and then 81 bytes only.
@@ -176,30 +163,9 @@ fn stands_at(bytes: &[u8], at: usize, expected: &[u8]) -> bool
 
 fn word_at(bytes: &[u8], at: usize) -> u16
     requires { ⌜ at + 2 ≤ length (now bytes) ⌝ }
-    ensures { λ r. ⌜ r ≡ numberOf (part (now (bytes .entry)) at 2) ⌝ }
+    ensures { λ r. ⌜ r ≡ numberAt (now (bytes .entry)) at 2 ⌝ }
 {
-    256 * (bytes[at] as u16) + (bytes[at + 1] as u16)
-}
-
-// A byte as a u64.
-fn wide_at(bytes: &[u8], at: usize) -> u64
-    requires { ⌜ at < length (now bytes) ⌝ }
-    ensures { λ r. ⌜ (r ≡ byte (now (bytes .entry)) at) × (r < 256) ⌝ }
-{
-    bytes[at] as u64
-}
-
-fn cycle_at(bytes: &[u8]) -> u64
-    requires { ⌜ length (now bytes) ≡ imageLength ⌝ }
-    ensures { λ r. ⌜ r ≡ numberOf (part (now (bytes .entry)) 75 6) ⌝ }
-{
-    let b0 = wide_at(bytes, CYCLE_AT);
-    let b1 = wide_at(bytes, CYCLE_AT + 1);
-    let b2 = wide_at(bytes, CYCLE_AT + 2);
-    let b3 = wide_at(bytes, CYCLE_AT + 3);
-    let b4 = wide_at(bytes, CYCLE_AT + 4);
-    let b5 = wide_at(bytes, CYCLE_AT + 5);
-    ((((b0 * 256 + b1) * 256 + b2) * 256 + b3) * 256 + b4) * 256 + b5
+    big_endian::number_at(bytes, at, 2) as u16
 }
 
 fn core_at(bytes: &[u8]) -> Core
@@ -277,7 +243,7 @@ fn state_at(bytes: &[u8]) -> State
         core: core_at(bytes),
         ports: ports_at(bytes),
         ram: ram_at(bytes),
-        cycle: MachineCycles(cycle_at(bytes)),
+        cycle: MachineCycles(big_endian::number_at(bytes, CYCLE_AT, 6)),
     }
 }
 

@@ -1,12 +1,12 @@
 -- A machine cycle keeps every field within its width, adds 1 to the cycle number and appends at most 8 bytes, but 8 more where
 -- it leaves cycles owed. Assumes nothing.
-use mathlib.Core.Path.{_≡_, _∙_, refl, sym, ap, subst}
+use mathlib.Core.Path.{_≡_, _∙_, refl, subst}
 use mathlib.Core.Bool.{Bool, true, false, cond}
-use mathlib.Core.List.{List, [], _∷_, _++_}
-use Prim.Native.Nat.{ℕ, zero, suc, _+_, _-_, _*_, _/_, _%_, _<_, _≤_}
+use mathlib.Core.List.{List, [], _∷_}
+use Prim.Native.Nat.{ℕ, zero, suc, _+_, _-_, _*_, _<_, _≤_}
 use native.Mathlib.Omega.{arith}
-use lib.Dec.{T, eqb, leb, ltb, ltb→lt}
-use lib.ListN.{length, getD, set, length-set}
+use lib.Dec.{T, eqb, ltb, ltb→lt}
+use lib.ListN.{length, set, length-set}
 use borrow.Author.Tests.{eqb-false, ltb-true}
 use Rattle.runs.specs.Machine.{Out, stop, went}
 use Rattle.runs.specs.TwoRunners.{cycleLimit}
@@ -16,18 +16,18 @@ use Rattle.upd546.specs.declared.Core.{Core}
 use Rattle.upd546.specs.declared.Timer.{Timer}
 use Rattle.upd546.specs.declared.Lines.{Lines}
 use Rattle.upd546.specs.declared.State.{State}
-use Rattle.upd546.specs.TheMachine.{addresses, byteAt, follows, past, wordAt, withWord, placeOf, pushed, markStm}
+use Rattle.upd546.specs.TheMachine.{addresses, byteAt, follows, past, withWord, placeOf, markStm}
 use Rattle.upd546.specs.Parts.{withTimer, setOwed, setPc}
 use Rattle.upd546.specs.TheLineSchedule.{linesAt}
-use Rattle.upd546.specs.Ports.{Write, latched, logBytes, portC, portI}
-use Rattle.upd546.specs.Timer.{stepRegister, returnedTimer, tick}
+use Rattle.upd546.specs.Ports.{Write, latched, logBytes, portC}
+use Rattle.upd546.specs.Timer.{stepRegister, tick}
 use Rattle.upd546.specs.Instructions.{Given, Effect, Instruction, instruction}
 use Rattle.upd546.specs.OneMachineCycle.{accepts, accepted, taken, paid, ticked, ended, quiet, given, instructionStop, passedOver, begun, onStop, execute, onOwed, onAccepts, cycle}
 use Rattle.upd546.specs.TwoRunners.{panelNumber}
 use Rattle.upd546.proofs.Computed.{every-at}
-use Rattle.laws.specs.Valid.{Scalars, ValidStack, ValidCore, ValidPorts, ValidRam, Valid, ValidLines}
+use Rattle.laws.specs.Valid.{Scalars, ValidCore, ValidPorts, ValidRam, Valid, ValidLines}
 use Rattle.laws.proofs.Lists.{below-set, set-entry}
-use Rattle.laws.proofs.Instructions.{All, none, more, ValidWrite, ValidGiven, ValidEffect, Keeps, keeps, pushed-valid}
+use Rattle.laws.proofs.Instructions.{All, more, ValidWrite, ValidGiven, Keeps, keeps, pushed-valid}
 use Rattle.laws.proofs.Lines.{lines-valid}
 
 -- THE TIMER

@@ -1,6 +1,6 @@
 -- Save and restore are exact both ways. Assumes nothing.
 use mathlib.Core.Path.{_≡_, _∙_, refl, sym, ap, ap₂, subst}
-use mathlib.Core.Bool.{Bool, true, false, _&&_}
+use mathlib.Core.Bool.{true, _&&_}
 use mathlib.Core.List.{List, [], _∷_, _++_, append-assoc}
 use Prim.Native.Nat.{ℕ, zero, suc, _+_, _*_, _/_, _%_, _<_, _≤_}
 use native.Mathlib.Omega.{arith}
@@ -8,22 +8,22 @@ use lib.Dec.{eqb, ltb, eqb→eq}
 use lib.ListN.{length, getD, take, drop, length-append}
 use lib.Seq.{take-all, take-add, take-at, drop-at}
 use borrow.Author.Tests.{eq-eqb, eqb-true, lt-ltb, ltb-true, le-leb}
-use Rattle.runs.specs.TwoRunners.{firstOf, unless, saveNumber, saved, restored}
+use Rattle.runs.specs.TwoRunners.{firstOf, saveNumber, saved, restored}
 use Rattle.runs.specs.Laws.{Bytes}
 use Rattle.runs.proofs.Refusals.{first-at, passes}
 use Rattle.upd546.specs.declared.Core.{Core}
 use Rattle.upd546.specs.declared.State.{State}
-use Rattle.upd546.specs.TheMachine.{addresses, stackDepth, latches, dpOf, entries}
-use Rattle.upd546.specs.Bytes.{bitAt, numberOf, bytesOf}
+use Rattle.upd546.specs.TheMachine.{addresses, stackDepth, dpOf, entries}
+use Rattle.upd546.specs.Bytes.{bitAt, numberOf, bytesOf, part}
 use Rattle.upd546.specs.Tests.{sameNumbers}
-use Rattle.upd546.specs.StateImage.{imageLength, imageMark, imageVersion, wordsBytes, flagsByte, coreBytes, packed, imageOf, part, byte, unpacked, ofImage, stateSound, stateNumber, fieldsNumber, imageNumber}
+use Rattle.upd546.specs.StateImage.{imageLength, imageMark, imageVersion, wordsBytes, flagsByte, coreBytes, packed, imageOf, byte, unpacked, ofImage, stateSound, stateNumber, fieldsNumber, imageNumber}
 use Rattle.upd546.specs.TwoRunners.{upd546}
 use Rattle.upd546.proofs.Computed.{every-at, entries-of}
-use Rattle.laws.specs.Valid.{Scalars, ValidStack, ValidCore, ValidPorts, ValidRam, Valid}
+use Rattle.laws.specs.Valid.{Scalars, Valid}
 use Rattle.laws.specs.Images.{SavedRestores, RestoredSaves, ImageOfSome, AcceptedExactly}
 use Rattle.laws.proofs.Lists.{and-left, and-right}
 use Rattle.laws.proofs.Sound.{sound-valid, valid-sound, accepted-valid, valid-accepted}
-use Rattle.laws.proofs.Parts.{part-two, part-six, part-seven, length-part}
+use Rattle.laws.proofs.Parts.{part-two, part-six, part-seven}
 use Rattle.laws.proofs.Packing.{words-length, length-packed, unpacked-packed, packed-unpacked}
 
 -- NUMBERS AND THEIR BYTES

@@ -3,18 +3,17 @@
 use mathlib.Core.Path.{_≡_, refl}
 use mathlib.Core.Bool.{Bool, true, false, cond, not, _&&_}
 use mathlib.Core.List.{List, [], _∷_, _++_}
-use Prim.Native.Nat.{ℕ, zero, suc, _+_, _-_, _*_, _/_, _%_, _^_, _<_, _≤_}
+use Prim.Native.Nat.{ℕ, zero, suc, _+_, _-_, _*_, _/_, _%_, _<_, _≤_}
 use native.Mathlib.Nat.{le-trans}
 use native.Mathlib.Omega.{arith}
 use lib.Bits.{bitXor, xor-lt}
 use lib.Dec.{T, eqb, leb, ltb, ltb→lt}
 use lib.ListN.{length, getD, replicate}
 use borrow.Author.Tests.{leb-true, eqb-false, lt-ltb, not-true}
-use Rattle.upd546.specs.declared.Core.{Core}
 use Rattle.upd546.specs.declared.Lines.{Lines}
 use Rattle.upd546.specs.TheMachine.{addresses, pushed, popped, markLdi}
 use Rattle.upd546.specs.Parts.{setMark, setDph, setDpl}
-use Rattle.upd546.specs.Bytes.{bitAt, withBit}
+use Rattle.upd546.specs.Bytes.{withBit}
 use Rattle.upd546.specs.Ports.{Write, written, fitted, latchOf, readPort, outputs, bitWritten, bitOutputs, portC, portD, portE, portI}
 use Rattle.upd546.specs.Instructions as chip
 use Rattle.upd546.specs.Instructions.{Given, Effect, Instruction, codes, instruction}

@@ -2,16 +2,16 @@
 -- Assumes nothing.
 use mathlib.Core.Path.{_≡_, _∙_, refl, sym, ap, subst}
 use mathlib.Core.Bool.{Bool, true, false, _&&_}
-use mathlib.Core.List.{List, [], _∷_, _++_}
+use mathlib.Core.List.{List, [], _∷_}
 use mathlib.Core.Option.{none}
 use Prim.Native.Nat.{ℕ, zero, suc, _+_, _-_, _*_, _/_, _%_, _<_, _≤_, min}
-use native.Mathlib.Nat.{add-zero, sub-zero}
+use native.Mathlib.Nat.{add-zero}
 use native.Mathlib.Omega.{arith}
 use lib.Dec.{eqb, leb, ltb}
 use lib.ListN.{length, replicate, getD-replicate, List·getD-eq-default}
 use lib.Seq.{set-getD}
-use borrow.Author.Tests.{ltb-true, leb-true, eqb-true, eqb-false, lt-ltb, le-ltb, le-leb, not-true}
-use Rattle.runs.specs.Machine.{Machine, Out, stop, went}
+use borrow.Author.Tests.{ltb-true, leb-true, eqb-true, eqb-false, lt-ltb, le-ltb, not-true}
+use Rattle.runs.specs.Machine.{went}
 use Rattle.runs.specs.TwoRunners.{cycleLimit, Ran, firstOf, begins, unbroken, within}
 use Rattle.runs.specs.Laws.{Panel}
 use Rattle.runs.proofs.Iterate as iterate

@@ -1,15 +1,13 @@
 -- The lines of an accepted schedule fit their widths, and between two records they don't change. Assumes nothing.
-use mathlib.Core.Path.{_≡_, refl, sym}
+use mathlib.Core.Path.{_≡_, refl}
 use mathlib.Core.Bool.{Bool, true, false, _&&_}
 use mathlib.Core.List.{List}
-use Prim.Native.Nat.{ℕ, zero, suc, _+_, _*_, _/_, _%_, _<_, _≤_}
+use Prim.Native.Nat.{ℕ, zero, suc, _+_, _*_, _<_, _≤_}
 use native.Mathlib.Omega.{arith}
 use lib.Dec.{leb, ltb, eqb}
-use lib.ListN.{length, getD}
 use borrow.Author.Tests.{leb-true, leb-false, le-leb, lt-leb, ltb-false}
 use Rattle.runs.proofs.Refusals.{first-at, passes}
-use Rattle.upd546.specs.declared.Lines.{Lines}
-use Rattle.upd546.specs.TheLineSchedule.{recordCount, recordByte, recordCycle, recordLines, linesAmong, linesAt, bytesNumber, orderNumber, recordsNumber, scheduleNumber, noneAmong, noRecord}
+use Rattle.upd546.specs.TheLineSchedule.{recordCount, recordByte, recordCycle, recordLines, linesAmong, linesAt, bytesNumber, recordsNumber, scheduleNumber, noneAmong, noRecord}
 use Rattle.upd546.specs.TwoRunners.{panelNumber}
 use Rattle.laws.specs.Valid.{ValidLines}
 use Rattle.runs.specs.Laws.{Bytes}

@@ -1,22 +1,18 @@
 -- The test of 34 passes exactly at the valid states. Assumes nothing.
-use mathlib.Core.Path.{_≡_, _∙_, refl, sym, ap}
-use mathlib.Core.Bool.{Bool, true, false, _&&_, _||_}
+use mathlib.Core.Path.{_≡_}
+use mathlib.Core.Bool.{true, _||_}
 use mathlib.Core.List.{List}
 use Prim.Native.Nat.{ℕ, zero, suc, _*_, _<_, _≤_}
 use native.Mathlib.Omega.{arith}
-use lib.Dec.{ltb, leb, eqb}
-use lib.ListN.{length, getD}
-use borrow.Author.Tests.{lt-ltb, ltb-true, ltb-false, le-leb, leb-true, eq-eqb, eqb-true, le-ltb}
-use Rattle.runs.specs.TwoRunners.{cycleLimit}
+use lib.Dec.{ltb, eqb}
+use borrow.Author.Tests.{lt-ltb, ltb-true, le-leb, leb-true, eq-eqb, eqb-true}
 use Rattle.runs.proofs.Refusals.{passes}
 use Rattle.upd546.specs.declared.Core.{Core}
 use Rattle.upd546.specs.declared.State.{State}
-use Rattle.upd546.specs.declared.Registers.{Registers}
-use Rattle.upd546.specs.declared.Timer.{Timer}
-use Rattle.upd546.specs.TheMachine.{addresses, stackDepth, latches, ramLength, markStm}
-use Rattle.upd546.specs.Tests.{allOf, allBelow}
+use Rattle.upd546.specs.TheMachine.{addresses}
+use Rattle.upd546.specs.Tests.{allOf}
 use Rattle.upd546.specs.StateImage.{registersSound, flowSound, interruptSound, timerSound, coreSound, portsSound, ramSound, stateSound, stateNumber}
-use Rattle.laws.specs.Valid.{Scalars, ValidStack, ValidCore, ValidPorts, ValidRam, Valid}
+use Rattle.laws.specs.Valid.{Scalars, ValidStack, ValidPorts, ValidRam, Valid}
 use Rattle.laws.proofs.Lists.{all-at, below-all, all-below}
 
 -- the rule of a stopped timer, both ways

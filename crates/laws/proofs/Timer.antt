@@ -1,7 +1,7 @@
 -- The timer's closed form: j ticks lead to the timer that has j ticks fewer left. Positions and registers are inverse to one
 -- another, by one computed check over all of them. Assumes nothing.
-use mathlib.Core.Path.{_≡_, _∙_, refl, sym, ap}
-use mathlib.Core.Bool.{Bool, true, false, cond, not, _&&_}
+use mathlib.Core.Path.{_≡_, _∙_, refl, ap}
+use mathlib.Core.Bool.{Bool, true, false, cond, not}
 use Prim.Native.Nat.{ℕ, zero, suc, _+_, _-_, _*_, _/_, _%_, _<_, _≤_}
 use native.Mathlib.Nat.{zero-add, suc-add}
 use native.Mathlib.Numerals.{add-one}
@@ -9,7 +9,7 @@ use native.Mathlib.Omega.{arith}
 use lib.Dec.{T, eqb, ltb, eqb→eq, ltb→lt, T-not, eqb-refl}
 use borrow.Author.Tests.{ne-eqb, eqb-true, eqb-false}
 use Rattle.upd546.specs.declared.Timer.{Timer}
-use Rattle.upd546.specs.Timer.{stepRegister, period, endedTimer, tick, ticks, registerAfter, stepsTo, positionOf, ticksLeft, timerLeft}
+use Rattle.upd546.specs.Timer.{stepRegister, endedTimer, tick, ticks, registerAfter, stepsTo, positionOf, ticksLeft, timerLeft}
 use Rattle.upd546.proofs.Computed.{every-at}
 
 -- THE TIE: the position of a register is the number of steps from 1 to it

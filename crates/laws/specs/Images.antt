@@ -8,7 +8,7 @@ use lib.ListN.{length, take, drop}
 use Rattle.runs.specs.TwoRunners.{saved, restored}
 use Rattle.runs.specs.Laws.{Bytes}
 use Rattle.upd546.specs.declared.State.{State}
-use Rattle.upd546.specs.StateImage.{imageLength, imageOf, stateNumber, imageNumber}
+use Rattle.upd546.specs.StateImage.{imageLength, imageOf, stateNumber}
 use Rattle.upd546.specs.TwoRunners.{upd546}
 
 -- "a state saved and restored is the same state": whatever the buffer that it was saved to

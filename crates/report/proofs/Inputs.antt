@@ -2,7 +2,7 @@
 use mathlib.Core.Path.{_≡_, _∙_, refl, sym, ap}
 use mathlib.Core.Bool.{Bool, true, false}
 use mathlib.Core.List.{List, [], _∷_}
-use Prim.Native.Nat.{ℕ, zero, suc, _+_, _-_, _*_, _<_, _≤_}
+use Prim.Native.Nat.{ℕ, zero, suc, _+_, _*_, _<_, _≤_}
 use native.Mathlib.Omega.{arith}
 use lib.Dec.{leb, lit<}
 use lib.ListN.{length, take, drop, replicate, length-drop}
@@ -10,7 +10,7 @@ use lib.Seq.{take-all, length-take-le}
 use borrow.Author.Tests.{leb-true, leb-false, le-leb, lt-leb, eq-eqb}
 use Rattle.runs.specs.TwoRunners.{cycleLimit, firstOf, runNumber, plain}
 use Rattle.upd546.specs.TheMachine.{romLength, fresh}
-use Rattle.upd546.specs.Bytes.{numberOf}
+use Rattle.upd546.specs.Bytes.{numberAt}
 use Rattle.upd546.specs.Tests.{allOf}
 use Rattle.upd546.specs.TheLineSchedule.{recordLength, maxRecords, scheduleNumber}
 use Rattle.upd546.specs.StateImage.{registersSound, flowSound, interruptSound, timerSound, coreSound, portsSound, ramSound, stateSound, stateNumber}
@@ -34,7 +34,7 @@ over-text : (input : List ℕ) → 4 + romLength + recordLength * maxRecords < l
 over-text input h =
     let rom = take romLength (drop 4 input) in
     let sched = drop (4 + romLength) input in
-    let n = numberOf (take 4 input) in
+    let n = numberAt input 0 4 in
     let full = length-take-le romLength (drop 4 input) (omega (arith, length-drop 4 input)) in
     let long : recordLength * maxRecords < length sched = omega (arith, length-drop (4 + romLength) input) in
     sym (long-text input (omega arith) {rom = rom} {sched = sched} {log = replicate traceLog 0} {n = n} refl refl refl refl)

@@ -1,9 +1,9 @@
 -- Which text a run and an input have. Assumes nothing.
-use mathlib.Core.Path.{_≡_, refl, ap}
-use mathlib.Core.List.{List, [], _∷_}
+use mathlib.Core.Path.{_≡_, ap}
+use mathlib.Core.List.{List}
 use Prim.Native.Nat.{ℕ, _+_, _<_, _≤_}
 use native.Mathlib.Omega.{arith}
-use lib.ListN.{length, getD, take, drop, replicate}
+use lib.ListN.{length, take, drop, replicate}
 use borrow.Author.Tests.{lt-ltb, le-ltb}
 use Rattle.runs.specs.declared.Stop.{Stop}
 use Rattle.runs.specs.declared.Refusal.{Refusal}
@@ -14,7 +14,7 @@ use Rattle.runs.specs.Numbers.{stopNumber, refusalNumber, endOf}
 use Rattle.upd546.specs.declared.State.{State}
 use Rattle.upd546.specs.declared.RunAnswer.{RunAnswer}
 use Rattle.upd546.specs.TheMachine.{romLength, fresh}
-use Rattle.upd546.specs.Bytes.{numberOf}
+use Rattle.upd546.specs.Bytes.{numberAt}
 use Rattle.upd546.specs.TwoRunners.{upd546, answerOf}
 use Rattle.upd546.specs.Reports.{refusedText, reportText, onEnd, traceLog, traceText}
 use Rattle.io.specs.Counts.{Counts}
@@ -44,14 +44,6 @@ run-text rom sched log n a e = ap (λ (b : runners.RunAnswer State). onEnd (b .e
 
 -- THE INPUT
 
--- "n (4 bytes, big-endian)"
-pub take-four : (l : List ℕ) → 4 ≤ length l → take 4 l ≡ getD l 0 0 ∷ getD l 1 0 ∷ getD l 2 0 ∷ getD l 3 0 ∷ []
-take-four [] h = absurd (omega arith)
-take-four (a ∷ []) h = absurd (omega arith)
-take-four (a ∷ b ∷ []) h = absurd (omega arith)
-take-four (a ∷ b ∷ c ∷ []) h = absurd (omega arith)
-take-four (a ∷ b ∷ c ∷ d ∷ l) h = refl
-
 module _ (input : List ℕ) where
   -- "under 2,004 bytes being 21"
   pub short-text : length input < 4 + romLength → refusedText 21 ≡ traceText input
@@ -60,7 +52,7 @@ module _ (input : List ℕ) where
 
   -- n, ROM and schedule
   pub long-text : 4 + romLength ≤ length input → {rom sched log : List ℕ} {n : ℕ} → rom ≡ take romLength (drop 4 input)
-      → sched ≡ drop (4 + romLength) input → log ≡ replicate traceLog 0 → n ≡ numberOf (take 4 input) → runText rom sched log n ≡ traceText input
+      → sched ≡ drop (4 + romLength) input → log ≡ replicate traceLog 0 → n ≡ numberAt input 0 4 → runText rom sched log n ≡ traceText input
   unfolding traceText runText
   long-text h p q r s = rw (p, q, r, s, le-ltb (length input) (4 + romLength) h)
 

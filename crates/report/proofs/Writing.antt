@@ -6,9 +6,9 @@ use native.Mathlib.Numerals.{add-one}
 use native.Mathlib.Omega.{arith}
 use lib.ListN.{length, getD, take, drop, set, length-append, length-drop, take-append-drop}
 use lib.Seq.{length-take-le, take-at, drop-at, drop-drop, set-split, append-snoc}
-use Rattle.upd546.specs.Reports.{decimal, portLetter, hexDigit, space, newline, endWord, refusedWord, refusedText, recordLine, recordLines}
+use Rattle.upd546.specs.Bytes.{numberAt}
+use Rattle.upd546.specs.Reports.{decimal, portLetter, hexDigit, space, newline, endWord, refusedWord, refusedText, recordText, recordsText}
 use Rattle.report.specs.Writing.{Appended, endLine}
-use Rattle.report.specs.Records.{recordCycle}
 
 -- the same text, told otherwise
 pub told : {b b₁ w x : List ℕ} {a r : ℕ} → w ≡ x → Appended b a w b₁ r → Appended b a x b₁ r
@@ -64,9 +64,9 @@ none a b h = record { ends = omega arith; fits = h; stands = sym (rw append-nil 
 -- HOW THE LINES ARE PUT TOGETHER
 
 -- a record's line, of a number and four bytes
-pub line-same : (log : List ℕ) (i : ℕ) {n letter digit : ℕ} → n ≡ recordCycle log (8 * i) → letter ≡ portLetter (getD log (8 * i + 6) 0)
-    → digit ≡ hexDigit (getD log (8 * i + 7) 0) → decimal n ++ space ++ (letter ∷ 32 ∷ digit ∷ 10 ∷ []) ≡ recordLine log i
-line-same log i p q r = rw (p, q, r) (regroup (decimal (recordCycle log (8 * i))) _ _)
+pub line-same : (log : List ℕ) (i : ℕ) {n letter digit : ℕ} → n ≡ numberAt log (8 * i) 6 → letter ≡ portLetter (getD log (8 * i + 6) 0)
+    → digit ≡ hexDigit (getD log (8 * i + 7) 0) → decimal n ++ space ++ (letter ∷ 32 ∷ digit ∷ 10 ∷ []) ≡ recordText log i
+line-same log i p q r = rw (p, q, r) (regroup (decimal (numberAt log (8 * i) 6)) _ _)
   where
     regroup : (d : List ℕ) (l h : ℕ) → d ++ space ++ (l ∷ 32 ∷ h ∷ 10 ∷ []) ≡ d ++ space ++ (l ∷ []) ++ space ++ (h ∷ []) ++ newline
     regroup d l h = simp append-assoc
@@ -84,10 +84,10 @@ end-same cycles begun k = regroup (endWord ++ space) (decimal cycles) space (dec
     regroup a b c d e f g = simp append-assoc
 
 -- one line more
-pub next-line : (log : List ℕ) (i : ℕ) → recordLines log i ++ recordLine log i ≡ recordLines log (i + 1)
-unfolding recordLines
+pub next-line : (log : List ℕ) (i : ℕ) → recordsText log i ++ recordText log i ≡ recordsText log (i + 1)
+unfolding recordsText
 next-line log i = rw (add-one i)
 
-pub no-lines : (log : List ℕ) → [] ≡ recordLines log 0
-unfolding recordLines
+pub no-lines : (log : List ℕ) → [] ≡ recordsText log 0
+unfolding recordsText
 no-lines log = refl

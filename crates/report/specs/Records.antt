@@ -2,13 +2,7 @@
 use Prim.Native.Nat.{ℕ, _+_, _*_, _/_, _<_, _≤_}
 use mathlib.Core.List.{List}
 use lib.ListN.{length, getD}
-use Rattle.upd546.specs.TheMachine.{entries}
-use Rattle.upd546.specs.Bytes.{numberOf}
 use Rattle.upd546.specs.Ports.{portI}
-
--- the cycle of the record that begins at a place of a log
-abbrev pub recordCycle : List ℕ → ℕ → ℕ
-recordCycle log at = numberOf (entries 6 (λ k. getD log (at + k) 0))
 
 -- the ports of the first records are written by a letter from A on to I, their values by one hexadecimal digit
 pub record Legible (log : List ℕ) (count : ℕ) : Type 0 where

@@ -7,16 +7,15 @@ use upd546::RunAnswer;
 ghost use mathlib.Core.Path.{_≡_};
 ghost use mathlib.Core.List.{_∷_, [], _++_};
 ghost use Prim.Native.Nat.{_+_, _*_, _/_, _<_, _≤_};
-ghost use lib.ListN.{length, getD, take, replicate};
+ghost use lib.ListN.{length, replicate};
 ghost use Rattle.runs.specs.Numbers.{endOf};
 ghost use Rattle.runs.specs.TwoRunners.{plain};
 ghost use Rattle.upd546.specs.TheMachine.{fresh};
-ghost use Rattle.upd546.specs.Bytes.{numberOf};
 ghost use Rattle.upd546.specs.Ports.{portI};
 ghost use Rattle.upd546.specs.TwoRunners.{upd546, answerOf};
-ghost use Rattle.upd546.specs.Reports.{decimal, portLetter, hexDigit, recordLine, recordLines, refusedText, reportText, onEnd, traceLog};
+ghost use Rattle.upd546.specs.Reports.{decimal, portLetter, hexDigit, recordText, recordsText, refusedText, reportText, onEnd, traceLog};
 ghost use Rattle.report.specs.Writing.{Appended, numberLength, lineLength, refusedLength, endLength, textLength, endLine};
-ghost use Rattle.report.specs.Records.{recordCycle, Legible, Recorded};
+ghost use Rattle.report.specs.Records.{Legible, Recorded};
 ghost use Rattle.report.specs.Texts.{Reportable, runText, Traced};
 
 // "n (4 bytes, big-endian)"
@@ -79,28 +78,6 @@ fn hex_digit(value: u8) -> u8
     b'A' + (value - 10)
 }
 
-// A byte of a log as a u64.
-fn wide_at(log: &[u8], at: usize) -> u64
-    requires { ⌜ at < length (now log) ⌝ }
-    ensures { λ r. ⌜ (r ≡ getD (now (log .entry)) at 0) × (r < 256) ⌝ }
-{
-    log[at] as u64
-}
-
-// The cycle of the record that begins at a place of a log.
-fn cycle_at(log: &[u8], at: usize) -> u64
-    requires { ⌜ at + 8 ≤ length (now log) ⌝ }
-    ensures { λ r. ⌜ r ≡ recordCycle (now (log .entry)) at ⌝ }
-{
-    let b0 = wide_at(log, at);
-    let b1 = wide_at(log, at + 1);
-    let b2 = wide_at(log, at + 2);
-    let b3 = wide_at(log, at + 3);
-    let b4 = wide_at(log, at + 4);
-    let b5 = wide_at(log, at + 5);
-    ((((b0 * 256 + b1) * 256 + b2) * 256 + b3) * 256 + b4) * 256 + b5
-}
-
 // A number and one byte behind it.
 fn put_number(out: &mut [u8], at: usize, n: u64, after: u8) -> usize
     requires { ⌜ at + numberLength + 1 ≤ length (now out) ⌝ }
@@ -113,19 +90,19 @@ fn put_number(out: &mut [u8], at: usize, n: u64, after: u8) -> usize
 // The line of record i of a log.
 fn put_line(out: &mut [u8], at: usize, log: &[u8], i: usize) -> usize
     requires { ⌜ (at + lineLength ≤ length (now out)) × (8 * i + 8 ≤ length (now log)) × Legible (now log) (i + 1) ⌝ }
-    ensures { λ r. ⌜ Appended (now (out .entry)) at (recordLine (now (log .entry)) i) (now (out .exit)) r × (r ≤ at + lineLength) ⌝ }
+    ensures { λ r. ⌜ Appended (now (out .entry)) at (recordText (now (log .entry)) i) (now (out .exit)) r × (r ≤ at + lineLength) ⌝ }
 {
     let from = RECORD_LENGTH * i;
     let letter = port_letter(log[from + 6]);
     let digit = hex_digit(log[from + 7]);
-    let to = put_number(out, at, cycle_at(log, from), b' ');
+    let to = put_number(out, at, big_endian::number_at(log, from, 6), b' ');
     put(out, to, &[letter, b' ', digit, b'\n'])
 }
 
 // The lines of the first records of a log.
 fn put_lines(out: &mut [u8], at: usize, log: &[u8], count: usize) -> usize
     requires { ⌜ (at + lineLength * count ≤ length (now out)) × (8 * count ≤ length (now log)) × Legible (now log) count ⌝ }
-    ensures { λ r. ⌜ Appended (now (out .entry)) at (recordLines (now (log .entry)) count) (now (out .exit)) r × (r ≤ at + lineLength * count) ⌝ }
+    ensures { λ r. ⌜ Appended (now (out .entry)) at (recordsText (now (log .entry)) count) (now (out .exit)) r × (r ≤ at + lineLength * count) ⌝ }
 {
     let mut to = at;
     let mut i = 0;
@@ -198,18 +175,6 @@ fn put_run(out: &mut [u8], rom: &[u8], sched: &[u8], log: &mut [u8], n: MachineC
     put_answer(out, answer, log)
 }
 
-// n, the first 4 bytes.
-fn count_of(input: &[u8]) -> u64
-    requires { ⌜ 4 ≤ length (now input) ⌝ }
-    ensures { λ r. ⌜ r ≡ numberOf (take 4 (now (input .entry))) ⌝ }
-{
-    let b0 = wide_at(input, 0);
-    let b1 = wide_at(input, 1);
-    let b2 = wide_at(input, 2);
-    let b3 = wide_at(input, 3);
-    ((b0 * 256 + b1) * 256 + b2) * 256 + b3
-}
-
 // "a log of 16,384 bytes"; the length is what lending it as a slice asks.
 fn empty_log() -> [u8; LOG_LENGTH]
     ensures { λ r. ⌜ (r ≡ replicate traceLog 0) × (traceLog ≡ length r) ⌝ }
@@ -224,7 +189,7 @@ pub fn trace(input: &[u8], out: &mut [u8; TEXT_LENGTH]) -> usize
     if input.len() < SCHEDULE_AT {
         return put_refused(out, 21);
     }
-    let n = MachineCycles(count_of(input));
+    let n = MachineCycles(big_endian::number_at(input, 0, COUNT_LENGTH));
     let mut log = empty_log();
     put_run(
         out,

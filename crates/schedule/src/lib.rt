@@ -13,6 +13,8 @@ ghost use Rattle.schedule.specs.Cursor.{recordNumber, nextCycle, linesAf
 // A record's bytes: 0 to 5 the cycle, 6 ports A and B, 7 ports C and D, 8 the INT level, 9 zero.
 const RECORD_LENGTH: usize = 10;
 
+const CYCLE_LENGTH: usize = 6;
+
 // 4,096 records.
 const MAX_LENGTH: usize = 40960;
 
@@ -36,26 +38,12 @@ fn byte_at(sched: &[u8], i: usize, k: usize) -> u8
     sched[RECORD_LENGTH * i + k]
 }
 
-// The same, as a u64.
-fn wide_at(sched: &[u8], i: usize, k: usize) -> u64
-    requires { ⌜ (i < recordCount (now sched)) × (k < recordLength) ⌝ }
-    ensures { λ r. ⌜ (r ≡ recordByte (now (sched .entry)) i k) × (r < 256) ⌝ }
-{
-    byte_at(sched, i, k) as u64
-}
-
 // The cycle of record i.
 fn cycle_at(sched: &[u8], i: usize) -> u64
     requires { ⌜ i < recordCount (now sched) ⌝ }
     ensures { λ r. ⌜ r ≡ recordCycle (now (sched .entry)) i ⌝ }
 {
-    let b0 = wide_at(sched, i, 0);
-    let b1 = wide_at(sched, i, 1);
-    let b2 = wide_at(sched, i, 2);
-    let b3 = wide_at(sched, i, 3);
-    let b4 = wide_at(sched, i, 4);
-    let b5 = wide_at(sched, i, 5);
-    ((((b0 * 256 + b1) * 256 + b2) * 256 + b3) * 256 + b4) * 256 + b5
+    big_endian::number_at(sched, RECORD_LENGTH * i, CYCLE_LENGTH)
 }
 
 // The lines that record i sets.

@@ -1,9 +1,8 @@
 -- Document 01, "Bench cases, and what misleads": the cases as rows of one table. Assumes nothing: these are definitions.
-use Prim.Native.Nat.{ℕ, zero, suc, _+_, _-_}
-use mathlib.Core.Bool.{Bool, true, false, _&&_}
+use Prim.Native.Nat.{ℕ, _+_, _-_}
+use mathlib.Core.Bool.{Bool, true, _&&_}
 use mathlib.Core.List.{List, [], _∷_, _++_}
-use lib.Dec.{eqb}
-use lib.ListN.{length, getD, replicate, take}
+use lib.ListN.{length, replicate}
 use Rattle.runs.specs.TwoRunners.{RunAnswer, cycleLimit, unbroken, runNumber, skipping}
 use Rattle.upd546.specs.declared.Core.{Core}
 use Rattle.upd546.specs.declared.State.{State}

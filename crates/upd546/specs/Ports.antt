@@ -1,7 +1,7 @@
 -- Document 01, "One machine cycle n", its last paragraph: ports, effective writes and the log.
 -- Assumes nothing: these are definitions.
 use Prim.Native.Nat.{ℕ, _-_, _%_}
-use mathlib.Core.Bool.{Bool, cond, not, _&&_}
+use mathlib.Core.Bool.{cond, not, _&&_}
 use mathlib.Core.List.{List, [], _∷_, _++_}
 use lib.Dec.{eqb, leb}
 use lib.ListN.{getD, set}

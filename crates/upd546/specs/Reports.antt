@@ -7,8 +7,8 @@ use lib.Dec.{ltb}
 use lib.ListN.{length, getD, take, drop, replicate}
 use Rattle.runs.specs.TwoRunners.{End, finished, stopped, refused, RunAnswer, plain}
 use Rattle.upd546.specs.declared.State.{State}
-use Rattle.upd546.specs.TheMachine.{romLength, fresh, entries}
-use Rattle.upd546.specs.Bytes.{numberOf}
+use Rattle.upd546.specs.TheMachine.{romLength, fresh}
+use Rattle.upd546.specs.Bytes.{numberAt}
 use Rattle.upd546.specs.TwoRunners.{upd546}
 
 -- A text is the list of its ASCII codes.
@@ -49,9 +49,9 @@ abbrev pub refusedWord : List ℕ
 refusedWord = 114 ∷ 101 ∷ 102 ∷ 117 ∷ 115 ∷ 101 ∷ 100 ∷ []
 
 -- the line of record i of a log
-abbrev pub recordLine : List ℕ → ℕ → List ℕ
-recordLine log i =
-    decimal (numberOf (entries 6 (λ k. getD log (8 * i + k) 0)))
+abbrev pub recordText : List ℕ → ℕ → List ℕ
+recordText log i =
+    decimal (numberAt log (8 * i) 6)
     ++ space
     ++ (portLetter (getD log (8 * i + 6) 0) ∷ [])
     ++ space
@@ -59,9 +59,9 @@ recordLine log i =
     ++ newline
 
 -- the lines of the first k records
-unfoldable pub recordLines : List ℕ → ℕ → List ℕ
-recordLines log zero = []
-recordLines log (suc k) = recordLines log k ++ recordLine log k
+unfoldable pub recordsText : List ℕ → ℕ → List ℕ
+recordsText log zero = []
+recordsText log (suc k) = recordsText log k ++ recordText log k
 
 -- "A refusal prints only `refused` and the number."
 abbrev pub refusedText : ℕ → List ℕ
@@ -72,7 +72,7 @@ abbrev pub endText : RunAnswer State → ℕ → List ℕ
 endText a k = endWord ++ space ++ decimal (a .cycles) ++ space ++ decimal (a .begun) ++ space ++ decimal k ++ newline
 
 abbrev pub reportText : RunAnswer State → ℕ → List ℕ
-reportText a k = heading ++ newline ++ recordLines (a .log) (a .written / 8) ++ endText a k
+reportText a k = heading ++ newline ++ recordsText (a .log) (a .written / 8) ++ endText a k
 
 abbrev pub onEnd : End → RunAnswer State → List ℕ
 onEnd finished a = reportText a 0
@@ -90,7 +90,7 @@ traceRun n rom sched = let a = plain upd546 rom sched fresh (replicate traceLog 
 -- "reads from standard input n (4 bytes, big-endian), ROM and schedule, under 2,004 bytes being 21"
 abbrev pub onShort : Bool → List ℕ → List ℕ
 onShort true input = refusedText 21
-onShort false input = traceRun (numberOf (take 4 input)) (take romLength (drop 4 input)) (drop (4 + romLength) input)
+onShort false input = traceRun (numberAt input 0 4) (take romLength (drop 4 input)) (drop (4 + romLength) input)
 
 unfoldable pub traceText : List ℕ → List ℕ
 traceText input = onShort (ltb (length input) (4 + romLength)) input

@@ -1,9 +1,9 @@
 -- Document 01, "State image, 81 bytes". Assumes nothing: these are definitions.
-use Prim.Native.Nat.{ℕ, zero, suc, _+_, _-_, _*_, _/_, _%_, _^_}
+use Prim.Native.Nat.{ℕ, _+_, _-_, _*_, _/_, _%_}
 use mathlib.Core.Bool.{Bool, _&&_, _||_}
 use mathlib.Core.List.{List, [], _∷_, _++_}
 use lib.Dec.{eqb, leb, ltb}
-use lib.ListN.{length, getD, take, drop}
+use lib.ListN.{length, getD}
 use Rattle.runs.specs.TwoRunners.{cycleLimit, firstOf, unless}
 use Rattle.upd546.specs.declared.Registers.{Registers}
 use Rattle.upd546.specs.declared.Flow.{Flow}
@@ -12,7 +12,7 @@ use Rattle.upd546.specs.declared.Timer.{Timer}
 use Rattle.upd546.specs.declared.Core.{Core}
 use Rattle.upd546.specs.declared.State.{State}
 use Rattle.upd546.specs.TheMachine.{addresses, stackDepth, latches, ramLength, dpOf, markStm, entries}
-use Rattle.upd546.specs.Bytes.{bitAt, numberOf, bytesOf}
+use Rattle.upd546.specs.Bytes.{bitAt, part, numberAt, bytesOf}
 use Rattle.upd546.specs.Tests.{allOf, allBelow, sameNumbers}
 
 -- "State image, 81 bytes"
@@ -59,10 +59,6 @@ imageOf s =
     ++ packed (s .ram)
     ++ bytesOf 6 (s .cycle .0)
 
--- n bytes of an image from the byte at on
-abbrev pub part : List ℕ → ℕ → ℕ → List ℕ
-part image at n = take n (drop at image)
-
 abbrev pub byte : List ℕ → ℕ → ℕ
 byte image at = getD image at 0
 
@@ -81,7 +77,7 @@ ofImage image = record {
       dph = byte image 13 / 16;
       dpl = byte image 13 % 16;
     };
-    flow = record { pc = numberOf (part image 5 2); stack = entries stackDepth (λ i. numberOf (part image (7 + 2 * i) 2)) };
+    flow = record { pc = numberAt image 5 2; stack = entries stackDepth (λ i. numberAt image (7 + 2 * i) 2) };
     interrupt = record { int = bitAt (byte image 15) 2; inte = bitAt (byte image 15) 3; level = bitAt (byte image 15) 5 };
     timer = record { tm = bitAt (byte image 15) 4; register = byte image 18; counter = byte image 19 };
     mark = byte image 16;
@@ -89,7 +85,7 @@ ofImage image = record {
   };
   ports = part image 20 latches;
   ram = unpacked (part image 27 (ramLength / 2));
-  cycle = record { 0 = numberOf (part image 75 6) };
+  cycle = record { 0 = numberAt image 75 6 };
 }
 
 -- "A field above its width or rule is refused", part by part of a state.

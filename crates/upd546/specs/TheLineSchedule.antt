@@ -6,8 +6,7 @@ use lib.Dec.{eqb, leb, ltb}
 use lib.ListN.{length, getD}
 use Rattle.runs.specs.TwoRunners.{firstOf, unless}
 use Rattle.upd546.specs.declared.Lines.{Lines}
-use Rattle.upd546.specs.TheMachine.{entries}
-use Rattle.upd546.specs.Bytes.{numberOf}
+use Rattle.upd546.specs.Bytes.{numberAt}
 
 -- "Records of 10 bytes"
 abbrev pub recordLength : ℕ
@@ -26,7 +25,7 @@ recordByte sched i k = getD sched (recordLength * i + k) 0
 
 -- "cycle (6, big-endian)"
 unfoldable pub recordCycle : List ℕ → ℕ → ℕ
-recordCycle sched i = numberOf (entries 6 (recordByte sched i))
+recordCycle sched i = numberAt sched (recordLength * i) 6
 
 -- "ports A and B (high and low half), C and D likewise, INT level (0 or 1), a zero byte"
 unfoldable pub recordLines : List ℕ → ℕ → Lines

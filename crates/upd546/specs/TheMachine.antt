@@ -4,10 +4,6 @@ use mathlib.Core.Bool.{Bool, cond}
 use mathlib.Core.List.{List, [], _∷_}
 use lib.Dec.{eqb, leb}
 use lib.ListN.{length, getD, set, replicate}
-use Rattle.upd546.specs.declared.Registers.{Registers}
-use Rattle.upd546.specs.declared.Flow.{Flow}
-use Rattle.upd546.specs.declared.Interrupt.{Interrupt}
-use Rattle.upd546.specs.declared.Timer.{Timer}
 use Rattle.upd546.specs.declared.Core.{Core}
 use Rattle.upd546.specs.declared.State.{State}
 

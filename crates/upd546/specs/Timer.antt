@@ -1,6 +1,6 @@
 -- Document 01, "Timer". Assumes nothing: these are definitions.
 use Prim.Native.Nat.{ℕ, zero, suc, _+_, _-_, _*_, _/_, _%_}
-use mathlib.Core.Bool.{Bool, true, false, cond}
+use mathlib.Core.Bool.{true, false, cond}
 use lib.Dec.{eqb}
 use Rattle.upd546.specs.declared.Timer.{Timer}
 use Rattle.upd546.specs.Bytes.{bitAt}

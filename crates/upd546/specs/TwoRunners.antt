@@ -6,7 +6,7 @@ use mathlib.Core.List.{List, [], _∷_}
 use lib.Dec.{eqb, leb, ltb}
 use lib.ListN.{length}
 use Rattle.runs.specs.Machine.{Machine}
-use Rattle.runs.specs.TwoRunners.{firstOf, unless, plain, skipping, saved, restored}
+use Rattle.runs.specs.TwoRunners.{firstOf, unless}
 use Rattle.runs.specs.TwoRunners as runners
 use Rattle.runs.specs.Numbers.{endOf, outcomeNumber}
 use Rattle.runs.specs.declared.Outcome.{Outcome}

@@ -2,9 +2,9 @@
 use mathlib.Core.Path.{_≡_, _∙_, refl, sym, ap}
 use Prim.Native.Nat.{ℕ, _+_, _-_, _*_, _/_, _%_, _≤_}
 use native.Mathlib.Omega.{arith}
-use lib.ListN.{length, getD}
 use denote.Ref.{now}
-use Rattle.upd546.specs.StateImage.{part, unpacked}
+use Rattle.upd546.specs.Bytes.{part}
+use Rattle.upd546.specs.StateImage.{unpacked}
 use Rattle.laws.proofs.Parts.{length-part, part-at}
 use Rattle.laws.proofs.Packing.{length-unpacked, unpacked-even, unpacked-odd, filled, filled-next, filled-all}
 use borrow.Author.Needs.{needs}

@@ -1,8 +1,7 @@
 -- After i turns the first i bytes hold their words. Assumes nothing.
-use mathlib.Core.Path.{_≡_, _∙_, refl, sym, ap}
-use Prim.Native.Nat.{ℕ, _+_, _-_, _*_, _≤_}
+use mathlib.Core.Path.{_≡_, _∙_, refl, sym}
+use Prim.Native.Nat.{_+_, _-_, _*_, _≤_}
 use native.Mathlib.Omega.{arith}
-use lib.ListN.{length, getD}
 use Rattle.upd546.specs.StateImage.{packed}
 use Rattle.laws.proofs.Packing.{length-packed, packed-at, filled, filled-next, filled-all}
 use borrow.Author.Needs.{needs}

@@ -1,12 +1,11 @@
 -- The bytes passed are those expected; the rest is still to be compared. Assumes nothing.
-use mathlib.Core.Path.{_≡_, _∙_, refl, sym, ap}
-use Prim.Native.Nat.{ℕ, _+_, _-_, _≤_}
+use mathlib.Core.Path.{_≡_, _∙_, sym}
+use Prim.Native.Nat.{_+_, _-_, _≤_}
 use native.Mathlib.Nat.{add-zero, sub-zero}
-use native.Mathlib.Omega.{arith}
-use lib.ListN.{length, getD, drop}
+use lib.ListN.{length, drop}
 use denote.Ref.{now}
 use Rattle.upd546.specs.Tests.{sameNumbers}
-use Rattle.upd546.specs.StateImage.{part}
+use Rattle.upd546.specs.Bytes.{part}
 use Rattle.image.proofs.Reading.{compared-more, compared-other, compared-all}
 use borrow.Author.Needs.{needs}
 use Rattle.image.proofs.stands_at.Statement.{statement}

@@ -14,8 +14,8 @@ ports-at-requires c κs = search needs
 ram-at-requires : tie.Need-ram-at-requires
 ram-at-requires c κs = search needs
 
-cycle-at-requires : tie.Need-cycle-at-requires
-cycle-at-requires c κs = search needs
+number-at-requires : tie.Need-number-at-requires
+number-at-requires c κs = search needs
 
 returns : tie.Need-returns
 unfolding coreOf ofImage
@@ -24,10 +24,10 @@ returns c =
       c .before .before .before .core-at .ensures,
       c .before .before .ports-at .ensures,
       c .before .ram-at .ensures,
-      c .cycle-at .ensures,
+      c .number-at .ensures .0,
     )
 
 pub state-at-spec : {M : Type 1} → statement M
 state-at-spec =
     tie.close
-    (tie.spec core-at-requires ports-at-requires ram-at-requires cycle-at-requires returns)
+    (tie.spec core-at-requires ports-at-requires ram-at-requires number-at-requires returns)

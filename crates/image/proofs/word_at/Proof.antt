@@ -1,50 +1,17 @@
--- Two bytes, big-endian. Assumes nothing.
-use Prim.Native.Nat.{_+_}
+-- Two bytes. Assumes nothing.
 use native.Mathlib.Omega.{arith}
-use denote.Ref.{now}
-use Rattle.laws.proofs.Parts.{part-two}
 use borrow.Author.Needs.{needs}
 use Rattle.image.proofs.word_at.Statement.{statement}
 use Rattle.image.proofs.word_at.Tie as tie
 
-shared-slice-read-result : tie.Need-shared-slice-read-result
-shared-slice-read-result c = search needs
+number-at-requires : tie.Need-number-at-requires
+number-at-requires c κs = search needs
 
 cast-result : tie.Need-cast-result
-cast-result c = omega (arith, c .shared-slice-known .given (c .before .args .at))
-
-mul-result : tie.Need-mul-result
-mul-result c = omega (arith, c .shared-slice-known .given (c .before .args .at))
-
-add-result : tie.Need-add-result
-add-result c = search needs
-
-shared-slice-read-result-2 : tie.Need-shared-slice-read-result-2
-shared-slice-read-result-2 c = search needs
-
-cast-result-2 : tie.Need-cast-result-2
-cast-result-2 c = omega (arith, c .shared-slice-known2 .given (c .before .before .args .at + 1))
-
-add-result-2 : tie.Need-add-result-2
-add-result-2 c =
-    let a = c .before .before .args in
-    let known = c .shared-slice-known2 .given in
-    omega (arith, known (a .at), known (a .at + 1))
+cast-result c = omega (arith, c .number-at .ensures .1)
 
 returns : tie.Need-returns
-returns c =
-    let a = c .before .before .args in
-    rw (part-two (now (a .bytes)) (a .at) (c .before .before .pre)) (omega arith)
+returns c = c .number-at .ensures .0
 
 pub word-at-spec : {M : Type 1} → statement M
-word-at-spec =
-    tie.close
-    (tie.spec
-    shared-slice-read-result
-    cast-result
-    mul-result
-    add-result
-    shared-slice-read-result-2
-    cast-result-2
-    add-result-2
-    returns)
+word-at-spec = tie.close (tie.spec number-at-requires cast-result returns)

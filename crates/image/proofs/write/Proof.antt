@@ -1,5 +1,7 @@
 -- The front, the latches, the RAM and the cycle number. Assumes nothing.
 use denote.Ref.{now}
+use Rattle.upd546.specs.Bytes.{bytesOf}
+use Rattle.laws.proofs.Tails.{put-front}
 use Rattle.image.proofs.Writing.{image-written}
 use borrow.Author.Needs.{needs}
 use Rattle.image.proofs.write.Statement.{statement}
@@ -23,30 +25,33 @@ slice-aggregate-put-2 c = search needs
 put-requires-2 : tie.Need-put-requires-2
 put-requires-2 c κs = search needs
 
-cycle-bytes-requires : tie.Need-cycle-bytes-requires
-cycle-bytes-requires c κs = search needs
+sub-put-six : tie.Need-sub-put-six
+sub-put-six c = search needs
 
-slice-aggregate-put-3 : tie.Need-slice-aggregate-put-3
-slice-aggregate-put-3 c = search needs
+part-put-six-start : tie.Need-part-put-six-start
+part-put-six-start c = search needs
 
-put-requires-3 : tie.Need-put-requires-3
-put-requires-3 c κs = search needs
+part-put-six-end : tie.Need-part-put-six-end
+part-put-six-end c = search needs
+
+put-six-requires : tie.Need-put-six-requires
+put-six-requires c κs = search needs
 
 same-length : tie.Need-same-length
 same-length c = search needs
 
 returns : tie.Need-returns
 returns c =
-    let at-put3 = c .before .before in
-    let at-cycle-bytes = at-put3 .before .before in
-    let at-put2 = at-cycle-bytes .before .before .before .before in
+    let at-put-six = c .before .before in
+    let at-put2 = at-put-six .before .before .before .before in
     let at-ram-bytes = at-put2 .before .before in
     let at-put = at-ram-bytes .before .before .before .before in
     let at-write-core = at-put .before .before .before .before .before in
     let at-entry = at-write-core .before .before .before .before .before in
-    image-written (at-entry .args .s) (at-entry .pre .0) (now (at-entry .args .buffer)) (at-write-core .write-core .ensures)
+    let s = at-entry .args .s in
+    image-written s (at-entry .pre .0) (now (at-entry .args .buffer)) (at-write-core .write-core .ensures)
     (at-put .put .ensures) (rw (at-ram-bytes .ram-bytes .ensures) at (at-put2 .put2 .ensures))
-    (rw (at-cycle-bytes .cycle-bytes .ensures) at (at-put3 .put3 .ensures))
+    (put-front 75 (at-put2 .put2 .last .0) (bytesOf 6 (s .cycle .0)) (at-put-six .put-six .ensures))
 
 pub write-spec : {M : Type 1} → statement M
 write-spec =
@@ -58,8 +63,9 @@ write-spec =
     ram-bytes-requires
     slice-aggregate-put-2
     put-requires-2
-    cycle-bytes-requires
-    slice-aggregate-put-3
-    put-requires-3
+    sub-put-six
+    part-put-six-start
+    part-put-six-end
+    put-six-requires
     same-length
     returns)

@@ -27,8 +27,8 @@ shared-slice-read-hex-digit c = search needs
 hex-digit-requires : tie.Need-hex-digit-requires
 hex-digit-requires c κs = c .before .before .before .before .before .pre .2 .value (c .before .before .before .before .before .args .i) (omega arith)
 
-cycle-at-requires : tie.Need-cycle-at-requires
-cycle-at-requires c κs = search needs
+number-at-requires : tie.Need-number-at-requires
+number-at-requires c κs = search needs
 
 put-number-requires : tie.Need-put-number-requires
 put-number-requires c κs = search needs
@@ -52,7 +52,7 @@ returns c =
     let at-entry = at-letter .before .before .before .before in
     let number = at-number .put-number .ensures in
     let same =
-    line-same (now (at-entry .args .log)) (at-entry .args .i) (at-cycle .cycle-at .ensures) (at-letter .port-letter .ensures)
+    line-same (now (at-entry .args .log)) (at-entry .args .i) (at-cycle .number-at .ensures .0) (at-letter .port-letter .ensures)
     (at-digit .hex-digit .ensures) in
     (told same (then (number .0) (at-put .put .ensures)), omega (arith, number .1, at-put .put .ensures .ends))
 
@@ -67,7 +67,7 @@ put-line-spec =
     add-hex-digit
     shared-slice-read-hex-digit
     hex-digit-requires
-    cycle-at-requires
+    number-at-requires
     put-number-requires
     slice-aggregate-put
     put-requires

@@ -4,7 +4,7 @@ use Prim.Native.Nat.{_+_, _-_, _*_, _≤_}
 use native.Mathlib.Omega.{arith}
 use lib.ListN.{length}
 use denote.Ref.{now}
-use Rattle.upd546.specs.Reports.{recordLines}
+use Rattle.upd546.specs.Reports.{recordsText}
 use Rattle.report.specs.Writing.{Appended}
 use Rattle.report.proofs.Writing.{none, no-lines, told, then, next-line}
 use Rattle.report.proofs.put_lines.Statement.{statement}
@@ -12,7 +12,7 @@ use Rattle.report.proofs.put_lines.Tie as tie
 
 abbrev Inv-loop : tie.InvT-loop
 Inv-loop out₀ at log count to₀ i₀ out to i =
-    (i ≤ count) × Appended out₀ at (recordLines log i) out to × (to ≤ at + 25 * i) × (length out ≡ length out₀)
+    (i ≤ count) × Appended out₀ at (recordsText log i) out to × (to ≤ at + 25 * i) × (length out ≡ length out₀)
 
 abbrev μ-loop : tie.MeasureT-loop
 μ-loop out₀ at log count to₀ i₀ out to i = count - i
@@ -55,7 +55,7 @@ returns c =
     let a = c .before .before .before .before .args in
     let inv = c .before .loop .inv in
     let all : c .before .loop .i ≡ a .count = omega arith in
-    (told (ap (recordLines (now (a .log))) all) (inv .1), omega (arith, inv .2, all))
+    (told (ap (recordsText (now (a .log))) all) (inv .1), omega (arith, inv .2, all))
 
 pub put-lines-spec : {M : Type 1} → statement M
 put-lines-spec =

@@ -17,8 +17,8 @@ returns c =
     let input = now (c .before .before .before .before .args .input) in
     traced (told (short-text input (c .before .before .if1 .taken)) refused)
 
-count-of-requires : tie.Need-count-of-requires
-count-of-requires c κs = search needs
+number-at-requires : tie.Need-number-at-requires
+number-at-requires c κs = search needs
 
 empty-log-requires : tie.Need-empty-log-requires
 empty-log-requires c κs = search needs
@@ -54,7 +54,7 @@ returns-2 c =
     let at-count = at-log .before in
     let at-if1 = at-count .before in
     let input = now (at-if1 .before .before .args .input) in
-    let same = long-text input (at-if1 .if1 .left) refl (mid-tail 2004 input) (at-log .empty-log .ensures .0) (at-count .count-of .ensures) in
+    let same = long-text input (at-if1 .if1 .left) refl (mid-tail 2004 input) (at-log .empty-log .ensures .0) (at-count .number-at .ensures .0) in
     traced (told same ran)
 
 pub trace-spec : {M : Type 1} → statement M
@@ -63,7 +63,7 @@ trace-spec =
     (tie.spec
     put-refused-requires
     returns
-    count-of-requires
+    number-at-requires
     empty-log-requires
     sub-put-run
     part-put-run-start
