@@ -1,10 +1,10 @@
 -- What a cycle in which an instruction is due lands at: by its stops in their order, and by what it does. Assumes nothing.
-use mathlib.Core.Path.{_≡_, _∙_, refl, sym, ap, subst}
+use mathlib.Core.Path.{_≡_, _∙_, refl, sym, ap}
 use mathlib.Core.Bool.{Bool, true, false, cond}
 use mathlib.Core.List.{List, [], _∷_, _++_}
 use Prim.Native.Nat.{ℕ, zero, suc, _+_, _-_, _*_, _<_, _≤_}
 use native.Mathlib.Omega.{arith}
-use lib.Dec.{leb, ltb}
+use lib.Dec.{ltb}
 use lib.ListN.{length, drop, set}
 use borrow.Author.Tests.{le-leb, lt-leb, ltb-true}
 use Rattle.runs.specs.TwoRunners.{firstOf}
@@ -12,24 +12,24 @@ use Rattle.runs.proofs.Refusals.{first-at, passes}
 use Rattle.upd546.specs.declared.Core.{Core}
 use Rattle.upd546.specs.declared.Lines.{Lines}
 use Rattle.upd546.specs.declared.State.{State}
-use Rattle.upd546.specs.TheMachine.{byteAt, follows, past, wordAt, withWord}
+use Rattle.upd546.specs.TheMachine.{byteAt, past, withWord}
 use Rattle.upd546.specs.Parts.{setOwed, setPc}
 use Rattle.upd546.specs.Ports.{Write, latched, logBytes}
 use Rattle.upd546.specs.Instructions as chip
 use Rattle.upd546.specs.Instructions.{Instruction, instruction}
 use Rattle.upd546.specs.OneMachineCycle.{ticked, given, needs, instructionStop, passedOver, begun, execute}
 use Rattle.laws.specs.Valid.{ValidCore}
-use Rattle.laws.proofs.Instructions.{ValidEffect, Keeps, keeps}
+use Rattle.laws.proofs.Instructions.{All, ValidWrite, ValidEffect, keeps}
 use Rattle.laws.proofs.Cycle.{given-valid, records-length}
 use Rattle.instructions.specs.declared.Given.{Given}
-use Rattle.instructions.specs.Groups.{chipGiven, writesOf}
+use Rattle.instructions.specs.Groups.{writesOf}
 use Rattle.effect.specs.declared.Effect.{Effect}
 use Rattle.effect.specs.Effects.{effectAt, Does}
 use Rattle.fetch.specs.declared.Fetched.{Fetched}
 use Rattle.fetch.specs.declared.Passed.{Passed}
 use Rattle.fetch.specs.Fetching.{fetchStop, Begins, PassedAs}
 use Rattle.portlog.specs.Appending.{Written}
-use Rattle.cycle.specs.Landing.{Landing, holds, landing, landed, Ready}
+use Rattle.cycle.specs.Landing.{holds, landing, landed, Ready}
 
 -- numbers in their order, one more at the end
 later : (a b c d k : ℕ) → firstOf (a ∷ b ∷ c ∷ []) ≡ suc k → firstOf (a ∷ b ∷ c ∷ d ∷ []) ≡ suc k
@@ -121,65 +121,92 @@ module _ (rom : List ℕ) (l : Lines) (s : State) (c : Core) (f : Fetched) (b : 
   }
 
 -- THE PARTS OF THE CODE, joined
-module _ (rom : List ℕ) (l : Lines) (s : State) (c : Core) (log : List ℕ) where
-  pub holds-fetch : (k : ℕ) → (k ≡ 0 → ⊥) → k ≡ fetchStop rom (c .flow .pc) → holds k s log ≡ landing (execute rom l s c) s log
-  holds-fetch zero n e = absurd (n refl)
-  holds-fetch (suc k) n e = sym (at-fetch rom l s c log k (sym e))
+
+-- a fetch that stops
+pub holds-fetch : (rom : List ℕ) (l : Lines) (s : State) (c : Core) (log : List ℕ) (k : ℕ) → (k ≡ 0 → ⊥) → k ≡ fetchStop rom (c .flow .pc)
+    → holds k s log ≡ landing (execute rom l s c) s log
+holds-fetch rom l s c log zero n e = absurd (n refl)
+holds-fetch rom l s c log (suc k) n e = sym (at-fetch rom l s c log k (sym e))
+
+-- the instruction that is due is fetched, and its effect is worked out
+pub record Doing (rom table : List ℕ) (l : Lines) (s : State) (c : Core) (log : List ℕ) (f : Fetched) (e : Effect) : Type 0 where
+  pub ready : Ready rom table l s
+  pub core : ValidCore c
+  pub goes-on : fetchStop rom (c .flow .pc) ≡ 0
+  pub begins : Begins rom (c .flow .pc) f
+  pub does : DoesDue rom l s c f begins e
+
+module _ {rom table : List ℕ} {l : Lines} {s : State} {c : Core} {log : List ℕ} {f : Fetched} {e : Effect} (h : Doing rom table l s c log f e) where
+  -- what the laws say of the instruction
+  due-valid : ValidEffect (dues rom l s c)
+  due-valid =
+      keeps (byteAt rom (c .flow .pc)) .effect (given rom l s c)
+      (given-valid s (h .ready .valid) (h .ready .below) rom l (h .ready .rom-bytes) (h .ready .lines) c (h .core))
+
+  pub writes-valid : All ValidWrite (writesOf (e .port) (e .value))
+  writes-valid = rw (h .does .writes) (due-valid .writes)
+
+  pub register-small : e .core .timer .register < 64
+  register-small = rw (h .does .core) (due-valid .core .scalars .register)
 
   -- an instruction that can be begun has base cycles
-  pub cycles-some : fetchStop rom (c .flow .pc) ≡ 0 → 0 < due rom c .cycles
+  due-cycles : 0 < due rom c .cycles
   unfolding fetchStop
-  cycles-some e = ltb-true 0 (due rom c .cycles) (passes (ltb 0 (due rom c .cycles)) 22 (first-at _ e 1))
+  due-cycles = ltb-true 0 (due rom c .cycles) (passes (ltb 0 (due rom c .cycles)) 22 (first-at _ (h .goes-on) 1))
 
-  -- a skip passes over two bytes at most
-  pub over-small : (e : chip.Effect) → passedOver rom e ≤ 2
-  unfolding passedOver
-  over-small e = go (e .skip)
-    where
-      go : (t : Bool) → cond t (instruction (byteAt rom (e .core .flow .pc)) .bytes) 0 ≤ 2
-      go true = keeps (byteAt rom (e .core .flow .pc)) .two-bytes
-      go false = omega arith
+  pub cycles-some : 0 < f .cycles
+  cycles-some = rw (h .begins .cycles) due-cycles
 
-  module _ (f : Fetched) (b : Begins rom (c .flow .pc) f) (z : fetchStop rom (c .flow .pc) ≡ 0) (e : Effect) (d : DoesDue rom l s c f b e) (p : Passed) (q : PassedAs rom (e .skip) (e .core .flow .pc) p) where
+  module _ {p : Passed} (q : PassedAs rom (e .skip) (e .core .flow .pc) p) where
     skip-same : cond (e .skip) (needs (e .core .flow .pc)) 0 ≡ skipStop (dues rom l s c)
-    skip-same = rw (d .skip, d .core)
+    skip-same = rw (h .does .skip, h .does .core)
 
+    -- a skip that stops
     pub holds-skip : (p .stop ≡ 0 → ⊥) → holds (p .stop) s log ≡ landing (execute rom l s c) s log
     holds-skip = go (p .stop) (q .stop ∙ skip-same)
       where
         go : (k : ℕ) → k ≡ skipStop (dues rom l s c) → (k ≡ 0 → ⊥) → holds k s log ≡ landing (execute rom l s c) s log
         go zero r n = absurd (n refl)
-        go (suc k) r n = sym (at-skip rom l s c log k z (sym r))
+        go (suc k) r n = sym (at-skip rom l s c log k (h .goes-on) (sym r))
 
     module _ (t : p .stop ≡ 0) where
       none-skipped : skipStop (dues rom l s c) ≡ 0
       none-skipped = sym skip-same ∙ sym (q .stop) ∙ t
 
+      -- a log that lacks the bytes
       pub holds-room : length log < 8 * length (writesOf (e .port) (e .value)) → holds 3 s log ≡ landing (execute rom l s c) s log
-      holds-room h = sym (at-room rom l s c log z none-skipped (rw (d .writes) at h))
+      holds-room r = sym (at-room rom l s c log (h .goes-on) none-skipped (rw (h .does .writes) at r))
 
-      pub over-same : p .over ≡ passedOver rom (dues rom l s c)
+      over-same : p .over ≡ passedOver rom (dues rom l s c)
       unfolding passedOver
-      over-same = q .over t ∙ rw (d .skip, d .core)
+      over-same = q .over t ∙ rw (h .does .skip, h .does .core)
+
+      -- a skip passes over two bytes at most
+      over-small : passedOver rom (dues rom l s c) ≤ 2
+      unfolding passedOver
+      over-small = go (dues rom l s c .skip)
+        where
+          go : (t : Bool) → cond t (instruction (byteAt rom (dues rom l s c .core .flow .pc)) .bytes) 0 ≤ 2
+          go true = keeps (byteAt rom (dues rom l s c .core .flow .pc)) .two-bytes
+          go false = omega arith
+
+      pub owed-small : f .cycles - 1 + p .over ≤ 3
+      owed-small = omega (arith, h .begins .cycles, keeps (byteAt rom (c .flow .pc)) .two-cycles, over-same, over-small)
 
       pub goes : 8 * length (writesOf (e .port) (e .value)) ≤ length log → {core : Core} {ram ports log′ : List ℕ} {bytes : ℕ}
           → core ≡ ticked (setOwed (f .cycles - 1 + p .over) (setPc (p .pc) (e .core)))
           → ram ≡ set (s .ram) (e .at) (e .word)
           → Written log (s .ports) (s .cycle .0) (writesOf (e .port) (e .value)) log′ ports bytes
           → landed (record { core = core; bytes = bytes; begun = 1; stop = 0 }) ram ports log′ ≡ landing (execute rom l s c) s log
-      goes h x y w =
-          let o = over-same in
+      goes r x y w =
+          let d = h .does in
           let m : ticked (setOwed (f .cycles - 1 + p .over) (setPc (p .pc) (e .core)))
           ≡ ticked (setOwed (due rom c .cycles - 1 + passedOver rom (dues rom l s c)) (setPc (past (passedOver rom (dues rom l s c)) (dues rom l s c .core .flow .pc)) (dues rom l s c .core)))
-          = rw (b .cycles, q .pc t, o, d .core) in
+          = rw (h .begins .cycles, q .pc t, over-same, d .core) in
           let core-same = x ∙ m in
           let ram-same = y ∙ d .stored in
           let log-same = w .appended ∙ ap (λ (ws : List Write). logBytes (s .cycle .0) ws ++ drop (length (logBytes (s .cycle .0) ws)) log) (d .writes) in
           let ports-same = w .latches ∙ ap (λ (ws : List Write). latched ws (s .ports)) (d .writes) in
           let bytes-same = w .count ∙ ap (λ (ws : List Write). length (logBytes (s .cycle .0) ws)) (d .writes) in
           (λ j. record { stop = 0; core = core-same j; ram = ram-same j; ports = ports-same j; log = log-same j; bytes = bytes-same j; begun = 1 })
-          ∙ sym (at-end rom l s c log z none-skipped (rw (d .writes) at h))
-
--- what the laws say of the instruction that is due
-pub due-valid : (rom table : List ℕ) (l : Lines) (s : State) (c : Core) → Ready rom table l s → ValidCore c → ValidEffect (dues rom l s c)
-due-valid rom table l s c r v = keeps (byteAt rom (c .flow .pc)) .effect (given rom l s c) (given-valid s (r .valid) (r .below) rom l (r .rom-bytes) (r .lines) c v)
+          ∙ sym (at-end rom l s c log (h .goes-on) none-skipped (rw (d .writes) at r))

@@ -1,6 +1,5 @@
 // One machine cycle in code, on a core by value and the RAM, the latches and the empty part of the log as they are lent.
 // Every stop is decided before anything lent is changed. It may not know of schedules, nor how many cycles a run has.
-use effect::Effect;
 use instructions::Given;
 use tables::InstructionTable;
 use upd546::Core;
@@ -50,10 +49,10 @@ fn finished(core: Core, pc: u16, owed: u8) -> Core
     requires { ⌜ core .timer .register < 64 ⌝ }
     ensures { λ r. ⌜ r ≡ ticked (setOwed owed (setPc pc core)) ⌝ }
 {
-    let mut c = instructions::same(core);
+    let mut c = upd546::same(core);
     c.flow.pc = pc;
     c.owed = owed;
-    instructions::same(steps::ticked(c))
+    steps::ticked(c)
 }
 
 // A cycle in which an instruction is due. `before` is the core before the lines were taken, and `c` after.
@@ -117,7 +116,7 @@ pub fn one_cycle(
     ensures { λ r. ⌜ landed r (now (ram .exit)) (now (ports .exit)) (now (log .exit)) ≡ landing (onAccepts (accepts c) (now (rom .entry)) lines (stateOf c (now (ram .entry)) (now (ports .entry)) n)) (stateOf c (now (ram .entry)) (now (ports .entry)) n) (now (log .entry)) ⌝ }
 {
     if steps::accepts(c) {
-        let core = instructions::same(steps::ticked(steps::taken(lines, steps::accepted(c))));
+        let core = steps::ticked(steps::taken(lines, steps::accepted(c)));
         return Stepped {
             core,
             bytes: 0,
@@ -125,9 +124,9 @@ pub fn one_cycle(
             stop: 0,
         };
     }
-    let t = instructions::same(steps::taken(lines, c));
+    let t = steps::taken(lines, c);
     if c.owed != 0 {
-        let core = instructions::same(steps::ticked(steps::paid(t)));
+        let core = steps::ticked(steps::paid(t));
         return Stepped {
             core,
             bytes: 0,

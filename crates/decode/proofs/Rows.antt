@@ -1,13 +1,12 @@
 -- Rows of equal codes, and the instruction of a code by its row. Assumes nothing.
-use mathlib.Core.Path.{_≡_, _∙_, refl, sym, ap}
+use mathlib.Core.Path.{_≡_, _∙_, sym, ap}
 use mathlib.Core.List.{List, _++_}
 use Prim.Native.Nat.{ℕ, _+_, _-_, _/_, _%_, _<_, _≤_}
 use native.Mathlib.Omega.{arith}
-use lib.ListN.{length, getD, replicate, getD-replicate, List·getD-append, List·getD-eq-default}
+use lib.ListN.{getD, replicate, getD-replicate, List·getD-append, List·getD-eq-default}
 use lib.Seq.{getD-append-add}
 use Rattle.upd546.specs.Instructions as chip
 use Rattle.upd546.specs.Instructions.{Instruction, codes, instruction}
-use Rattle.decode.specs.Named.{inRow}
 
 -- two halves of equal codes
 pub low-half : (a b : Instruction) (low : ℕ) → low < 8 → a ≡ getD (replicate 8 a ++ replicate 8 b) low chip.none

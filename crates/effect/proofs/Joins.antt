@@ -1,7 +1,7 @@
 -- From a group's effect to the effect of the instruction that is decoded. Assumes nothing.
 use mathlib.Core.Path.{_≡_, _∙_, refl, sym, ap, subst}
 use mathlib.Core.List.{List}
-use Prim.Native.Nat.{ℕ, _≤_}
+use Prim.Native.Nat.{ℕ}
 use native.Mathlib.Omega.{arith}
 use lib.ListN.{length, getD, set}
 use lib.Seq.{set-getD, set-out}
@@ -19,7 +19,7 @@ use Rattle.decode.specs.declared.Flag.{Flag}
 use Rattle.decode.specs.declared.Flag.the-variants as flags
 use Rattle.decode.specs.Named.{namedSum, namedBit, namedPointer, namedFlag}
 use Rattle.instructions.specs.declared.Given.{Given}
-use Rattle.instructions.specs.Groups.{chipGiven, writesOf}
+use Rattle.instructions.specs.Groups.{chipGiven}
 use Rattle.effect.specs.declared.Effect.{Effect}
 use Rattle.effect.specs.Effects.{effectOf, DoesAs, Does}
 

@@ -5,16 +5,15 @@ use instructions::Controlled;
 use instructions::Flagged;
 use instructions::Given;
 use instructions::Jumped;
+use instructions::NO_PORT;
 use instructions::Pointed;
 use instructions::Ported;
 use instructions::Summed;
 use instructions::Worked;
 use upd546::Core;
-use upd546::Interrupt;
 use upd546::LATCHES;
 use upd546::MARK_OTHER;
 use upd546::RAM_WORDS;
-use upd546::Registers;
 ghost use mathlib.Core.Path.{_≡_};
 ghost use mathlib.Core.List.{List};
 ghost use Prim.Native.Nat.{ℕ};
@@ -51,7 +50,7 @@ fn next(g: Given) -> Core
     ensures { λ r. ⌜ r ≡ nextOf g ⌝ }
 {
     let core = g.core;
-    let mut c = instructions::same(core);
+    let mut c = upd546::same(core);
     let pc = g.after;
     c.flow.pc = pc;
     c.mark = MARK_OTHER;
@@ -69,7 +68,7 @@ fn after_sum(g: Given, at: usize, r: Summed) -> Effect
         at,
         word: r.word,
         skip: r.skip,
-        port: 0,
+        port: NO_PORT,
         value: 0,
     }
 }
@@ -87,7 +86,7 @@ fn after_pointer(g: Given, at: usize, r: Pointed) -> Effect
         at,
         word: r.word,
         skip: r.skip,
-        port: 0,
+        port: NO_PORT,
         value: 0,
     }
 }
@@ -104,7 +103,7 @@ fn after_working(g: Given, at: usize, r: Worked) -> Effect
         at,
         word: r.word,
         skip: false,
-        port: 0,
+        port: NO_PORT,
         value: 0,
     }
 }
@@ -118,7 +117,7 @@ fn after_flag(g: Given, at: usize, r: Flagged) -> Effect
         at,
         word: r.word,
         skip: r.skip,
-        port: 0,
+        port: NO_PORT,
         value: 0,
     }
 }
@@ -134,7 +133,7 @@ fn after_jump(g: Given, r: Jumped) -> Effect
         at: RAM_WORDS,
         word: 0,
         skip: r.skip,
-        port: 0,
+        port: NO_PORT,
         value: 0,
     }
 }
@@ -155,7 +154,7 @@ fn after_control(g: Given, r: Controlled) -> Effect
         at: RAM_WORDS,
         word: 0,
         skip: r.skip,
-        port: 0,
+        port: NO_PORT,
         value: 0,
     }
 }

@@ -1,11 +1,10 @@
 -- Why an instruction can't be begun, case by case, and what is fetched. Assumes nothing.
-use mathlib.Core.Path.{_≡_, _∙_, refl, sym, ap}
-use mathlib.Core.Bool.{Bool, true, false, cond}
+use mathlib.Core.Path.{_≡_, _∙_, sym, ap}
+use mathlib.Core.Bool.{true, false}
 use mathlib.Core.List.{List}
-use Prim.Native.Nat.{ℕ, zero, suc, _<_, _≤_}
+use Prim.Native.Nat.{ℕ, suc, _<_, _≤_}
 use native.Mathlib.Omega.{arith}
-use lib.Dec.{eqb, ltb}
-use borrow.Author.Tests.{lt-ltb, le-ltb, le-leb, lt-leb}
+use borrow.Author.Tests.{lt-ltb, le-leb, lt-leb}
 use Rattle.runs.specs.TwoRunners.{firstOf}
 use Rattle.upd546.specs.TheMachine.{lastAddress, byteAt, follows, past}
 use Rattle.upd546.specs.Instructions.{instruction}
@@ -15,7 +14,7 @@ use Rattle.tables.specs.Tables.{sizeOf}
 use Rattle.laws.proofs.Instructions.{keeps}
 use Rattle.fetch.specs.declared.Fetched.{Fetched}
 use Rattle.fetch.specs.declared.Passed.{Passed}
-use Rattle.fetch.specs.Fetching.{instructionAt, fetchStop, Begins, FetchedAs, PassedAs}
+use Rattle.fetch.specs.Fetching.{instructionAt, fetchStop, FetchedAs, PassedAs}
 
 -- a byte that is there, and one that isn't
 needs-none : (a : ℕ) → a ≤ lastAddress → needs a ≡ 0

@@ -26,7 +26,8 @@ pub struct Passed {
     pub over: u8,
 }
 
-fn byte_at(rom: &[u8], a: u16) -> u8
+// The byte at an address.
+pub fn byte_at(rom: &[u8], a: u16) -> u8
     requires { ⌜ (length (now rom) ≡ romLength) × (a < romLength) ⌝ }
     ensures { λ r. ⌜ r ≡ byteAt (now (rom .entry)) a ⌝ }
 {

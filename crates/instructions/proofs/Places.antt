@@ -1,5 +1,5 @@
 -- Where the word at a RAM address stands: rows 0 to 4, rows 5 and 6, row 7. By one computed check. Assumes nothing.
-use mathlib.Core.Path.{_≡_, _∙_}
+use mathlib.Core.Path.{_≡_}
 use mathlib.Core.Bool.{cond}
 use Prim.Native.Nat.{ℕ, _+_, _-_, _%_, _<_, _≤_}
 use lib.Dec.{eqb, ltb, eqb→eq}

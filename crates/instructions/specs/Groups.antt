@@ -3,7 +3,6 @@ use Prim.Native.Nat.{ℕ, _%_, _/_}
 use mathlib.Core.Bool.{cond}
 use mathlib.Core.List.{List, [], _++_}
 use lib.Dec.{eqb}
-use Rattle.upd546.specs.declared.Core.{Core}
 use Rattle.upd546.specs.Parts.{withFlow, withTimer, setMark, setAcc, setCarry, setSaved, setDph, setDpl, setInt, setInte}
 use Rattle.upd546.specs.Ports.{Write, written, portC, portD}
 use Rattle.upd546.specs.Instructions as chip

@@ -1,10 +1,9 @@
-// What an instruction does, in code: a function for each group of instructions, on values, and one that joins them.
+// What an instruction does, in code: a function for each group of instructions, on values.
 // It may not know how a byte is fetched, what a skip passes over, nor how a run goes.
 //
 // A struct is built field by field where it is handed on: the compiler packs the fields of a struct that is copied whole.
 use decode::Bit;
 use decode::Control;
-use decode::Decoded;
 use decode::Flag;
 use decode::Jump;
 use decode::Pointer;
@@ -13,14 +12,15 @@ use decode::Sum;
 use decode::Working;
 use upd546::Core;
 use upd546::Flow;
-use upd546::Interrupt;
 use upd546::LATCHES;
 use upd546::Lines;
 use upd546::MARK_EI;
 use upd546::MARK_LDI;
 use upd546::MARK_OTHER;
 use upd546::MARK_STM;
-use upd546::Registers;
+use upd546::PORT_C;
+use upd546::PORT_E;
+use upd546::PORT_I;
 use upd546::STACK_DEPTH;
 use upd546::Timer;
 ghost use mathlib.Core.Path.{_≡_};
@@ -29,9 +29,9 @@ ghost use mathlib.Core.List.{List};
 ghost use Prim.Native.Nat.{ℕ, _+_, _*_, _^_, _<_};
 ghost use Rattle.upd546.specs.TheMachine.{placeOf, markOther};
 ghost use Rattle.upd546.specs.Bytes.{bitAt, withBit};
-ghost use Rattle.upd546.specs.Ports.{readPort, outputs, bitWritten, bitOutputs, portE};
+ghost use Rattle.upd546.specs.Ports.{readPort, outputs, bitOutputs};
 ghost use Rattle.decode.specs.Named.{namedSum, namedBit, namedPointer, namedWorking, namedFlag, namedJump, namedControl, namedPort};
-ghost use Rattle.laws.specs.Valid.{Scalars, ValidStack, ValidCore, ValidLines, ValidPorts};
+ghost use Rattle.laws.specs.Valid.{Scalars, ValidPorts};
 ghost use Rattle.instructions.specs.Groups.{chipGiven, summed, pointed, worked, flagged, jumped, controlled, writesOf, ported};
 
 // What an instruction is given besides the RAM and the latches.
@@ -87,7 +87,11 @@ pub struct Controlled {
     pub skip: bool,
 }
 
-// `port` is 0 where no port is written, and 9 where C and D are, from the halves of `value`.
+// What stands for a port where none is written, and where C and D are, from the halves of a value.
+pub const NO_PORT: u8 = 0;
+
+pub const PORTS_C_AND_D: u8 = 9;
+
 pub struct Ported {
     pub acc: u8,
     pub skip: bool,
@@ -95,42 +99,10 @@ pub struct Ported {
     pub value: u8,
 }
 
-// The effective writes of an instruction.
+// The effective writes of an instruction: a port, or one of the two numbers above, and its value.
 pub struct Output {
     pub port: u8,
     pub value: u8,
-}
-
-// A core, field by field.
-pub fn same(c: Core) -> Core
-    ensures { λ r. ⌜ r ≡ c ⌝ }
-{
-    let stack = c.flow.stack;
-    Core {
-        registers: Registers {
-            acc: c.registers.acc,
-            carry: c.registers.carry,
-            saved: c.registers.saved,
-            dph: c.registers.dph,
-            dpl: c.registers.dpl,
-        },
-        flow: Flow {
-            pc: c.flow.pc,
-            stack: [stack[0], stack[1], stack[2]],
-        },
-        interrupt: Interrupt {
-            int: c.interrupt.int,
-            inte: c.interrupt.inte,
-            level: c.interrupt.level,
-        },
-        timer: Timer {
-            tm: c.timer.tm,
-            register: c.timer.register,
-            counter: c.timer.counter,
-        },
-        mark: c.mark,
-        owed: c.owed,
-    }
 }
 
 // Bit b of x.
@@ -618,15 +590,21 @@ fn output_port(p: u8, v: u8) -> Output
     requires { ⌜ v < 16 ⌝ }
     ensures { λ r. ⌜ writesOf (r .port) (r .value) ≡ outputs p v ⌝ }
 {
-    if p < 2 {
-        return Output { port: 0, value: 0 };
-    }
-    if 8 < p {
-        return Output { port: 0, value: 0 };
-    }
-    if p == 8 {
+    if p < PORT_C {
         return Output {
-            port: 8,
+            port: NO_PORT,
+            value: 0,
+        };
+    }
+    if PORT_I < p {
+        return Output {
+            port: NO_PORT,
+            value: 0,
+        };
+    }
+    if p == PORT_I {
+        return Output {
+            port: PORT_I,
             value: v % 8,
         };
     }
@@ -638,14 +616,20 @@ fn output_bit(ports: &[u8; LATCHES], p: u8, b: u8, v: u8) -> Output
     requires { ⌜ ValidPorts (now ports) × (b < 4) × (v < 2) ⌝ }
     ensures { λ r. ⌜ writesOf (r .port) (r .value) ≡ bitOutputs (now (ports .entry)) p b v ⌝ }
 {
-    if p < 4 {
-        return Output { port: 0, value: 0 };
+    if p < PORT_E {
+        return Output {
+            port: NO_PORT,
+            value: 0,
+        };
     }
-    if 8 < p {
-        return Output { port: 0, value: 0 };
+    if PORT_I < p {
+        return Output {
+            port: NO_PORT,
+            value: 0,
+        };
     }
-    if p < 8 {
-        let i = (p - 2) as usize;
+    if p < PORT_I {
+        let i = (p - PORT_C) as usize;
         return Output {
             port: p,
             value: with_bit(ports[i], b, v),
@@ -653,11 +637,14 @@ fn output_bit(ports: &[u8; LATCHES], p: u8, b: u8, v: u8) -> Output
     }
     if b < 3 {
         return Output {
-            port: 8,
+            port: PORT_I,
             value: with_bit(ports[6], b, v),
         };
     }
-    Output { port: 0, value: 0 }
+    Output {
+        port: NO_PORT,
+        value: 0,
+    }
 }
 
 fn port_left(acc: u8, skip: bool, port: u8, value: u8) -> Ported
@@ -693,15 +680,15 @@ pub fn port_group(op: Port, g: Given, ports: &[u8; LATCHES]) -> Ported
     let l = g.lines;
     match op {
         Port::Op => written(acc, output_port(dpl, acc)),
-        Port::Ocd => port_left(acc, false, 9, g.second),
-        Port::Oe => port_left(acc, false, 4, acc),
+        Port::Ocd => port_left(acc, false, PORTS_C_AND_D, g.second),
+        Port::Oe => port_left(acc, false, PORT_E, acc),
         Port::Rpb => written(acc, output_bit(ports, dpl, b, 0)),
-        Port::Reb => port_left(acc, false, 4, with_bit(ports[2], b, 0)),
+        Port::Reb => port_left(acc, false, PORT_E, with_bit(ports[2], b, 0)),
         Port::Spb => written(acc, output_bit(ports, dpl, b, 1)),
-        Port::Seb => port_left(acc, false, 4, with_bit(ports[2], b, 1)),
-        Port::Ip => port_left(read_port(l, dpl), false, 0, 0),
-        Port::Ia => port_left(g.lines.a, false, 0, 0),
-        Port::Tpb => port_left(acc, bit(read_port(l, dpl), b) == 1, 0, 0),
-        Port::Tpa => port_left(acc, bit(g.lines.a, b) == 1, 0, 0),
+        Port::Seb => port_left(acc, false, PORT_E, with_bit(ports[2], b, 1)),
+        Port::Ip => port_left(read_port(l, dpl), false, NO_PORT, 0),
+        Port::Ia => port_left(g.lines.a, false, NO_PORT, 0),
+        Port::Tpb => port_left(acc, bit(read_port(l, dpl), b) == 1, NO_PORT, 0),
+        Port::Tpa => port_left(acc, bit(g.lines.a, b) == 1, NO_PORT, 0),
     }
 }

@@ -5,19 +5,16 @@ use schedule::Cursor;
 use tables::PositionTable;
 use tables::RegisterTable;
 use upd546::Core;
-use upd546::Flow;
 use upd546::Interrupt;
 use upd546::LAST_ADDRESS;
 use upd546::MARK_OTHER;
-use upd546::Registers;
 use upd546::Timer;
 ghost use mathlib.Core.Path.{_≡_};
 ghost use mathlib.Core.Bool.{_&&_};
 ghost use Prim.Native.Nat.{_+_, _-_, _*_, _%_, _<_, _≤_, min};
 ghost use lib.ListN.{length};
 ghost use Rattle.runs.specs.TwoRunners.{cycleLimit};
-ghost use Rattle.upd546.specs.TheMachine.{romLength, byteAt, markOther};
-ghost use Rattle.upd546.specs.Parts.{withTimer, setMark};
+ghost use Rattle.upd546.specs.TheMachine.{romLength};
 ghost use Rattle.upd546.specs.Timer.{period, ticksLeft, timerLeft};
 ghost use Rattle.upd546.specs.TwoRunners.{atTtm, atJcpBack, jumpedCore};
 ghost use Rattle.tables.specs.Tables.{positionTable, registerTable};
@@ -31,14 +28,6 @@ const FIRST_JCP: u8 = 0xC0;
 // The polynomial register is 1 again after so many steps.
 const PERIOD: u64 = 63;
 
-fn byte_at(rom: &[u8], a: u16) -> u8
-    requires { ⌜ (length (now rom) ≡ romLength) × (a < romLength) ⌝ }
-    ensures { λ r. ⌜ r ≡ byteAt (now (rom .entry)) a ⌝ }
-{
-    let i = a as usize;
-    rom[i]
-}
-
 // Whether the byte at PC is TTM and the next address holds a JCP back to it.
 fn waits(rom: &[u8], pc: u16) -> bool
     requires { ⌜ length (now rom) ≡ romLength ⌝ }
@@ -47,14 +36,14 @@ fn waits(rom: &[u8], pc: u16) -> bool
     if LAST_ADDRESS < pc {
         return false;
     }
-    if byte_at(rom, pc) != CODE_TTM {
+    if fetch::byte_at(rom, pc) != CODE_TTM {
         return false;
     }
     let next = steps::follows(pc);
     if LAST_ADDRESS < next {
         return false;
     }
-    let code = byte_at(rom, next);
+    let code = fetch::byte_at(rom, next);
     if code < FIRST_JCP {
         return false;
     }
@@ -158,39 +147,6 @@ fn timer_left(registers: &RegisterTable, tm: u8, ticks: u64) -> Timer
     }
 }
 
-// The core with this timer and mark other.
-// Structs are made field by field, so that the optimiser keeps the fields apart.
-fn with_timer(c: Core, tm: u8, register: u8, counter: u8) -> Core
-    ensures { λ r. ⌜ r ≡ setMark markOther (withTimer c (record { tm = tm; register = register; counter = counter })) ⌝ }
-{
-    let stack = c.flow.stack;
-    Core {
-        registers: Registers {
-            acc: c.registers.acc,
-            carry: c.registers.carry,
-            saved: c.registers.saved,
-            dph: c.registers.dph,
-            dpl: c.registers.dpl,
-        },
-        flow: Flow {
-            pc: c.flow.pc,
-            stack: [stack[0], stack[1], stack[2]],
-        },
-        interrupt: Interrupt {
-            int: c.interrupt.int,
-            inte: c.interrupt.inte,
-            level: c.interrupt.level,
-        },
-        timer: Timer {
-            tm,
-            register,
-            counter,
-        },
-        mark: MARK_OTHER,
-        owed: c.owed,
-    }
-}
-
 // The core after a jump of j cycles, at the same cost for every j.
 pub fn jumped(positions: &PositionTable, registers: &RegisterTable, core: Core, j: u64) -> Core
     requires { ⌜ Jumpable (now positions) (now registers) core j ⌝ }
@@ -198,6 +154,9 @@ pub fn jumped(positions: &PositionTable, registers: &RegisterTable, core: Core, 
 {
     let timer = core.timer;
     let ticks = ticks_left(positions, timer) - j;
-    let next = timer_left(registers, core.timer.tm, ticks);
-    with_timer(core, next.tm, next.register, next.counter)
+    let left = timer_left(registers, core.timer.tm, ticks);
+    let mut next = upd546::same(core);
+    next.timer = left;
+    next.mark = MARK_OTHER;
+    next
 }

@@ -1,14 +1,14 @@
 -- The records of no, one and two writes. Assumes nothing.
-use mathlib.Core.Path.{_≡_, _∙_, refl, sym, ap, ap₂, subst}
+use mathlib.Core.Path.{_≡_, _∙_, refl, ap, ap₂, subst}
 use mathlib.Core.List.{List, [], _∷_, _++_}
-use Prim.Native.Nat.{ℕ, _+_, _-_, _*_, _/_, _%_, _≤_}
+use Prim.Native.Nat.{ℕ, _+_, _-_, _/_, _%_, _≤_}
 use native.Mathlib.Omega.{arith}
 use lib.ListN.{length, take, drop, set}
-use lib.Seq.{drop-drop}
-use borrow.Author.Tests.{ne-eqb}
+use lib.Seq.{drop-drop, drop-cons}
 use borrow.Rule.Slice.PartMut.{midOf, putMid}
-use Rattle.upd546.specs.Ports.{Write, written, logRecord, logBytes, latched, portC, portD}
-use Rattle.laws.proofs.Instructions.{All, none, more, ValidWrite}
+use Rattle.upd546.specs.Bytes.{bytesOf}
+use Rattle.upd546.specs.Ports.{Write, written, logRecord, portC, portD}
+use Rattle.laws.proofs.Instructions.{All, more, ValidWrite}
 use Rattle.instructions.specs.Groups.{writesOf}
 use Rattle.instructions.proofs.Writes.{one-write}
 use Rattle.portlog.specs.Appending.{Written}
@@ -34,6 +34,11 @@ pub port-of : (port v : ℕ) → (port ≡ 0 → ⊥) → (port ≡ 9 → ⊥) �
 port-of port v a b h =
     let w = head-of (subst (All ValidWrite) (one-write port v a b) h) in
     (w .first, w .last)
+
+-- the cycle's six bytes, and two stores behind them
+pub record-put : (log : List ℕ) (n port v : ℕ) → 8 ≤ length log → {m : List ℕ} → m ≡ bytesOf 6 n ++ drop 6 log
+    → set (set m 6 port) 7 v ≡ logRecord n (record-of port v) ++ drop 8 log
+record-put log n port v h e = rw (e, drop-cons log 6 0 (omega arith), drop-cons log 7 0 (omega arith))
 
 module _ (log ports : List ℕ) (n port v : ℕ) where
   pub writes-none : port ≡ 0 → Written log ports n (writesOf port v) log ports 0

@@ -3,7 +3,7 @@
 // it is named, so a run makes it once and lends it.
 // It may not know what an instruction does, nor how a run goes.
 ghost use mathlib.Core.Path.{_≡_};
-ghost use Prim.Native.Nat.{_<_, _≤_};
+ghost use Prim.Native.Nat.{_<_};
 ghost use Rattle.upd546.specs.Timer.{positionOf, registerAfter};
 ghost use Rattle.tables.specs.Tables.{instructionTable, positionTable, registerTable, sizeOf};
 

@@ -1,10 +1,10 @@
 -- Where the loop of a run stands, and where a cycle takes it. Assumes nothing.
 use mathlib.Core.Path.{_≡_, _∙_, refl, sym, ap, ap₂, subst}
 use mathlib.Core.Bool.{Bool, true, false, cond}
-use mathlib.Core.List.{List, [], _∷_, _++_, append-assoc, append-nil}
+use mathlib.Core.List.{List, [], _++_, append-assoc, append-nil}
 use mathlib.Core.Option.{Option, none, some}
 use Prim.Native.Nat.{ℕ, zero, suc, _+_, _-_, _*_, _<_, _≤_}
-use native.Mathlib.Nat.{add-zero, sub-zero}
+use native.Mathlib.Nat.{sub-zero}
 use native.Mathlib.Omega.{arith}
 use lib.Dec.{leb}
 use lib.ListN.{length, take, drop, length-append, length-drop, take-append-drop}
@@ -19,7 +19,7 @@ use Rattle.runs.proofs.Loop.{sofar, one-stops, one-fills, one-goes, onwards, sp
 use Rattle.upd546.specs.declared.Core.{Core}
 use Rattle.upd546.specs.declared.Lines.{Lines}
 use Rattle.upd546.specs.declared.State.{State}
-use Rattle.upd546.specs.TheLineSchedule.{linesAt}
+use Rattle.upd546.specs.TheLineSchedule.{scheduleNumber}
 use Rattle.upd546.specs.OneMachineCycle.{accepts, onAccepts, cycle}
 use Rattle.upd546.specs.TwoRunners.{jumpLength, jumpedCore, jumped, upd546}
 use Rattle.tables.specs.Tables.{instructionTable, positionTable, registerTable}
@@ -37,7 +37,7 @@ use Rattle.cycle.specs.Landing.{Landing, stateOf, landed, landing, Ready}
 use Rattle.jump.specs.Boundary.{Boundary, Jumpable}
 use Rattle.jump.proofs.Lengths.{stands-last}
 use Rattle.turns.specs.Either.{runBy, jumpBy}
-use Rattle.turns.proofs.Taken.{run-taken}
+use Rattle.turns.proofs.Taken.{Taken, run-taken}
 
 -- the whole run, of the runner that `skips` chooses
 abbrev whole : Bool → List ℕ → List ℕ → List ℕ → ℕ → State → Steps State
@@ -47,6 +47,8 @@ whole skips rom sched log₀ n s = onwards upd546 rom sched skips n (length log�
 pub record At (skips : Bool) (rom sched log₀ : List ℕ) (n : ℕ) (s : State) (log : List ℕ) (t : State) (cursor : Cursor) (at done begun spared : ℕ) : Type 0 where
   pub w : List ℕ
   pub number : runNumber upd546 rom sched s n ≡ 0
+  pub rom-bytes : Bytes rom
+  pub sched-bytes : Bytes sched
   pub rises : t .cycle .0 ≡ s .cycle .0 + done
   pub valid : Valid t
   pub stands : Stands sched (t .cycle .0) cursor
@@ -69,10 +71,12 @@ pub record Forward (skips : Bool) (rom sched log₀ : List ℕ) (n : ℕ) (s t :
       → At skips rom sched log₀ n s log (stateOf core ram ports (s .cycle .0 + (done + span))) next at (done + span) begun spared
 
 pub starts : (skips : Bool) (rom sched log : List ℕ) (n : ℕ) (s : State) (cursor : Cursor) → runNumber upd546 rom sched s n ≡ 0
-    → Stands sched (s .cycle .0) cursor → At skips rom sched log n s log s cursor 0 0 0 0
-starts skips rom sched log n s cursor e k = record {
+    → Bytes rom → Bytes sched → Stands sched (s .cycle .0) cursor → At skips rom sched log n s log s cursor 0 0 0 0
+starts skips rom sched log n s cursor e br bs k = record {
   w = [];
   number = e;
+  rom-bytes = br;
+  sched-bytes = bs;
   rises = omega arith;
   valid = accepted-valid s (run-taken rom sched s n e .state);
   stands = k;
@@ -123,6 +127,16 @@ run-by true rom sched log n s = refl
 
 module _ {skips : Bool} {rom sched log₀ : List ℕ} {n : ℕ} {s : State} {log : List ℕ} {t : State} {cursor : Cursor} {at done begun spared : ℕ}
     (h : At skips rom sched log₀ n s log t cursor at done begun spared) where
+  taken : Taken rom sched s n
+  taken = run-taken rom sched s n (h .number)
+
+  -- the run ends within the cycle limit
+  pub limit : s .cycle .0 + n ≤ cycleLimit
+  limit = taken .limit
+
+  pub schedule-taken : scheduleNumber sched ≡ 0
+  schedule-taken = taken .schedule
+
   -- what is answered, where the run came to so much
   tells : (o : Option ℕ) → whole skips rom sched log₀ n s ≡ record { ran = sofar t (h .w) done begun o; steps = done - spared }
       → record { end = endOf o; state = t; cycles = done; clocks = 4 * done; begun = begun; written = at; steps = done - spared; log = log }
@@ -153,19 +167,17 @@ module _ {skips : Bool} {rom sched log₀ : List ℕ} {n : ℕ} {s : State} {log
     cycle-lines = ap (λ (l : Lines). onAccepts (accepts (t .core)) rom l t) (h .stands .lines)
 
     below : t .cycle .0 < cycleLimit
-    below = omega (arith, h .rises, run-taken rom sched s n (h .number) .limit)
+    below = omega (arith, h .rises, limit)
 
-    pub ready : (table : List ℕ) → Bytes rom → Bytes sched → table ≡ instructionTable → Ready rom table (cursor .lines) t
-    ready table br bs e =
-        let k = run-taken rom sched s n (h .number) in
-        record {
-          rom-length = k .rom-length;
-          rom-bytes = br;
-          sizes = e;
-          lines = subst ValidLines (sym (h .stands .lines)) (lines-valid rom sched (t .cycle .0) bs (k .panel));
-          valid = h .valid;
-          below = below;
-        }
+    pub ready : (table : List ℕ) → table ≡ instructionTable → Ready rom table (cursor .lines) t
+    ready table e = record {
+      rom-length = taken .rom-length;
+      rom-bytes = h .rom-bytes;
+      sizes = e;
+      lines = subst ValidLines (sym (h .stands .lines)) (lines-valid rom sched (t .cycle .0) (h .sched-bytes) (taken .panel));
+      valid = h .valid;
+      below = below;
+    }
 
     one-more : n - done ≡ suc (n - (done + 1))
     one-more = omega arith
@@ -175,269 +187,279 @@ module _ {skips : Bool} {rom sched log₀ : List ℕ} {n : ℕ} {s : State} {log
 
     -- what the jump's length is asked for
     pub boundary : (positions : List ℕ) → positions ≡ positionTable → Boundary rom sched positions (t .core .timer) cursor (t .cycle .0) (n - done)
-    boundary positions e =
-        let k = run-taken rom sched s n (h .number) in
-        record {
-          rom-length = k .rom-length;
-          schedule = k .schedule;
-          table = e;
-          register = h .valid .core .scalars .register;
-          stands = h .stands;
-          limit = omega (arith, h .rises, k .limit);
-        }
+    boundary positions e = record {
+      rom-length = taken .rom-length;
+      schedule = taken .schedule;
+      table = e;
+      register = h .valid .core .scalars .register;
+      stands = h .stands;
+      limit = omega (arith, h .rises, limit);
+    }
 
-    -- THE NEXT STEP is one cycle
-    module _ (none-ahead : 0 ≡ jumpBy skips rom sched t (n - done)) where
-      one-cycle-span : (b : Bool) → 0 ≡ jumpBy b rom sched t (n - done) → spanOf upd546 rom sched b t (suc (n - (done + 1))) ≡ 1
-      one-cycle-span false e = refl
-      one-cycle-span true e = ap strideOf (sym (rw one-more at e))
+  -- THE NEXT STEP is a jump of j cycles
+  pub record Jumps (j : ℕ) : Type 0 where
+    pub more : done < n
+    pub ahead : j ≡ jumpBy skips rom sched t (n - done)
+    pub some-ahead : j ≡ 0 → ⊥
 
-      pub span-one : spanOf upd546 rom sched skips t (suc (n - (done + 1))) ≡ 1
-      span-one = one-cycle-span skips none-ahead
+  -- THE NEXT STEP is one cycle, which answers r and leaves RAM, latches and the part of the log that it was lent
+  pub record Lands (r : Stepped) (ram ports part : List ℕ) : Type 0 where
+    pub more : done < n
+    pub none-ahead : 0 ≡ jumpBy skips rom sched t (n - done)
+    pub lands : landed r ram ports part ≡ landing (onAccepts (accepts (t .core)) rom (cursor .lines) t) t (midOf at (length log - at) log)
 
-    -- THE NEXT STEP is a jump
-    module _ (j : ℕ) (ahead : j ≡ jumpBy skips rom sched t (n - done)) (some-ahead : j ≡ 0 → ⊥) where
-      is-length : (b : Bool) → j ≡ jumpBy b rom sched t (n - done) → jumpLength rom sched t (n - done) ≡ j
-      is-length false e = absurd (some-ahead e)
-      is-length true e = sym e
+module _ {skips : Bool} {rom sched log₀ : List ℕ} {n : ℕ} {s : State} {log : List ℕ} {t : State} {cursor : Cursor} {at done begun spared : ℕ}
+    {h : At skips rom sched log₀ n s log t cursor at done begun spared} {j : ℕ} (k : Jumps h j) where
+  is-length : (b : Bool) → j ≡ jumpBy b rom sched t (n - done) → jumpLength rom sched t (n - done) ≡ j
+  is-length false e = absurd (k .some-ahead e)
+  is-length true e = sym e
 
-      length-is : jumpLength rom sched t (n - done) ≡ j
-      length-is = is-length skips ahead
+  length-is : jumpLength rom sched t (n - done) ≡ j
+  length-is = is-length skips (k .ahead)
 
-      stride-same : (k : ℕ) → (k ≡ 0 → ⊥) → strideOf k ≡ k
-      stride-same zero m = absurd (m refl)
-      stride-same (suc k) m = refl
+  stride-same : (i : ℕ) → (i ≡ 0 → ⊥) → strideOf i ≡ i
+  stride-same zero m = absurd (m refl)
+  stride-same (suc i) m = refl
 
-      jump-span : (b : Bool) → j ≡ jumpBy b rom sched t (n - done) → j ≡ spanOf upd546 rom sched b t (suc (n - (done + 1)))
-      jump-span false e = absurd (some-ahead e)
-      jump-span true e = sym (stride-same j some-ahead) ∙ ap strideOf (rw one-more at e)
+  jump-span : (b : Bool) → j ≡ jumpBy b rom sched t (n - done) → j ≡ spanOf upd546 rom sched b t (suc (n - (done + 1)))
+  jump-span false e = absurd (k .some-ahead e)
+  jump-span true e = sym (stride-same j (k .some-ahead)) ∙ ap strideOf (rw (one-more h (k .more)) at e)
 
-      pub jumpable : (positions registers : List ℕ) → positions ≡ positionTable → registers ≡ registerTable → Jumpable positions registers (t .core) j
-      jumpable positions registers e f = record {
-        position-table = e;
-        register-table = f;
-        runs = jump-runs rom sched t (n - done) j length-is some-ahead;
-        register = h .valid .core .scalars .register;
-        ticks = jump-ticks rom sched t (n - done) j length-is some-ahead;
-      }
+  pub jumpable : (positions registers : List ℕ) → positions ≡ positionTable → registers ≡ registerTable → Jumpable positions registers (t .core) j
+  jumpable positions registers e f = record {
+    position-table = e;
+    register-table = f;
+    runs = jump-runs rom sched t (n - done) j length-is (k .some-ahead);
+    register = h .valid .core .scalars .register;
+    ticks = jump-ticks rom sched t (n - done) j length-is (k .some-ahead);
+  }
 
-      -- no jump leads past the last cycle, so the counts fit
-      pub within-run : j ≤ n - done
-      within-run = subst (λ (k : ℕ). k ≤ n - done) length-is (jump-within rom sched t (n - done))
+  -- no jump leads past the last cycle, so the counts fit
+  pub within-run : j ≤ n - done
+  within-run = subst (λ (i : ℕ). i ≤ n - done) length-is (jump-within rom sched t (n - done))
 
-      pub stands-before : Stands sched (t .cycle .0 + (j - 1)) cursor
-      stands-before =
-          let k = run-taken rom sched s n (h .number) in
-          subst (λ (c : ℕ). Stands sched c cursor) (last-before (t .cycle .0) j some-ahead)
-          (stands-last rom sched t (n - done) j cursor (k .schedule) (h .stands) (omega (arith, h .rises, k .limit)) length-is some-ahead)
+  pub stands-before : Stands sched (t .cycle .0 + (j - 1)) cursor
+  stands-before =
+      let more = k .more in
+      subst (λ (c : ℕ). Stands sched c cursor) (last-before (t .cycle .0) j (k .some-ahead))
+      (stands-last rom sched t (n - done) j cursor (taken h .schedule) (h .stands) (omega (arith, h .rises, limit h)) length-is (k .some-ahead))
 
-      pub jumps-on : Bytes rom → Bytes sched → (next : Cursor) → Stands sched (t .cycle .0 + (j - 1) + 1) next
-          → {t′ : State} → t′ ≡ stateOf (jumpedCore j (t .core)) (t .ram) (t .ports) (s .cycle .0 + (done + j))
-          → At skips rom sched log₀ n s log t′ next at (done + j) (begun + j) (spared + (j - 1))
-      jumps-on br bs next k q =
-          let taken = run-taken rom sched s n (h .number) in
-          let panel : Panel upd546 rom sched = record { rom-bytes = br; sched-bytes = bs; accepted = taken .panel } in
-          let up : t .cycle .0 + j ≡ s .cycle .0 + (done + j) = omega (arith, h .rises) in
-          let to-is = q ∙ ap (λ (c : ℕ). stateOf (jumpedCore j (t .core)) (t .ram) (t .ports) c) (sym up) in
-          let steps = steps-after done spared j (h .less) some-ahead in
-          let left = left-after n done j more in
-          let half = loop-goes upd546 rom sched skips _ (length log₀) t (h .w) done begun (done - spared) (n - (done + 1)) on (jumped j t) [] j j
-          (jump-span skips ahead) (some-one j some-ahead) (jump-in-room rom sched t (n - done) j length-is some-ahead (h .valid) (length log₀ - length (h .w))) in
-          rw to-is
-          (record {
-            w = h .w;
-            number = h .number;
-            rises = up;
-            valid = jump-keeps rom sched t (n - done) j panel (h .valid)
-                (limit-after (t .cycle .0) (s .cycle .0) n done j (h .rises) (h .not-past) (taken .limit) within-run) length-is some-ahead;
-            stands = subst (λ (c : ℕ). Stands sched c next) (last-next (t .cycle .0) j some-ahead) k;
-            not-past = end-after n done j (h .not-past) within-run;
-            few = few-after done begun j (h .few);
-            less = less-after done spared j (h .less);
-            place = h .place;
-            room = h .room;
-            size = h .size;
-            log-is = h .log-is;
-            half = rw (append-nil, steps, left) at half;
-          })
+  pub jumps-on : (next : Cursor) → Stands sched (t .cycle .0 + (j - 1) + 1) next
+      → {t′ : State} → t′ ≡ stateOf (jumpedCore j (t .core)) (t .ram) (t .ports) (s .cycle .0 + (done + j))
+      → At skips rom sched log₀ n s log t′ next at (done + j) (begun + j) (spared + (j - 1))
+  jumps-on next stands q =
+      let panel : Panel upd546 rom sched = record { rom-bytes = h .rom-bytes; sched-bytes = h .sched-bytes; accepted = taken h .panel } in
+      let up : t .cycle .0 + j ≡ s .cycle .0 + (done + j) = omega (arith, h .rises) in
+      let to-is = q ∙ ap (λ (c : ℕ). stateOf (jumpedCore j (t .core)) (t .ram) (t .ports) c) (sym up) in
+      let steps = steps-after done spared j (h .less) (k .some-ahead) in
+      let left = left-after n done j (k .more) in
+      let half = loop-goes upd546 rom sched skips _ (length log₀) t (h .w) done begun (done - spared) (n - (done + 1)) (on h (k .more)) (jumped j t) [] j j
+      (jump-span skips (k .ahead)) (some-one j (k .some-ahead)) (jump-in-room rom sched t (n - done) j length-is (k .some-ahead) (h .valid) (length log₀ - length (h .w))) in
+      rw to-is
+      (record {
+        w = h .w;
+        number = h .number;
+        rom-bytes = h .rom-bytes;
+        sched-bytes = h .sched-bytes;
+        rises = up;
+        valid = jump-keeps rom sched t (n - done) j panel (h .valid)
+            (limit-after (t .cycle .0) (s .cycle .0) n done j (h .rises) (h .not-past) (limit h) within-run) length-is (k .some-ahead);
+        stands = subst (λ (c : ℕ). Stands sched c next) (last-next (t .cycle .0) j (k .some-ahead)) stands;
+        not-past = end-after n done j (h .not-past) within-run;
+        few = few-after done begun j (h .few);
+        less = less-after done spared j (h .less);
+        place = h .place;
+        room = h .room;
+        size = h .size;
+        log-is = h .log-is;
+        half = rw (append-nil, steps, left) at half;
+      })
 
-      pub jumps-forward : Bytes rom → Bytes sched → {log′ ram′ ports′ : List ℕ} {core′ : Core} {at′ begun′ spared′ span : ℕ} → log′ ≡ log
-          → core′ ≡ jumpedCore j (t .core) → ram′ ≡ t .ram → ports′ ≡ t .ports → at′ ≡ at → begun′ ≡ begun + j → spared′ ≡ spared + (j - 1) → span ≡ j
-          → Forward skips rom sched log₀ n s t cursor done log′ core′ ram′ ports′ at′ begun′ spared′ span
-      jumps-forward br bs e₁ e₂ e₃ e₄ e₅ e₆ e₇ e₈ =
-          rw (e₁, e₂, e₃, e₄, e₅, e₆, e₇, e₈)
-          (record { some-cycles = some-one j some-ahead; within-run = within-run; stands = stands-before; on = λ next k. jumps-on br bs next k refl })
+  pub jumps-forward : {log′ ram′ ports′ : List ℕ} {core′ : Core} {at′ begun′ spared′ span : ℕ} → log′ ≡ log
+      → core′ ≡ jumpedCore j (t .core) → ram′ ≡ t .ram → ports′ ≡ t .ports → at′ ≡ at → begun′ ≡ begun + j → spared′ ≡ spared + (j - 1) → span ≡ j
+      → Forward skips rom sched log₀ n s t cursor done log′ core′ ram′ ports′ at′ begun′ spared′ span
+  jumps-forward e₁ e₂ e₃ e₄ e₅ e₆ e₇ e₈ =
+      rw (e₁, e₂, e₃, e₄, e₅, e₆, e₇, e₈)
+      (record { some-cycles = some-one j (k .some-ahead); within-run = within-run; stands = stands-before; on = λ next stands. jumps-on next stands refl })
 
-    -- what a cycle landed at
-    module _ (none-ahead : 0 ≡ jumpBy skips rom sched t (n - done)) (r : Stepped) (ram ports part : List ℕ)
-        (e : landed r ram ports part ≡ landing (onAccepts (accepts (t .core)) rom (cursor .lines) t) t (midOf at (length log - at) log)) where
-      landed-is : landed r ram ports part ≡ landing (cycle rom sched t) t (midOf at (length log - at) log)
-      landed-is = e ∙ ap (λ (o : Out State). landing o t (midOf at (length log - at) log)) cycle-lines
+module _ {skips : Bool} {rom sched log₀ : List ℕ} {n : ℕ} {s : State} {log : List ℕ} {t : State} {cursor : Cursor} {at done begun spared : ℕ}
+    {h : At skips rom sched log₀ n s log t cursor at done begun spared} {r : Stepped} {ram ports part : List ℕ} (k : Lands h r ram ports part) where
+  one-cycle-span : (b : Bool) → 0 ≡ jumpBy b rom sched t (n - done) → spanOf upd546 rom sched b t (suc (n - (done + 1))) ≡ 1
+  one-cycle-span false e = refl
+  one-cycle-span true e = ap strideOf (sym (rw (one-more h (k .more)) at e))
 
-      stopped-at : ℕ → Steps State
-      stopped-at k = record { ran = sofar t (h .w) done begun (some k); steps = done - spared }
+  pub span-one : spanOf upd546 rom sched skips t (suc (n - (done + 1))) ≡ 1
+  span-one = one-cycle-span skips (k .none-ahead)
 
-      stopped : (k : ℕ) → within upd546 rom sched (length log₀ - length (h .w)) 1 t ≡ still t (some k) → whole skips rom sched log₀ n s ≡ stopped-at k
-      unfolding stopped-at
-      stopped k q =
-          loop-stops upd546 rom sched skips _ (length log₀) t (h .w) done begun (done - spared) (n - (done + 1)) on k
-          (ap (λ (j : ℕ). within upd546 rom sched (length log₀ - length (h .w)) j t) (span-one none-ahead) ∙ q)
+  landed-is : landed r ram ports part ≡ landing (cycle rom sched t) t (midOf at (length log - at) log)
+  landed-is = k .lands ∙ ap (λ (o : Out State). landing o t (midOf at (length log - at) log)) (cycle-lines h (k .more))
 
-      -- a cycle that isn't begun
-      pub record Held : Type 0 where
-        pub whole-is : whole skips rom sched log₀ n s ≡ record { ran = sofar t (h .w) done begun (some (r .stop)); steps = done - spared }
-        pub number-is : (r .stop ≡ 3 → ⊥) → StopNumber (r .stop)
-        pub ram-is : ram ≡ t .ram
-        pub ports-is : ports ≡ t .ports
-        pub part-is : part ≡ midOf at (length log - at) log
+  stopped-at : ℕ → Steps State
+  stopped-at i = record { ran = sofar t (h .w) done begun (some i); steps = done - spared }
 
-      held : (r .stop ≡ 0 → ⊥) → Held
-      unfolding landing stopped-at
-      held g = go (cycle rom sched t) refl landed-is
+  stopped : (i : ℕ) → within upd546 rom sched (length log₀ - length (h .w)) 1 t ≡ still t (some i) → whole skips rom sched log₀ n s ≡ stopped-at i
+  unfolding stopped-at
+  stopped i q =
+      loop-stops upd546 rom sched skips _ (length log₀) t (h .w) done begun (done - spared) (n - (done + 1)) (on h (k .more)) i
+      (ap (λ (j : ℕ). within upd546 rom sched (length log₀ - length (h .w)) j t) span-one ∙ q)
+
+  -- a cycle that isn't begun
+  pub record Held : Type 0 where
+    pub whole-is : whole skips rom sched log₀ n s ≡ record { ran = sofar t (h .w) done begun (some (r .stop)); steps = done - spared }
+    pub number-is : (r .stop ≡ 3 → ⊥) → StopNumber (r .stop)
+    pub ram-is : ram ≡ t .ram
+    pub ports-is : ports ≡ t .ports
+    pub part-is : part ≡ midOf at (length log - at) log
+
+  held : (r .stop ≡ 0 → ⊥) → Held
+  unfolding landing stopped-at
+  held g = go (cycle rom sched t) refl landed-is
+    where
+      go : (o : Out State) → cycle rom sched t ≡ o → landed r ram ports part ≡ landing o t (midOf at (length log - at) log) → Held
+      go (stop i) q z =
+          let same : r .stop ≡ i = ap (λ (x : Landing). x .stop) z in
+          record {
+            whole-is = stopped i (one-stops upd546 rom sched (length log₀ - length (h .w)) t i q) ∙ ap stopped-at (sym same);
+            number-is = λ d. subst StopNumber (sym same) (stop-number rom sched t i q);
+            ram-is = ap (λ (x : Landing). x .ram) z;
+            ports-is = ap (λ (x : Landing). x .ports) z;
+            part-is = ap (λ (x : Landing). x .log) z;
+          }
+      go (went t′ x b) q z = fit (leb (length x) (length (midOf at (length log - at) log))) refl z
         where
-          go : (o : Out State) → cycle rom sched t ≡ o → landed r ram ports part ≡ landing o t (midOf at (length log - at) log) → Held
-          go (stop k) q z =
-              let same : r .stop ≡ k = ap (λ (x : Landing). x .stop) z in
+          fit : (v : Bool) → leb (length x) (length (midOf at (length log - at) log)) ≡ v
+              → landed r ram ports part ≡ cond v
+              (record { stop = 0; core = t′ .core; ram = t′ .ram; ports = t′ .ports; log = x ++ drop (length x) (midOf at (length log - at) log); bytes = length x; begun = b })
+              (record { stop = 3; core = t .core; ram = t .ram; ports = t .ports; log = midOf at (length log - at) log; bytes = 0; begun = 0 })
+              → Held
+          fit true y z = absurd (g (ap (λ (x : Landing). x .stop) z))
+          fit false y z =
+              let same : r .stop ≡ 3 = ap (λ (x : Landing). x .stop) z in
+              let full = leb-false (length x) (length (midOf at (length log - at) log)) y in
               record {
-                whole-is = stopped k (one-stops upd546 rom sched (length log₀ - length (h .w)) t k q) ∙ ap stopped-at (sym same);
-                number-is = λ d. subst StopNumber (sym same) (stop-number rom sched t k q);
+                whole-is = stopped 3 (one-fills upd546 rom sched (length log₀ - length (h .w)) t t′ x b q (omega (arith, full, lent-length h))) ∙ ap stopped-at (sym same);
+                number-is = λ d. absurd (d same);
                 ram-is = ap (λ (x : Landing). x .ram) z;
                 ports-is = ap (λ (x : Landing). x .ports) z;
                 part-is = ap (λ (x : Landing). x .log) z;
               }
-          go (went t′ x b) q z = fit (leb (length x) (length (midOf at (length log - at) log))) refl z
-            where
-              fit : (v : Bool) → leb (length x) (length (midOf at (length log - at) log)) ≡ v
-                  → landed r ram ports part ≡ cond v
-                  (record { stop = 0; core = t′ .core; ram = t′ .ram; ports = t′ .ports; log = x ++ drop (length x) (midOf at (length log - at) log); bytes = length x; begun = b })
-                  (record { stop = 3; core = t .core; ram = t .ram; ports = t .ports; log = midOf at (length log - at) log; bytes = 0; begun = 0 })
-                  → Held
-              fit true y z = absurd (g (ap (λ (x : Landing). x .stop) z))
-              fit false y z =
-                  let same : r .stop ≡ 3 = ap (λ (x : Landing). x .stop) z in
-                  let full = leb-false (length x) (length (midOf at (length log - at) log)) y in
-                  record {
-                    whole-is = stopped 3 (one-fills upd546 rom sched (length log₀ - length (h .w)) t t′ x b q (omega (arith, full, lent-length))) ∙ ap stopped-at (sym same);
-                    number-is = λ d. absurd (d same);
-                    ram-is = ap (λ (x : Landing). x .ram) z;
-                    ports-is = ap (λ (x : Landing). x .ports) z;
-                    part-is = ap (λ (x : Landing). x .log) z;
-                  }
 
-      -- the answer of a run that stops here
-      pub stops : (g : r .stop ≡ 0 → ⊥) → {state : State} → state ≡ stateOf (t .core) ram ports (t .cycle .0)
-          → record {
-            end = endOf (some (r .stop));
-            state = state;
-            cycles = done;
-            clocks = 4 * done;
-            begun = begun;
-            written = at;
-            steps = done - spared;
-            log = putMid at (length log - at) log part;
-          }
-          ≡ runBy skips rom sched s log₀ n
-      stops g q =
-          let k = held g in
-          let same = q ∙ ap₂ (λ (x y : List ℕ). stateOf (t .core) x y (t .cycle .0)) (k .ram-is) (k .ports-is) in
-          rw (same, k .part-is, lent-back) (tells (some (r .stop)) (k .whole-is))
+  -- the answer of a run that stops here
+  pub stops : (g : r .stop ≡ 0 → ⊥) → {state : State} → state ≡ stateOf (t .core) ram ports (t .cycle .0)
+      → record {
+        end = endOf (some (r .stop));
+        state = state;
+        cycles = done;
+        clocks = 4 * done;
+        begun = begun;
+        written = at;
+        steps = done - spared;
+        log = putMid at (length log - at) log part;
+      }
+      ≡ runBy skips rom sched s log₀ n
+  stops g q =
+      let o = held g in
+      let same = q ∙ ap₂ (λ (x y : List ℕ). stateOf (t .core) x y (t .cycle .0)) (o .ram-is) (o .ports-is) in
+      rw (same, o .part-is, lent-back h) (tells h (some (r .stop)) (o .whole-is))
 
-      -- the log is as long as it was
-      pub stop-length : (r .stop ≡ 0 → ⊥) → length (putMid at (length log - at) log part) ≡ length log₀
-      stop-length g = ap (λ (l : List ℕ). length (putMid at (length log - at) log l)) (held g .part-is) ∙ ap length lent-back ∙ h .size
+  -- the log is as long as it was
+  pub stop-length : (r .stop ≡ 0 → ⊥) → length (putMid at (length log - at) log part) ≡ length log₀
+  stop-length g = ap (λ (l : List ℕ). length (putMid at (length log - at) log l)) (held g .part-is) ∙ ap length (lent-back h) ∙ h .size
 
-      pub stop-known : (r .stop ≡ 0 → ⊥) → (r .stop ≡ 3 → ⊥) → StopNumber (r .stop)
-      stop-known g = held g .number-is
+  pub stop-known : (r .stop ≡ 0 → ⊥) → (r .stop ≡ 3 → ⊥) → StopNumber (r .stop)
+  stop-known g = held g .number-is
 
-      -- a cycle that is begun
-      pub record Gone : Type 0 where
-        pub to : State
-        pub x : List ℕ
-        pub cycle-is : cycle rom sched t ≡ went to x (r .begun)
-        pub fits : length x ≤ length log₀ - length (h .w)
-        pub state-is : stateOf (r .core) ram ports (to .cycle .0) ≡ to
-        pub part-is : part ≡ x ++ drop (length x) (midOf at (length log - at) log)
-        pub bytes-is : r .bytes ≡ length x
+  -- a cycle that is begun
+  pub record Gone : Type 0 where
+    pub to : State
+    pub x : List ℕ
+    pub cycle-is : cycle rom sched t ≡ went to x (r .begun)
+    pub fits : length x ≤ length log₀ - length (h .w)
+    pub state-is : stateOf (r .core) ram ports (to .cycle .0) ≡ to
+    pub part-is : part ≡ x ++ drop (length x) (midOf at (length log - at) log)
+    pub bytes-is : r .bytes ≡ length x
 
-      gone : r .stop ≡ 0 → Gone
-      unfolding landing
-      gone g = go (cycle rom sched t) refl landed-is
+  gone : r .stop ≡ 0 → Gone
+  unfolding landing
+  gone g = go (cycle rom sched t) refl landed-is
+    where
+      go : (o : Out State) → cycle rom sched t ≡ o → landed r ram ports part ≡ landing o t (midOf at (length log - at) log) → Gone
+      go (stop i) q z = absurd (stop-number rom sched t i q .some (sym (ap (λ (x : Landing). x .stop) z) ∙ g))
+      go (went t′ x b) q z = fit (leb (length x) (length (midOf at (length log - at) log))) refl z
         where
-          go : (o : Out State) → cycle rom sched t ≡ o → landed r ram ports part ≡ landing o t (midOf at (length log - at) log) → Gone
-          go (stop k) q z = absurd (stop-number rom sched t k q .some (sym (ap (λ (x : Landing). x .stop) z) ∙ g))
-          go (went t′ x b) q z = fit (leb (length x) (length (midOf at (length log - at) log))) refl z
-            where
-              fit : (v : Bool) → leb (length x) (length (midOf at (length log - at) log)) ≡ v
-                  → landed r ram ports part ≡ cond v
-                  (record { stop = 0; core = t′ .core; ram = t′ .ram; ports = t′ .ports; log = x ++ drop (length x) (midOf at (length log - at) log); bytes = length x; begun = b })
-                  (record { stop = 3; core = t .core; ram = t .ram; ports = t .ports; log = midOf at (length log - at) log; bytes = 0; begun = 0 })
-                  → Gone
-              fit false y z = let three : _≡_ {A = ℕ} 0 3 = sym g ∙ ap (λ (x : Landing). x .stop) z in absurd (omega arith)
-              fit true y z =
-                  let room = leb-true (length x) (length (midOf at (length log - at) log)) y in
-                  record {
-                    to = t′;
-                    x = x;
-                    cycle-is = q ∙ ap (went t′ x) (sym (ap (λ (x : Landing). x .begun) z));
-                    fits = omega (arith, room, lent-length);
-                    state-is = λ j. stateOf (z j .core) (z j .ram) (z j .ports) (t′ .cycle .0);
-                    part-is = ap (λ (x : Landing). x .log) z;
-                    bytes-is = ap (λ (x : Landing). x .bytes) z;
-                  }
+          fit : (v : Bool) → leb (length x) (length (midOf at (length log - at) log)) ≡ v
+              → landed r ram ports part ≡ cond v
+              (record { stop = 0; core = t′ .core; ram = t′ .ram; ports = t′ .ports; log = x ++ drop (length x) (midOf at (length log - at) log); bytes = length x; begun = b })
+              (record { stop = 3; core = t .core; ram = t .ram; ports = t .ports; log = midOf at (length log - at) log; bytes = 0; begun = 0 })
+              → Gone
+          fit false y z = let three : _≡_ {A = ℕ} 0 3 = sym g ∙ ap (λ (x : Landing). x .stop) z in absurd (omega arith)
+          fit true y z =
+              let room = leb-true (length x) (length (midOf at (length log - at) log)) y in
+              record {
+                to = t′;
+                x = x;
+                cycle-is = q ∙ ap (went t′ x) (sym (ap (λ (x : Landing). x .begun) z));
+                fits = omega (arith, room, lent-length h);
+                state-is = λ j. stateOf (z j .core) (z j .ram) (z j .ports) (t′ .cycle .0);
+                part-is = ap (λ (x : Landing). x .log) z;
+                bytes-is = ap (λ (x : Landing). x .bytes) z;
+              }
 
-      module _ (br : Bytes rom) (bs : Bytes sched) (g : r .stop ≡ 0) where
-        cycled : Cycled t (gone g .to) (gone g .x) (r .begun)
-        cycled = cycle-keeps rom sched t (gone g .to) (gone g .x) (r .begun) br bs (run-taken rom sched s n (h .number) .panel) (h .valid) below (gone g .cycle-is)
+  module _ (g : r .stop ≡ 0) where
+    cycled : Cycled t (gone g .to) (gone g .x) (r .begun)
+    cycled = cycle-keeps rom sched t (gone g .to) (gone g .x) (r .begun) (h .rom-bytes) (h .sched-bytes) (taken h .panel) (h .valid) (below h (k .more)) (gone g .cycle-is)
 
-        -- one instruction is begun at most, and no more than the log holds is written
-        pub counts : (r .begun ≤ 1) × (at + r .bytes ≤ length log₀)
-        counts = (cycled .begun, omega (arith, gone g .bytes-is, gone g .fits, h .place, h .room))
+    -- one instruction is begun at most, and no more than the log holds is written
+    pub counts : (r .begun ≤ 1) × (at + r .bytes ≤ length log₀)
+    counts = (cycled .begun, omega (arith, gone g .bytes-is, gone g .fits, h .place, h .room))
 
-        pub goes-on : (next : Cursor) → Stands sched (t .cycle .0 + 1) next → {t′ : State} → t′ ≡ stateOf (r .core) ram ports (s .cycle .0 + (done + 1))
-            → At skips rom sched log₀ n s (putMid at (length log - at) log part) t′ next (at + r .bytes) (done + 1) (begun + r .begun) spared
-        goes-on next k q =
-            let o = gone g in
-            let x = o .x in
-            let up : o .to .cycle .0 ≡ s .cycle .0 + (done + 1) = omega (arith, cycled .rises, h .rises) in
-            let to-is = q ∙ ap (λ (c : ℕ). stateOf (r .core) ram ports c) (sym up) ∙ o .state-is in
-            let front : take at log ≡ h .w = ap (take at) (h .log-is) ∙ take-at (h .w) _ at (sym (h .place)) in
-            let long : length (h .w) + length x ≡ length (h .w ++ x) = sym (length-append (h .w) x) in
-            let log-now : putMid at (length log - at) log part ≡ (h .w ++ x) ++ drop (length (h .w ++ x)) log₀ =
-            put-tail at log part
-            ∙ ap₂ _++_ front (o .part-is ∙ ap (λ (z : List ℕ). x ++ drop (length x) z) lent-is)
-            ∙ ap (λ (z : List ℕ). h .w ++ (x ++ z)) (drop-drop (length x) (length (h .w)) log₀ ∙ ap (λ (k : ℕ). drop k log₀) long)
-            ∙ sym (append-assoc (h .w) x (drop (length (h .w ++ x)) log₀)) in
-            let fits : length (h .w ++ x) ≤ length log₀ = omega (arith, long, o .fits, h .room) in
-            let steps : done - spared + 1 ≡ done + 1 - spared = omega (arith, h .less) in
-            let left : suc (n - (done + 1)) - 1 ≡ n - (done + 1) = omega arith in
-            let half = loop-goes upd546 rom sched skips _ (length log₀) t (h .w) done begun (done - spared) (n - (done + 1)) on (o .to) x (r .begun) 1
-            (sym (span-one none-ahead)) (omega arith) (one-goes upd546 rom sched (length log₀ - length (h .w)) t (o .to) x (r .begun) (o .cycle-is) (o .fits)) in
-            rw to-is
-            (record {
-              w = h .w ++ x;
-              number = h .number;
-              rises = up;
-              valid = cycled .valid;
-              stands = subst (λ (c : ℕ). Stands sched c next) (omega (arith, cycled .rises)) k;
-              not-past = omega arith;
-              few = omega (arith, h .few, cycled .begun);
-              place = ap₂ _+_ (h .place) (o .bytes-is) ∙ long;
-              room = fits;
-              size = ap length log-now ∙ length-append (h .w ++ x) (drop (length (h .w ++ x)) log₀) ∙ omega (arith, length-drop (length (h .w ++ x)) log₀, fits);
-              log-is = log-now;
-              less = omega (arith, h .less);
-              half = rw (steps, left) at half;
-            })
+    pub goes-on : (next : Cursor) → Stands sched (t .cycle .0 + 1) next → {t′ : State} → t′ ≡ stateOf (r .core) ram ports (s .cycle .0 + (done + 1))
+        → At skips rom sched log₀ n s (putMid at (length log - at) log part) t′ next (at + r .bytes) (done + 1) (begun + r .begun) spared
+    goes-on next stands q =
+        let o = gone g in
+        let x = o .x in
+        let up : o .to .cycle .0 ≡ s .cycle .0 + (done + 1) = omega (arith, cycled .rises, h .rises) in
+        let to-is = q ∙ ap (λ (c : ℕ). stateOf (r .core) ram ports c) (sym up) ∙ o .state-is in
+        let front : take at log ≡ h .w = ap (take at) (h .log-is) ∙ take-at (h .w) _ at (sym (h .place)) in
+        let long : length (h .w) + length x ≡ length (h .w ++ x) = sym (length-append (h .w) x) in
+        let log-now : putMid at (length log - at) log part ≡ (h .w ++ x) ++ drop (length (h .w ++ x)) log₀ =
+        put-tail at log part
+        ∙ ap₂ _++_ front (o .part-is ∙ ap (λ (z : List ℕ). x ++ drop (length x) z) (lent-is h))
+        ∙ ap (λ (z : List ℕ). h .w ++ (x ++ z)) (drop-drop (length x) (length (h .w)) log₀ ∙ ap (λ (i : ℕ). drop i log₀) long)
+        ∙ sym (append-assoc (h .w) x (drop (length (h .w ++ x)) log₀)) in
+        let fits : length (h .w ++ x) ≤ length log₀ = omega (arith, long, o .fits, h .room) in
+        let steps : done - spared + 1 ≡ done + 1 - spared = omega (arith, h .less) in
+        let left : suc (n - (done + 1)) - 1 ≡ n - (done + 1) = omega arith in
+        let half = loop-goes upd546 rom sched skips _ (length log₀) t (h .w) done begun (done - spared) (n - (done + 1)) (on h (k .more)) (o .to) x (r .begun) 1
+        (sym span-one) (omega arith) (one-goes upd546 rom sched (length log₀ - length (h .w)) t (o .to) x (r .begun) (o .cycle-is) (o .fits)) in
+        rw to-is
+        (record {
+          w = h .w ++ x;
+          number = h .number;
+          rom-bytes = h .rom-bytes;
+          sched-bytes = h .sched-bytes;
+          rises = up;
+          valid = cycled .valid;
+          stands = subst (λ (c : ℕ). Stands sched c next) (omega (arith, cycled .rises)) stands;
+          not-past = omega (arith, k .more);
+          few = omega (arith, h .few, cycled .begun);
+          place = ap₂ _+_ (h .place) (o .bytes-is) ∙ long;
+          room = fits;
+          size = ap length log-now ∙ length-append (h .w ++ x) (drop (length (h .w ++ x)) log₀) ∙ omega (arith, length-drop (length (h .w ++ x)) log₀, fits);
+          log-is = log-now;
+          less = omega (arith, h .less);
+          half = rw (steps, left) at half;
+        })
 
-        pub cycle-forward : {log′ ram′ ports′ : List ℕ} {core′ : Core} {at′ begun′ spared′ span : ℕ} → log′ ≡ putMid at (length log - at) log part
-            → core′ ≡ r .core → ram′ ≡ ram → ports′ ≡ ports → at′ ≡ at + r .bytes → begun′ ≡ begun + r .begun → spared′ ≡ spared → span ≡ 1
-            → Forward skips rom sched log₀ n s t cursor done log′ core′ ram′ ports′ at′ begun′ spared′ span
-        cycle-forward e₁ e₂ e₃ e₄ e₅ e₆ e₇ e₈ =
-            let here : t .cycle .0 ≡ t .cycle .0 + (1 - 1) = omega arith in
-            rw (e₁, e₂, e₃, e₄, e₅, e₆, e₇, e₈)
-            (record {
-              some-cycles = omega arith;
-              within-run = omega arith;
-              stands = subst (λ (c : ℕ). Stands sched c cursor) here (h .stands);
-              on = λ next k. goes-on next (subst (λ (c : ℕ). Stands sched (c + 1) next) (sym here) k) refl;
-            })
+    pub cycle-forward : {log′ ram′ ports′ : List ℕ} {core′ : Core} {at′ begun′ spared′ span : ℕ} → log′ ≡ putMid at (length log - at) log part
+        → core′ ≡ r .core → ram′ ≡ ram → ports′ ≡ ports → at′ ≡ at + r .bytes → begun′ ≡ begun + r .begun → spared′ ≡ spared → span ≡ 1
+        → Forward skips rom sched log₀ n s t cursor done log′ core′ ram′ ports′ at′ begun′ spared′ span
+    cycle-forward e₁ e₂ e₃ e₄ e₅ e₆ e₇ e₈ =
+        let here : t .cycle .0 ≡ t .cycle .0 + (1 - 1) = omega arith in
+        rw (e₁, e₂, e₃, e₄, e₅, e₆, e₇, e₈)
+        (record {
+          some-cycles = omega arith;
+          within-run = omega (arith, k .more);
+          stands = subst (λ (c : ℕ). Stands sched c cursor) here (h .stands);
+          on = λ next stands. goes-on next (subst (λ (c : ℕ). Stands sched (c + 1) next) (sym here) stands) refl;
+        })

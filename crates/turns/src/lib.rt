@@ -12,7 +12,6 @@ use tables::RegisterTable;
 use upd546::Core;
 use upd546::Interrupt;
 use upd546::LATCHES;
-use upd546::Lines;
 use upd546::RAM_WORDS;
 use upd546::RunAnswer;
 use upd546::State;
@@ -47,19 +46,6 @@ fn state_of(core: Core, ram: [u8; RAM_WORDS], ports: [u8; LATCHES], n: u64) -> S
         ports,
         ram,
         cycle: MachineCycles(n),
-    }
-}
-
-// The lines that the cursor holds, field by field.
-fn lines_of(c: Cursor) -> Lines
-    ensures { λ r. ⌜ r ≡ c .lines ⌝ }
-{
-    Lines {
-        a: c.lines.a,
-        b: c.lines.b,
-        c: c.lines.c,
-        d: c.lines.d,
-        int: c.lines.int,
     }
 }
 
@@ -138,8 +124,7 @@ pub fn take(
     ensures { λ r. ⌜ answerOf r (now (log .exit)) ≡ runBy skips (now (rom .entry)) (now (sched .entry)) s (now (log .entry)) n ⌝ }
 {
     let start = s.cycle.0;
-    let given = s.core;
-    let mut core = instructions::same(given);
+    let mut core = s.core;
     let mut ram = s.ram;
     let mut ports = s.ports;
     let mut cursor = first;
@@ -164,13 +149,12 @@ pub fn take(
         );
         let mut span: u64 = 1;
         if j != 0 {
-            let next = jump::jumped(positions, registers, core, j);
-            core = instructions::same(next);
+            core = jump::jumped(positions, registers, core, j);
             begun = begun + j;
             spared = spared + (j - 1);
             span = j;
         } else {
-            let lines = lines_of(cursor);
+            let lines = cursor.lines;
             let o = one_cycle(
                 rom,
                 table,
@@ -192,8 +176,7 @@ pub fn take(
                     spared,
                 );
             }
-            let next = o.core;
-            core = instructions::same(next);
+            core = o.core;
             at = at + o.bytes;
             begun = begun + o.begun;
         }

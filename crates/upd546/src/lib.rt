@@ -30,6 +30,15 @@ pub const MARK_EI: u8 = 2;
 
 pub const MARK_STM: u8 = 3;
 
+// Ports, as DPL names them: A to I are 0 to 8.
+pub const PORT_C: u8 = 2;
+
+pub const PORT_D: u8 = 3;
+
+pub const PORT_E: u8 = 4;
+
+pub const PORT_I: u8 = 8;
+
 // Acc, C, C' and DP. Flags are 0 or 1.
 pub struct Registers {
     pub acc: u8,
@@ -136,5 +145,37 @@ pub fn fresh_state() -> State
         ports: [0; LATCHES],
         ram: [0; RAM_WORDS],
         cycle: MachineCycles(0),
+    }
+}
+
+// A core, field by field: the compiler packs the fields of a struct that is copied whole.
+pub fn same(c: Core) -> Core
+    ensures { λ r. ⌜ r ≡ c ⌝ }
+{
+    let stack = c.flow.stack;
+    Core {
+        registers: Registers {
+            acc: c.registers.acc,
+            carry: c.registers.carry,
+            saved: c.registers.saved,
+            dph: c.registers.dph,
+            dpl: c.registers.dpl,
+        },
+        flow: Flow {
+            pc: c.flow.pc,
+            stack: [stack[0], stack[1], stack[2]],
+        },
+        interrupt: Interrupt {
+            int: c.interrupt.int,
+            inte: c.interrupt.inte,
+            level: c.interrupt.level,
+        },
+        timer: Timer {
+            tm: c.timer.tm,
+            register: c.timer.register,
+            counter: c.timer.counter,
+        },
+        mark: c.mark,
+        owed: c.owed,
     }
 }

@@ -2,13 +2,33 @@
 use mathlib.Core.Path.{_∙_, sym}
 use native.Mathlib.Omega.{arith}
 use denote.Ref.{now}
-use Rattle.upd546.specs.TheMachine.{byteAt}
-use Rattle.laws.proofs.Instructions.{keeps}
 use Rattle.cycle.specs.Landing.{stateOf}
-use Rattle.cycle.proofs.Executing.{dues, does-due, holds-fetch, holds-skip, holds-room, cycles-some, over-small, over-same, goes, due-valid}
+use Rattle.cycle.proofs.Executing.{Doing, does-due, holds-fetch, writes-valid, register-small, cycles-some, holds-skip, holds-room, owed-small, goes}
 use borrow.Author.Needs.{needs}
 use Rattle.cycle.proofs.execute.Statement.{statement}
 use Rattle.cycle.proofs.execute.Tie as tie
+
+-- the instruction is fetched, and its effect is worked out
+doing : (c : tie.After-effect-of)
+    → let at-fetch-at = c .before .before .before .before .before in
+    let a = at-fetch-at .before .before .before .args in
+    Doing (now (a .rom)) (now (a .table)) (a .lines) (stateOf (a .before) (now (a .ram)) (now (a .ports)) (a .n)) (a .c) (now (a .log))
+    (at-fetch-at .fetch-at .result) (c .effect-of .result)
+doing c =
+    let at-if1 = c .before .before .before in
+    let at-fetch-at = at-if1 .before .before in
+    let at-entry = at-fetch-at .before .before .before in
+    let a = at-entry .args in
+    let s = stateOf (a .before) (now (a .ram)) (now (a .ports)) (a .n) in
+    let f = at-fetch-at .fetch-at .ensures in
+    record {
+      ready = at-entry .pre .0;
+      core = at-entry .pre .1;
+      goes-on = sym (f .stop) ∙ at-if1 .if1 .left;
+      begins = f .begins (at-if1 .if1 .left);
+      does = does-due (now (a .rom)) (a .lines) s (a .c) (at-fetch-at .fetch-at .result) (f .begins (at-if1 .if1 .left)) (c .effect-of .result)
+          (c .effect-of .ensures);
+    }
 
 fetch-at-requires : tie.Need-fetch-at-requires
 fetch-at-requires c κs = search needs
@@ -20,14 +40,10 @@ returns : tie.Need-returns
 returns c =
     let at-if1 = c .before in
     let at-fetch-at = at-if1 .before .before in
-    let at-entry = at-fetch-at .before .before .before in
-    let a = at-entry .args in
-    let rom = now (a .rom) in
-    let s = stateOf (a .before) (now (a .ram)) (now (a .ports)) (a .n) in
-    let log = now (a .log) in
-    let f = at-fetch-at .fetch-at .ensures in
+    let a = at-fetch-at .before .before .before .args in
     rw (c .held .ensures)
-    (holds-fetch rom (a .lines) s (a .c) log (at-fetch-at .fetch-at .result .stop) (at-if1 .if1 .taken) (f .stop))
+    (holds-fetch (now (a .rom)) (a .lines) (stateOf (a .before) (now (a .ram)) (now (a .ports)) (a .n)) (a .c) (now (a .log))
+    (at-fetch-at .fetch-at .result .stop) (at-if1 .if1 .taken) (at-fetch-at .fetch-at .ensures .stop))
 
 effect-of-requires : tie.Need-effect-of-requires
 effect-of-requires c κs = search needs
@@ -42,22 +58,7 @@ returns-2 : tie.Need-returns-2
 returns-2 c =
     let at-if2 = c .before in
     let at-pass-over = at-if2 .before .before in
-    let at-effect-of = at-pass-over .before in
-    let at-if1 = at-effect-of .before .before .before in
-    let at-fetch-at = at-if1 .before .before in
-    let at-entry = at-fetch-at .before .before .before in
-    let a = at-entry .args in
-    let rom = now (a .rom) in
-    let s = stateOf (a .before) (now (a .ram)) (now (a .ports)) (a .n) in
-    let log = now (a .log) in
-    let f = at-fetch-at .fetch-at .ensures in
-    let z = sym (f .stop) ∙ at-if1 .if1 .left in
-    let b = f .begins (at-if1 .if1 .left) in
-    let e = at-effect-of .effect-of .result in
-    let d = does-due rom (a .lines) s (a .c) (at-fetch-at .fetch-at .result) b e (at-effect-of .effect-of .ensures) in
-    rw (c .held2 .ensures)
-    (holds-skip rom (a .lines) s (a .c) log (at-fetch-at .fetch-at .result) b z e d (at-pass-over .pass-over .result)
-    (at-pass-over .pass-over .ensures) (at-if2 .if2 .taken))
+    rw (c .held2 .ensures) (holds-skip (doing (at-pass-over .before)) (at-pass-over .pass-over .ensures) (at-if2 .if2 .taken))
 
 room-requires : tie.Need-room-requires
 room-requires c κs = search needs
@@ -72,41 +73,16 @@ returns-3 c =
     let at-if2 = at-room .before in
     let at-pass-over = at-if2 .before .before in
     let at-effect-of = at-pass-over .before in
-    let at-if1 = at-effect-of .before .before .before in
-    let at-fetch-at = at-if1 .before .before in
-    let at-entry = at-fetch-at .before .before .before in
-    let a = at-entry .args in
-    let rom = now (a .rom) in
-    let s = stateOf (a .before) (now (a .ram)) (now (a .ports)) (a .n) in
-    let log = now (a .log) in
-    let f = at-fetch-at .fetch-at .ensures in
-    let z = sym (f .stop) ∙ at-if1 .if1 .left in
-    let b = f .begins (at-if1 .if1 .left) in
-    let e = at-effect-of .effect-of .result in
-    let d = does-due rom (a .lines) s (a .c) (at-fetch-at .fetch-at .result) b e (at-effect-of .effect-of .ensures) in
     rw (c .held3 .ensures)
-    (holds-room rom (a .lines) s (a .c) log (at-fetch-at .fetch-at .result) b z e d (at-pass-over .pass-over .result)
-    (at-pass-over .pass-over .ensures) (at-if2 .if2 .left)
-    (rw (at-room .room .ensures (e .value)) at (at-if3 .if3 .taken)))
+    (holds-room (doing at-effect-of) (at-pass-over .pass-over .ensures) (at-if2 .if2 .left)
+    (rw (at-room .room .ensures (at-effect-of .effect-of .result .value)) at (at-if3 .if3 .taken)))
 
 output-requires : tie.Need-output-requires
 output-requires c κs =
     let at-if3 = c .before .before in
     let at-room = at-if3 .before in
     let at-effect-of = at-room .before .before .before .before in
-    let at-if1 = at-effect-of .before .before .before in
-    let at-fetch-at = at-if1 .before .before in
-    let at-entry = at-fetch-at .before .before .before in
-    let a = at-entry .args in
-    let rom = now (a .rom) in
-    let s = stateOf (a .before) (now (a .ram)) (now (a .ports)) (a .n) in
-    let log = now (a .log) in
-    let f = at-fetch-at .fetch-at .ensures in
-    let z = sym (f .stop) ∙ at-if1 .if1 .left in
-    let b = f .begins (at-if1 .if1 .left) in
-    let e = at-effect-of .effect-of .result in
-    let d = does-due rom (a .lines) s (a .c) (at-fetch-at .fetch-at .result) b e (at-effect-of .effect-of .ensures) in
-    (rw (at-room .room .ensures (e .value)) at (at-if3 .if3 .left), rw (d .writes) (due-valid rom (now (a .table)) (a .lines) s (a .c) (at-entry .pre .0) (at-entry .pre .1) .writes))
+    (rw (at-room .room .ensures (at-effect-of .effect-of .result .value)) at (at-if3 .if3 .left), writes-valid (doing at-effect-of))
 
 store-requires : tie.Need-store-requires
 store-requires c κs =
@@ -116,65 +92,18 @@ store-requires c κs =
 sub-finished : tie.Need-sub-finished
 sub-finished c =
     let at-effect-of = c .before .before .before .before .before .before .before .before .before .before .before .before .before .before in
-    let at-if1 = at-effect-of .before .before .before in
-    let at-fetch-at = at-if1 .before .before in
-    let at-entry = at-fetch-at .before .before .before in
-    let a = at-entry .args in
-    let rom = now (a .rom) in
-    let s = stateOf (a .before) (now (a .ram)) (now (a .ports)) (a .n) in
-    let log = now (a .log) in
-    let f = at-fetch-at .fetch-at .ensures in
-    let z = sym (f .stop) ∙ at-if1 .if1 .left in
-    let b = f .begins (at-if1 .if1 .left) in
-    let e = at-effect-of .effect-of .result in
-    let d = does-due rom (a .lines) s (a .c) (at-fetch-at .fetch-at .result) b e (at-effect-of .effect-of .ensures) in
-    let some = cycles-some rom (a .lines) s (a .c) log z in
-    omega (arith, some, b .cycles)
+    cycles-some (doing at-effect-of)
 
 add-finished : tie.Need-add-finished
 add-finished c =
     let at-if2 = c .before .before .before .before .before .before .before .before .before .before .before .before in
     let at-pass-over = at-if2 .before .before in
-    let at-effect-of = at-pass-over .before in
-    let at-if1 = at-effect-of .before .before .before in
-    let at-fetch-at = at-if1 .before .before in
-    let at-entry = at-fetch-at .before .before .before in
-    let a = at-entry .args in
-    let rom = now (a .rom) in
-    let s = stateOf (a .before) (now (a .ram)) (now (a .ports)) (a .n) in
-    let log = now (a .log) in
-    let f = at-fetch-at .fetch-at .ensures in
-    let z = sym (f .stop) ∙ at-if1 .if1 .left in
-    let b = f .begins (at-if1 .if1 .left) in
-    let e = at-effect-of .effect-of .result in
-    let d = does-due rom (a .lines) s (a .c) (at-fetch-at .fetch-at .result) b e (at-effect-of .effect-of .ensures) in
-    let o = over-same rom (a .lines) s (a .c) log (at-fetch-at .fetch-at .result) b z e d (at-pass-over .pass-over .result)
-    (at-pass-over .pass-over .ensures) (at-if2 .if2 .left) in
-    omega (
-      arith,
-      b .cycles,
-      keeps (byteAt rom (a .c .flow .pc)) .two-cycles,
-      o,
-      over-small rom (a .lines) s (a .c) log (dues rom (a .lines) s (a .c)),
-    )
+    omega (arith, owed-small (doing (at-pass-over .before)) (at-pass-over .pass-over .ensures) (at-if2 .if2 .left))
 
 finished-requires : tie.Need-finished-requires
 finished-requires c κs =
     let at-effect-of = c .before .before .before .before .before .before .before .before .before .before .before .before .before .before .before in
-    let at-if1 = at-effect-of .before .before .before in
-    let at-fetch-at = at-if1 .before .before in
-    let at-entry = at-fetch-at .before .before .before in
-    let a = at-entry .args in
-    let rom = now (a .rom) in
-    let s = stateOf (a .before) (now (a .ram)) (now (a .ports)) (a .n) in
-    let log = now (a .log) in
-    let f = at-fetch-at .fetch-at .ensures in
-    let z = sym (f .stop) ∙ at-if1 .if1 .left in
-    let b = f .begins (at-if1 .if1 .left) in
-    let e = at-effect-of .effect-of .result in
-    let d = does-due rom (a .lines) s (a .c) (at-fetch-at .fetch-at .result) b e (at-effect-of .effect-of .ensures) in
-    rw (d .core)
-    (due-valid rom (now (a .table)) (a .lines) s (a .c) (at-entry .pre .0) (at-entry .pre .1) .core .scalars .register)
+    register-small (doing at-effect-of)
 
 same-length : tie.Need-same-length
 same-length c = search needs
@@ -188,22 +117,9 @@ returns-4 c =
     let at-if2 = at-room .before in
     let at-pass-over = at-if2 .before .before in
     let at-effect-of = at-pass-over .before in
-    let at-if1 = at-effect-of .before .before .before in
-    let at-fetch-at = at-if1 .before .before in
-    let at-entry = at-fetch-at .before .before .before in
-    let a = at-entry .args in
-    let rom = now (a .rom) in
-    let s = stateOf (a .before) (now (a .ram)) (now (a .ports)) (a .n) in
-    let log = now (a .log) in
-    let f = at-fetch-at .fetch-at .ensures in
-    let z = sym (f .stop) ∙ at-if1 .if1 .left in
-    let b = f .begins (at-if1 .if1 .left) in
-    let e = at-effect-of .effect-of .result in
-    let d = does-due rom (a .lines) s (a .c) (at-fetch-at .fetch-at .result) b e (at-effect-of .effect-of .ensures) in
-    goes rom (a .lines) s (a .c) log (at-fetch-at .fetch-at .result) b z e d (at-pass-over .pass-over .result)
-    (at-pass-over .pass-over .ensures) (at-if2 .if2 .left)
-    (rw (at-room .room .ensures (e .value)) at (at-if3 .if3 .left)) (c .finished .ensures) (at-store .store .ensures)
-    (at-output .output .ensures)
+    goes (doing at-effect-of) (at-pass-over .pass-over .ensures) (at-if2 .if2 .left)
+    (rw (at-room .room .ensures (at-effect-of .effect-of .result .value)) at (at-if3 .if3 .left)) (c .finished .ensures)
+    (at-store .store .ensures) (at-output .output .ensures)
 
 pub execute-spec : {M : Type 1} → statement M
 execute-spec =

@@ -13,16 +13,12 @@ same-requires c κs = search needs
 ticked-requires : tie.Need-ticked-requires
 ticked-requires c κs = rw (c .before .same .ensures) (c .before .before .pre)
 
-same-requires-2 : tie.Need-same-requires-2
-same-requires-2 c κs = search needs
-
 returns : tie.Need-returns
 returns c =
-    let at-ticked = c .before in
-    let at-same = at-ticked .before .before in
+    let at-same = c .before .before in
     let at-entry = at-same .before in
-    c .same2 .ensures ∙ at-ticked .ticked .ensures ∙ ap
+    c .ticked .ensures ∙ ap
     (λ (x : Core). ticked (setOwed (at-entry .args .owed) (setPc (at-entry .args .pc) x))) (at-same .same .ensures)
 
 pub finished-spec : {M : Type 1} → statement M
-finished-spec = tie.close (tie.spec same-requires ticked-requires same-requires-2 returns)
+finished-spec = tie.close (tie.spec same-requires ticked-requires returns)

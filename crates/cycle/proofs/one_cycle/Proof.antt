@@ -29,72 +29,58 @@ ticked-requires c κs =
     rw (c .taken .ensures, at-accepted .accepted .ensures)
     (taken-keeps (a .lines) (accepted (a .c)) (v .lines) (accepted-keeps (a .c) (v .valid .core)) .scalars .register)
 
-same-requires : tie.Need-same-requires
-same-requires c κs = search needs
-
 returns : tie.Need-returns
 returns c =
-    let at-ticked = c .before in
-    let at-taken = at-ticked .before in
+    let at-taken = c .before in
     let at-accepted = at-taken .before in
     let at-if1 = at-accepted .before in
     let at-accepts = at-if1 .before in
     let at-entry = at-accepts .before .before .before in
     let a = at-entry .args in
     let s = stateOf (a .c) (now (a .ram)) (now (a .ports)) (a .n) in
-    let e = c .same .ensures ∙ at-ticked .ticked .ensures ∙ ap ticked
+    let e = c .ticked .ensures ∙ ap ticked
     (at-taken .taken .ensures ∙ ap (taken (a .lines)) (at-accepted .accepted .ensures)) in
     lands-accepted (now (a .rom)) (a .lines) s (now (a .log)) (sym (at-accepts .accepts .ensures) ∙ at-if1 .if1 .taken) e
 
 taken-requires-2 : tie.Need-taken-requires-2
 taken-requires-2 c κs = search needs
 
-same-requires-2 : tie.Need-same-requires-2
-same-requires-2 c κs = search needs
-
 paid-requires : tie.Need-paid-requires
 paid-requires c κs =
     let h = c .if2 .taken in
-    rw (c .before .before .same2 .ensures, c .before .before .before .taken2 .ensures, taken-owed) (omega arith)
+    rw (c .before .before .taken2 .ensures, taken-owed) (omega arith)
 
 ticked-requires-2 : tie.Need-ticked-requires-2
 ticked-requires-2 c κs =
-    let at-same2 = c .before .before .before in
-    let at-taken2 = at-same2 .before in
+    let at-taken2 = c .before .before .before in
     let at-entry = at-taken2 .before .before .before .before .before in
     let a = at-entry .args in
     let v = at-entry .pre in
-    rw (c .paid .ensures, at-same2 .same2 .ensures, at-taken2 .taken2 .ensures)
+    rw (c .paid .ensures, at-taken2 .taken2 .ensures)
     (paid-keeps (taken (a .lines) (a .c)) (taken-keeps (a .lines) (a .c) (v .lines) (v .valid .core)) .scalars .register)
-
-same-requires-3 : tie.Need-same-requires-3
-same-requires-3 c κs = search needs
 
 returns-2 : tie.Need-returns-2
 returns-2 c =
-    let at-ticked2 = c .before in
-    let at-paid = at-ticked2 .before in
+    let at-paid = c .before in
     let at-if2 = at-paid .before in
-    let at-same2 = at-if2 .before .before in
-    let at-taken2 = at-same2 .before in
+    let at-taken2 = at-if2 .before .before in
     let at-if1 = at-taken2 .before in
     let at-accepts = at-if1 .before in
     let at-entry = at-accepts .before .before .before in
     let a = at-entry .args in
     let s = stateOf (a .c) (now (a .ram)) (now (a .ports)) (a .n) in
-    let e = c .same3 .ensures ∙ at-ticked2 .ticked2 .ensures ∙ ap ticked
-    (at-paid .paid .ensures ∙ ap paid (at-same2 .same2 .ensures ∙ at-taken2 .taken2 .ensures)) in
+    let e = c .ticked2 .ensures ∙ ap ticked
+    (at-paid .paid .ensures ∙ ap paid (at-taken2 .taken2 .ensures)) in
     lands-owed (now (a .rom)) (a .lines) s (now (a .log)) (sym (at-accepts .accepts .ensures) ∙ at-if1 .if1 .left)
     (at-if2 .if2 .taken) e
 
 execute-requires : tie.Need-execute-requires
 execute-requires c κs =
-    let at-same2 = c .before .before .before .before .before in
-    let at-taken2 = at-same2 .before in
+    let at-taken2 = c .before .before .before .before .before in
     let at-entry = at-taken2 .before .before .before .before .before in
     let a = at-entry .args in
     let v = at-entry .pre in
-    (v, rw (at-same2 .same2 .ensures, at-taken2 .taken2 .ensures) (taken-keeps (a .lines) (a .c) (v .lines) (v .valid .core)))
+    (v, rw (at-taken2 .taken2 .ensures) (taken-keeps (a .lines) (a .c) (v .lines) (v .valid .core)))
 
 same-length : tie.Need-same-length
 same-length c = search needs
@@ -103,16 +89,14 @@ returns-3 : tie.Need-returns-3
 returns-3 c =
     let at-execute = c .before .before in
     let at-if2 = at-execute .before .before .before .before in
-    let at-same2 = at-if2 .before .before in
-    let at-taken2 = at-same2 .before in
+    let at-taken2 = at-if2 .before .before in
     let at-if1 = at-taken2 .before in
     let at-accepts = at-if1 .before in
     let at-entry = at-accepts .before .before .before in
     let a = at-entry .args in
     let s = stateOf (a .c) (now (a .ram)) (now (a .ports)) (a .n) in
-    let q = at-same2 .same2 .ensures ∙ at-taken2 .taken2 .ensures in
     at-execute .execute .ensures
-    ∙ ap (λ (x : Core). landing (execute (now (a .rom)) (a .lines) s x) s (now (a .log))) q
+    ∙ ap (λ (x : Core). landing (execute (now (a .rom)) (a .lines) s x) s (now (a .log))) (at-taken2 .taken2 .ensures)
     ∙ lands-due (now (a .rom)) (a .lines) s (now (a .log)) (sym (at-accepts .accepts .ensures) ∙ at-if1 .if1 .left)
     (at-if2 .if2 .left)
 
@@ -124,13 +108,10 @@ one-cycle-spec =
     accepted-requires
     taken-requires
     ticked-requires
-    same-requires
     returns
     taken-requires-2
-    same-requires-2
     paid-requires
     ticked-requires-2
-    same-requires-3
     returns-2
     execute-requires
     same-length

@@ -16,15 +16,15 @@ timer-left-requires : tie.Need-timer-left-requires
 unfolding ticksLeft
 timer-left-requires c κs = (c .before .before .pre .register-table, omega arith)
 
-with-timer-requires : tie.Need-with-timer-requires
-with-timer-requires c κs = search needs
+same-requires : tie.Need-same-requires
+same-requires c κs = search needs
 
 returns : tie.Need-returns
 unfolding jumpedCore
 returns c =
     let at-timer-left = c .before in
     let at-ticks-left = at-timer-left .before in
-    rw (c .with-timer .ensures, at-timer-left .timer-left .ensures, at-ticks-left .ticks-left .ensures)
+    rw (c .same .ensures, at-timer-left .timer-left .ensures, at-ticks-left .ticks-left .ensures)
 
 pub jumped-spec : {M : Type 1} → statement M
 jumped-spec =
@@ -33,5 +33,5 @@ jumped-spec =
     ticks-left-requires
     sub-ticks
     timer-left-requires
-    with-timer-requires
+    same-requires
     returns)

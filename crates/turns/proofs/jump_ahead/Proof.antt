@@ -1,5 +1,4 @@
 -- The length of the jump, or none. Assumes nothing.
-use mathlib.Core.Path.{refl}
 use borrow.Author.Needs.{needs}
 use Rattle.turns.proofs.jump_ahead.Statement.{statement}
 use Rattle.turns.proofs.jump_ahead.Tie as tie

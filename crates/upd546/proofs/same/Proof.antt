@@ -1,10 +1,10 @@
 -- A core is what its fields are; its stack has three entries. Assumes nothing.
 use mathlib.Core.Path.{_≡_}
 use lib.ListN.{length}
 use Rattle.upd546.proofs.Computed.{three}
 use borrow.Author.Needs.{needs}
-use Rattle.instructions.proofs.same.Statement.{statement}
-use Rattle.instructions.proofs.same.Tie as tie
+use Rattle.upd546.proofs.same.Statement.{statement}
+use Rattle.upd546.proofs.same.Tie as tie
 
 array-read-t6 : tie.Need-array-read-t6
 array-read-t6 c = search needs
