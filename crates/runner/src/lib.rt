@@ -36,7 +36,14 @@ fn refusal(rom: &[u8], sched: &[u8], s: State, n: MachineCycles) -> Outcome
 }
 
 // The cycles of a run that isn't refused, by either runner. The tables are made once in a run.
-fn drive(rom: &[u8], sched: &[u8], s: State, log: &mut [u8], n: u64, skips: bool) -> RunAnswer
+fn run_accepted(
+    rom: &[u8],
+    sched: &[u8],
+    s: State,
+    log: &mut [u8],
+    n: u64,
+    skips: bool,
+) -> RunAnswer
     requires { ⌜ runNumber upd546 (now rom) (now sched) s n ≡ 0 ⌝ }
     ensures { λ r. ⌜ answerOf r (now (log .exit)) ≡ runBy skips (now (rom .entry)) (now (sched .entry)) s (now (log .entry)) n ⌝ }
 {
@@ -58,7 +65,7 @@ fn drive(rom: &[u8], sched: &[u8], s: State, log: &mut [u8], n: u64, skips: bool
     )
 }
 
-// Either runner: refused, or driven.
+// Either runner: refused, or run.
 fn run(
     rom: &[u8],
     sched: &[u8],
@@ -81,7 +88,7 @@ fn run(
             steps: 0,
         };
     }
-    drive(rom, sched, s, log, n.0, skips)
+    run_accepted(rom, sched, s, log, n.0, skips)
 }
 
 // THE PLAIN RUNNER.

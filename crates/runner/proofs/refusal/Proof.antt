@@ -5,7 +5,6 @@ use Rattle.runner.proofs.Refusing.{by-rom, by-schedule, by-state, by-li
 use borrow.Author.Needs.{needs}
 use Rattle.runner.proofs.refusal.Statement.{statement}
 use Rattle.runner.proofs.refusal.Tie as tie
-use Rattle.schedule.proofs.check.Reads as check-reads′
 
 returns : tie.Need-returns
 returns c =

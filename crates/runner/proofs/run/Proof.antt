@@ -1,4 +1,4 @@
--- A refused run, and one that is driven. Assumes nothing.
+-- A refused run, and one that is accepted. Assumes nothing.
 use mathlib.Core.Path.{_∙_, sym, ap}
 use denote.Ref.{now}
 use Rattle.runs.specs.Numbers.{outcomeNumber}
@@ -22,8 +22,8 @@ returns c =
 enum-told : tie.Need-enum-told
 enum-told c = search needs
 
-drive-requires : tie.Need-drive-requires
-drive-requires c κs = sym (c .before .before .before .refusal .ensures) ∙ ap outcomeNumber (c .before .enum-told .given .1)
+run-accepted-requires : tie.Need-run-accepted-requires
+run-accepted-requires c κs = sym (c .before .before .before .refusal .ensures) ∙ ap outcomeNumber (c .before .enum-told .given .1)
 
 same-length : tie.Need-same-length
 same-length c = search needs
@@ -39,6 +39,6 @@ run-spec =
     enum-known-by
     returns
     enum-told
-    drive-requires
+    run-accepted-requires
     same-length
     returns-2)

@@ -2,8 +2,8 @@
 use denote.Ref.{now}
 use Rattle.turns.proofs.Taken.{run-taken}
 use borrow.Author.Needs.{needs}
-use Rattle.runner.proofs.drive.Statement.{statement}
-use Rattle.runner.proofs.drive.Tie as tie
+use Rattle.runner.proofs.run_accepted.Statement.{statement}
+use Rattle.runner.proofs.run_accepted.Tie as tie
 
 instruction-table-requires : tie.Need-instruction-table-requires
 instruction-table-requires c κs = search needs
@@ -28,8 +28,8 @@ same-length c = search needs
 returns : tie.Need-returns
 returns c = search needs
 
-pub drive-spec : {M : Type 1} → statement M
-drive-spec =
+pub run-accepted-spec : {M : Type 1} → statement M
+run-accepted-spec =
     tie.close
     (tie.spec
     instruction-table-requires
