@@ -1,8 +1,6 @@
 -- All panels: the loop ends with the last of them. Assumes nothing.
 use borrow.Author.Needs.{needs}
 use Prim.Native.Nat.{_+_, _*_, _≤_, _-_}
-use mathlib.Core.Path.{_≡_}
-use lib.ListN.{length}
 use Rattle.cuts.proofs.all.Statement.{statement}
 use Rattle.cuts.proofs.all.Tie as tie
 

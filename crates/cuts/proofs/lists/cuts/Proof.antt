@@ -1,6 +1,6 @@
 -- The cuts: the loop ends with the last of them. Assumes nothing.
 use borrow.Author.Needs.{needs}
-use Prim.Native.Nat.{_+_, _≤_, _-_}
+use Prim.Native.Nat.{_≤_, _-_}
 use mathlib.Core.Path.{_≡_}
 use lib.ListN.{length}
 use Rattle.cuts.proofs.lists.cuts.Statement.{statement}
