@@ -15,8 +15,7 @@ use Rattle.upd546.specs.Tests.{allOf}
 use Rattle.upd546.specs.TheLineSchedule.{recordLength, maxRecords, scheduleNumber}
 use Rattle.upd546.specs.StateImage.{registersSound, flowSound, interruptSound, timerSound, coreSound, portsSound, ramSound, stateSound, stateNumber}
 use Rattle.upd546.specs.TwoRunners.{upd546, panelNumber}
-use Rattle.upd546.specs.Reports.{refusedText, traceLog, traceText}
-use Rattle.report.specs.Texts.{runText}
+use Rattle.upd546.specs.Reports.{refusedText, traceLog, traceText, runText}
 use Rattle.report.specs.Inputs.{ReadsEnough, PanelsOnly}
 use Rattle.report.proofs.Texts.{long-text}
 

@@ -16,10 +16,10 @@ use Rattle.upd546.specs.declared.RunAnswer.{RunAnswer}
 use Rattle.upd546.specs.TheMachine.{romLength, fresh}
 use Rattle.upd546.specs.Bytes.{numberAt}
 use Rattle.upd546.specs.TwoRunners.{upd546, answerOf}
-use Rattle.upd546.specs.Reports.{refusedText, reportText, onEnd, traceLog, traceText}
+use Rattle.upd546.specs.Reports.{refusedText, reportText, onEnd, traceLog, traceText, runText}
 use Rattle.io.specs.Counts.{Counts}
 use Rattle.report.specs.Writing.{Appended}
-use Rattle.report.specs.Texts.{runText, Traced}
+use Rattle.report.specs.Texts.{Traced}
 use Rattle.report.proofs.Writing.{front, kept-length}
 
 -- HOW A RUN ENDED

@@ -3,11 +3,8 @@ use mathlib.Core.Path.{_≡_}
 use mathlib.Core.List.{List, _++_}
 use Prim.Native.Nat.{ℕ, _≤_}
 use lib.ListN.{length, drop}
-use Rattle.runs.specs.TwoRunners.{plain}
 use Rattle.upd546.specs.declared.RunAnswer.{RunAnswer}
-use Rattle.upd546.specs.TheMachine.{fresh}
-use Rattle.upd546.specs.TwoRunners.{upd546}
-use Rattle.upd546.specs.Reports.{onEnd, traceLog, traceText}
+use Rattle.upd546.specs.Reports.{traceLog, traceText}
 use Rattle.io.specs.Counts.{Counts}
 use Rattle.report.specs.Writing.{textLength}
 use Rattle.report.specs.Records.{Recorded}
@@ -17,10 +14,6 @@ pub record Reportable (answer : RunAnswer) (log out : List ℕ) : Type 0 where
   pub recorded : Recorded (answer .written) log
   pub room : length log ≡ traceLog
   pub fits : textLength ≤ length out
-
--- "runs a fresh state on the plain runner", on any log: ROM, schedule, log, n
-unfoldable pub runText : List ℕ → List ℕ → List ℕ → ℕ → List ℕ
-runText rom sched log n = let a = plain upd546 rom sched fresh log n in onEnd (a .end) a
 
 -- what `trace` leaves in its buffer: the text at the front, r bytes, and behind it what was there
 pub record Traced (input before after : List ℕ) (r : ℕ) : Type 0 where

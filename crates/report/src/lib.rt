@@ -2,6 +2,7 @@
 // the text of what it answers. It may not know how a run goes, nor where input comes from and text goes to.
 use runs::MachineCycles;
 use runs::RunEnd;
+use upd546::LOG_RECORD;
 use upd546::ROM_LENGTH;
 use upd546::RunAnswer;
 ghost use mathlib.Core.Path.{_≡_};
@@ -13,10 +14,10 @@ ghost use Rattle.runs.specs.TwoRunners.{plain};
 ghost use Rattle.upd546.specs.TheMachine.{fresh};
 ghost use Rattle.upd546.specs.Ports.{portI};
 ghost use Rattle.upd546.specs.TwoRunners.{upd546, answerOf};
-ghost use Rattle.upd546.specs.Reports.{decimal, portLetter, hexDigit, recordText, recordsText, refusedText, reportText, onEnd, traceLog};
+ghost use Rattle.upd546.specs.Reports.{decimal, portLetter, hexDigit, recordText, recordsText, refusedText, reportText, onEnd, traceLog, runText};
 ghost use Rattle.report.specs.Writing.{Appended, numberLength, lineLength, refusedLength, endLength, textLength, endLine};
 ghost use Rattle.report.specs.Records.{Legible, Recorded};
-ghost use Rattle.report.specs.Texts.{Reportable, runText, Traced};
+ghost use Rattle.report.specs.Texts.{Reportable, Traced};
 
 // "n (4 bytes, big-endian)"
 const COUNT_LENGTH: usize = 4;
@@ -26,8 +27,6 @@ const SCHEDULE_AT: usize = COUNT_LENGTH + ROM_LENGTH;
 
 // "a log of 16,384 bytes"
 const LOG_LENGTH: usize = 16384;
-
-const RECORD_LENGTH: usize = 8;
 
 // A number of 64 bits has at most 20 digits.
 const DIGITS: usize = 20;
@@ -92,7 +91,7 @@ fn put_line(out: &mut [u8], at: usize, log: &[u8], i: usize) -> usize
     requires { ⌜ (at + lineLength ≤ length (now out)) × (8 * i + 8 ≤ length (now log)) × Legible (now log) (i + 1) ⌝ }
     ensures { λ r. ⌜ Appended (now (out .entry)) at (recordText (now (log .entry)) i) (now (out .exit)) r × (r ≤ at + lineLength) ⌝ }
 {
-    let from = RECORD_LENGTH * i;
+    let from = LOG_RECORD * i;
     let letter = port_letter(log[from + 6]);
     let digit = hex_digit(log[from + 7]);
     let to = put_number(out, at, big_endian::number_at(log, from, 6), b' ');
@@ -139,7 +138,7 @@ fn put_report(out: &mut [u8], answer: RunAnswer, log: &[u8], number: u8) -> usiz
     ensures { λ r. ⌜ Appended (now (out .entry)) 0 (reportText (answerOf answer (now (log .entry))) number) (now (out .exit)) r ⌝ }
 {
     let headed = put(out, 0, b"cycle port value\n");
-    let listed = put_lines(out, headed, log, answer.written / RECORD_LENGTH);
+    let listed = put_lines(out, headed, log, answer.written / LOG_RECORD);
     let cycles = answer.cycles;
     put_end(out, listed, cycles, answer.begun, number)
 }

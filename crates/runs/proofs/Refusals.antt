@@ -1,18 +1,42 @@
--- Where no number of a list refuses, none of them does. Assumes nothing.
+-- The first number of a list that refuses. Assumes nothing.
 use mathlib.Core.Path.{_≡_, refl}
 use mathlib.Core.Bool.{Bool, true, false}
-use mathlib.Core.List.{List, [], _∷_}
-use Prim.Native.Nat.{ℕ, zero, suc}
+use mathlib.Core.List.{List, [], _∷_, _++_}
+use Prim.Native.Nat.{ℕ, zero, suc, _<_}
 use native.Mathlib.Omega.{arith}
 use lib.ListN.{getD}
 use Rattle.runs.specs.TwoRunners.{firstOf, unless}
 
+-- where none refuses, none of them does
 pub first-at : (ks : List ℕ) → firstOf ks ≡ 0 → (i : ℕ) → getD ks i 0 ≡ 0
 unfolding firstOf
 first-at [] e i = refl
 first-at (zero ∷ ks) e zero = refl
 first-at (zero ∷ ks) e (suc i) = first-at ks e i
 first-at (suc k ∷ ks) e i = absurd (omega arith)
+
+-- by the number in front
+pub first-past : (k : ℕ) (ks : List ℕ) → k ≡ 0 → firstOf (k ∷ ks) ≡ firstOf ks
+unfolding firstOf
+first-past zero ks e = refl
+first-past (suc k) ks e = absurd (omega arith)
+
+pub first-here : (k : ℕ) (ks : List ℕ) → 0 < k → firstOf (k ∷ ks) ≡ k
+unfolding firstOf
+first-here zero ks h = absurd (omega arith)
+first-here (suc k) ks h = refl
+
+pub last-one : (k : ℕ) → firstOf (k ∷ []) ≡ k
+unfolding firstOf
+last-one zero = refl
+last-one (suc k) = refl
+
+-- numbers behind others
+pub first-append : (ks js : List ℕ) → firstOf (ks ++ js) ≡ firstOf (firstOf ks ∷ js)
+unfolding firstOf
+first-append [] js = refl
+first-append (zero ∷ ks) js = first-append ks js
+first-append (suc k ∷ ks) js = refl
 
 -- a test whose number doesn't refuse
 pub passes : (b : Bool) (k : ℕ) → unless b (suc k) ≡ 0 → b ≡ true

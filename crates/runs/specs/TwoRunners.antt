@@ -1,6 +1,6 @@
 -- Document 01, "Two runners", over any machine: the unbroken run, the plain and the timer-skipping runner, save and restore.
 -- Assumes nothing: these are definitions.
-use Prim.Native.Nat.{ℕ, zero, suc, _+_, _-_, _*_}
+use Prim.Native.Nat.{ℕ, zero, suc, _+_, _-_, _*_, _^_}
 use mathlib.Core.Bool.{Bool, true, false}
 use mathlib.Core.List.{List, [], _∷_, _++_}
 use mathlib.Core.Option.{Option, none, some}
@@ -11,7 +11,7 @@ use Rattle.runs.specs.Reports.{clocksPerCycle}
 
 -- "Cycle number, at most 2^48 - 1."
 abbrev pub cycleLimit : ℕ
-cycleLimit = 281474976710655
+cycleLimit = 2 ^ 48 - 1
 
 -- "a run of n cycles that isn't refused is lent a log of at least 8n + 8 bytes" (demand 3)
 abbrev pub logBound : ℕ → ℕ

@@ -1,6 +1,6 @@
 -- A schedule's number from its records' numbers, and the cycles of an accepted one. Assumes nothing.
 use mathlib.Core.Path.{_≡_, _∙_, refl, sym, ap}
-use mathlib.Core.List.{List, [], _∷_}
+use mathlib.Core.List.{List}
 use mathlib.Core.Logic.{⊎-elim}
 use Prim.Native.Nat.{ℕ, zero, suc, _+_, _-_, _*_, _%_, _<_, _≤_}
 use native.Mathlib.Nat.{eq-or-lt-of-le}
@@ -10,25 +10,8 @@ use lib.Dec.{ltb}
 use lib.ListN.{length}
 use borrow.Author.Tests.{ltb-true, lt-ltb, le-ltb, le-leb, lt-leb, eq-eqb, ne-eqb}
 use Rattle.runs.specs.TwoRunners.{firstOf, unless}
-use Rattle.runs.proofs.Refusals.{first-at, passes}
-use Rattle.upd546.specs.TheLineSchedule.{recordLength, maxRecords, recordCount, recordByte, recordCycle, bytesNumber, orderNumber, recordsNumber, scheduleNumber}
-use Rattle.schedule.specs.Cursor.{recordNumber}
-
--- the first of the numbers, by the one in front
-first-past : (k : ℕ) (ks : List ℕ) → k ≡ 0 → firstOf (k ∷ ks) ≡ firstOf ks
-unfolding firstOf
-first-past zero ks e = refl
-first-past (suc k) ks e = absurd (omega arith)
-
-first-here : (k : ℕ) (ks : List ℕ) → 0 < k → firstOf (k ∷ ks) ≡ k
-unfolding firstOf
-first-here zero ks h = absurd (omega arith)
-first-here (suc k) ks h = refl
-
-last-one : (k : ℕ) → firstOf (k ∷ []) ≡ k
-unfolding firstOf
-last-one zero = refl
-last-one (suc k) = refl
+use Rattle.runs.proofs.Refusals.{first-at, first-past, first-here, last-one, passes}
+use Rattle.upd546.specs.TheLineSchedule.{recordLength, maxRecords, recordCount, recordByte, recordCycle, bytesNumber, orderNumber, recordNumber, recordsNumber, scheduleNumber}
 
 -- one record: its bytes, then its order
 pub bad-level : (sched : List ℕ) (i : ℕ) → 1 < recordByte sched i 8 → recordNumber sched i ≡ 13
@@ -79,7 +62,7 @@ none-refused sched = refl
 -- one record more, where those before it are accepted
 pub one-more : (sched : List ℕ) (i : ℕ) → recordsNumber sched i ≡ 0 → recordsNumber sched (i + 1) ≡ recordNumber sched i
 unfolding recordsNumber
-one-more sched i e = rw (add-one i) (first-past (recordsNumber sched i) _ e)
+one-more sched i e = rw (add-one i) (first-past (recordsNumber sched i) _ e ∙ last-one (recordNumber sched i))
 
 -- a number that refuses the first i records refuses all of more
 refused-on : (sched : List ℕ) (i k : ℕ) → i ≤ k → 0 < recordsNumber sched i → recordsNumber sched k ≡ recordsNumber sched i
@@ -102,7 +85,7 @@ unfolding recordsNumber
 in-order sched zero i e h = absurd (omega arith)
 in-order sched (suc k) i e h =
     let z = first-at _ e in
-    ⊎-elim (λ q. let p : i ≡ k = omega arith in rw p (z 2)) (λ l. in-order sched k i (z 0) (omega arith)) (eq-or-lt-of-le h)
+    ⊎-elim (λ q. let p : i ≡ k = omega arith in rw p (first-at _ (z 1) 1)) (λ l. in-order sched k i (z 0) (omega arith)) (eq-or-lt-of-le h)
 
 above-last : (sched : List ℕ) (i : ℕ) → orderNumber sched (suc i) ≡ 0 → recordCycle sched i < recordCycle sched (suc i)
 unfolding orderNumber

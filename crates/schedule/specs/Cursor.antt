@@ -1,17 +1,12 @@
--- What refuses one record, and where a run stands in its schedule at a cycle. Assumes nothing: these are definitions.
+-- Where a run stands in its schedule at a cycle. Assumes nothing: these are definitions.
 use mathlib.Core.Path.{_≡_}
 use mathlib.Core.Bool.{cond}
-use mathlib.Core.List.{List, [], _∷_}
+use mathlib.Core.List.{List}
 use Prim.Native.Nat.{ℕ, zero, suc, _≤_, _<_}
 use lib.Dec.{ltb}
-use Rattle.runs.specs.TwoRunners.{firstOf}
 use Rattle.upd546.specs.declared.Lines.{Lines}
-use Rattle.upd546.specs.TheLineSchedule.{recordCount, recordCycle, recordLines, quietLines, linesAt, bytesNumber, orderNumber}
+use Rattle.upd546.specs.TheLineSchedule.{recordCount, recordCycle, recordLines, quietLines, linesAt}
 use Rattle.schedule.specs.declared.Cursor.{Cursor}
-
--- "13 bad INT or last byte, 14 cycle not above the last"
-abbrev pub recordNumber : List ℕ → ℕ → ℕ
-recordNumber sched i = firstOf (bytesNumber sched i ∷ orderNumber sched i ∷ [])
 
 -- u64's largest number; six bytes are below it
 abbrev pub noCycle : ℕ

@@ -83,14 +83,14 @@ onEnd (refused k) a = refusedText k
 abbrev pub traceLog : ℕ
 traceLog = 16384
 
--- "runs a fresh state on the plain runner": n, ROM, schedule
-abbrev pub traceRun : ℕ → List ℕ → List ℕ → List ℕ
-traceRun n rom sched = let a = plain upd546 rom sched fresh (replicate traceLog 0) n in onEnd (a .end) a
+-- "runs a fresh state on the plain runner": ROM, schedule, log, n
+unfoldable pub runText : List ℕ → List ℕ → List ℕ → ℕ → List ℕ
+runText rom sched log n = let a = plain upd546 rom sched fresh log n in onEnd (a .end) a
 
 -- "reads from standard input n (4 bytes, big-endian), ROM and schedule, under 2,004 bytes being 21"
 abbrev pub onShort : Bool → List ℕ → List ℕ
 onShort true input = refusedText 21
-onShort false input = traceRun (numberAt input 0 4) (take romLength (drop 4 input)) (drop (4 + romLength) input)
+onShort false input = runText (take romLength (drop 4 input)) (drop (4 + romLength) input) (replicate traceLog 0) (numberAt input 0 4)
 
 unfoldable pub traceText : List ℕ → List ℕ
 traceText input = onShort (ltb (length input) (4 + romLength)) input

@@ -59,10 +59,14 @@ unfoldable pub orderNumber : List ℕ → ℕ → ℕ
 orderNumber sched zero = 0
 orderNumber sched (suc i) = unless (ltb (recordCycle sched i) (recordCycle sched (suc i))) 14
 
--- "then by record 13 .., 14": what refuses the first k records
+-- "by record 13 .., 14"
+abbrev pub recordNumber : List ℕ → ℕ → ℕ
+recordNumber sched i = firstOf (bytesNumber sched i ∷ orderNumber sched i ∷ [])
+
+-- "then by record": what refuses the first k records
 unfoldable pub recordsNumber : List ℕ → ℕ → ℕ
 recordsNumber sched zero = 0
-recordsNumber sched (suc k) = firstOf (recordsNumber sched k ∷ bytesNumber sched k ∷ orderNumber sched k ∷ [])
+recordsNumber sched (suc k) = firstOf (recordsNumber sched k ∷ recordNumber sched k ∷ [])
 
 -- "12 over 40,960 bytes; 11 length no multiple of 10; then by record .."
 unfoldable pub scheduleNumber : List ℕ → ℕ

@@ -21,6 +21,9 @@ pub const LATCHES: usize = 7;
 
 pub const IMAGE_LENGTH: usize = 81;
 
+// The bytes of a record of the log: 0 to 5 the cycle, 6 the port, 7 the value.
+pub const LOG_RECORD: usize = 8;
+
 // The mark: the kind of the last instruction begun.
 pub const MARK_OTHER: u8 = 0;
 
