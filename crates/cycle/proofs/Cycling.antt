@@ -10,7 +10,7 @@ use Rattle.upd546.specs.declared.Lines.{Lines}
 use Rattle.upd546.specs.declared.State.{State}
 use Rattle.upd546.specs.OneMachineCycle.{accepts, accepted, taken, paid, ticked, quiet, execute, onOwed, onAccepts}
 use Rattle.cycle.specs.declared.Stepped.{Stepped}
-use Rattle.cycle.specs.Landing.{landing, landed}
+use Rattle.cycle.specs.Answer.{cycleAnswer, cycleOf}
 
 -- the lines leave what is owed
 pub taken-owed : (l : Lines) (c : Core) → taken l c .owed ≡ c .owed
@@ -21,22 +21,22 @@ taken-owed l c = refl
 abbrev pub quietStep : Core → Stepped
 quietStep c = record { core = c; bytes = 0; begun = 0; stop = 0 }
 
-quiet-lands : (s : State) (c : Core) (log : List ℕ) → landed (quietStep (ticked c)) (s .ram) (s .ports) log ≡ landing (quiet s c) s log
-unfolding landing
-quiet-lands s c log = rw (leb·zero (length log))
+quiet-answers : (s : State) (c : Core) (log : List ℕ) → cycleOf (quietStep (ticked c)) (s .ram) (s .ports) log ≡ cycleAnswer (quiet s c) s log
+unfolding cycleAnswer
+quiet-answers s c log = rw (leb·zero (length log))
 
 module _ (rom : List ℕ) (l : Lines) (s : State) (log : List ℕ) where
-  pub lands-accepted : accepts (s .core) ≡ true → {core : Core} → core ≡ ticked (taken l (accepted (s .core)))
-      → landed (quietStep core) (s .ram) (s .ports) log ≡ landing (onAccepts (accepts (s .core)) rom l s) s log
-  lands-accepted a e = rw (a, e) (quiet-lands s (taken l (accepted (s .core))) log)
+  pub answers-accepted : accepts (s .core) ≡ true → {core : Core} → core ≡ ticked (taken l (accepted (s .core)))
+      → cycleOf (quietStep core) (s .ram) (s .ports) log ≡ cycleAnswer (onAccepts (accepts (s .core)) rom l s) s log
+  answers-accepted a e = rw (a, e) (quiet-answers s (taken l (accepted (s .core))) log)
 
-  pub lands-owed : accepts (s .core) ≡ false → (s .core .owed ≡ 0 → ⊥) → {core : Core} → core ≡ ticked (paid (taken l (s .core)))
-      → landed (quietStep core) (s .ram) (s .ports) log ≡ landing (onAccepts (accepts (s .core)) rom l s) s log
-  lands-owed a n e = rw (a, e) (quiet-lands s (paid (taken l (s .core))) log ∙ go (s .core .owed) n)
+  pub answers-owed : accepts (s .core) ≡ false → (s .core .owed ≡ 0 → ⊥) → {core : Core} → core ≡ ticked (paid (taken l (s .core)))
+      → cycleOf (quietStep core) (s .ram) (s .ports) log ≡ cycleAnswer (onAccepts (accepts (s .core)) rom l s) s log
+  answers-owed a n e = rw (a, e) (quiet-answers s (paid (taken l (s .core))) log ∙ go (s .core .owed) n)
     where
-      go : (k : ℕ) → (k ≡ 0 → ⊥) → landing (quiet s (paid (taken l (s .core)))) s log ≡ landing (onOwed k rom l s (taken l (s .core))) s log
+      go : (k : ℕ) → (k ≡ 0 → ⊥) → cycleAnswer (quiet s (paid (taken l (s .core)))) s log ≡ cycleAnswer (onOwed k rom l s (taken l (s .core))) s log
       go zero n = absurd (n refl)
       go (suc k) n = refl
 
-  pub lands-due : accepts (s .core) ≡ false → s .core .owed ≡ 0 → landing (execute rom l s (taken l (s .core))) s log ≡ landing (onAccepts (accepts (s .core)) rom l s) s log
-  lands-due a z = rw (a, z)
+  pub answers-due : accepts (s .core) ≡ false → s .core .owed ≡ 0 → cycleAnswer (execute rom l s (taken l (s .core))) s log ≡ cycleAnswer (onAccepts (accepts (s .core)) rom l s) s log
+  answers-due a z = rw (a, z)

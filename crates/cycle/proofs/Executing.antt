@@ -1,4 +1,4 @@
--- What a cycle in which an instruction is due lands at: by its stops in their order, and by what it does. Assumes nothing.
+-- What a cycle in which an instruction is due answers: by its stops in their order, and by what it does. Assumes nothing.
 use mathlib.Core.Path.{_≡_, _∙_, refl, sym, ap}
 use mathlib.Core.Bool.{Bool, true, false, cond}
 use mathlib.Core.List.{List, [], _∷_, _++_}
@@ -8,7 +8,7 @@ use lib.Dec.{ltb}
 use lib.ListN.{length, drop, set}
 use borrow.Author.Tests.{le-leb, lt-leb, ltb-true}
 use Rattle.runs.specs.TwoRunners.{firstOf}
-use Rattle.runs.proofs.Refusals.{first-at, passes}
+use Rattle.runs.proofs.Refusals.{first-at, first-append, passes}
 use Rattle.upd546.specs.declared.Core.{Core}
 use Rattle.upd546.specs.declared.Lines.{Lines}
 use Rattle.upd546.specs.declared.State.{State}
@@ -22,30 +22,13 @@ use Rattle.laws.specs.Valid.{ValidCore}
 use Rattle.laws.proofs.Instructions.{All, ValidWrite, ValidEffect, keeps}
 use Rattle.laws.proofs.Cycle.{given-valid, records-length}
 use Rattle.instructions.specs.declared.Given.{Given}
-use Rattle.instructions.specs.Groups.{writesOf}
 use Rattle.effect.specs.declared.Effect.{Effect}
 use Rattle.effect.specs.Effects.{effectAt, Does}
 use Rattle.fetch.specs.declared.Fetched.{Fetched}
 use Rattle.fetch.specs.declared.Passed.{Passed}
 use Rattle.fetch.specs.Fetching.{fetchStop, Begins, PassedAs}
-use Rattle.portlog.specs.Appending.{Written}
-use Rattle.cycle.specs.Landing.{holds, landing, landed, Ready}
-
--- numbers in their order, one more at the end
-later : (a b c d k : ℕ) → firstOf (a ∷ b ∷ c ∷ []) ≡ suc k → firstOf (a ∷ b ∷ c ∷ d ∷ []) ≡ suc k
-unfolding firstOf
-later (suc a) b c d k e = e
-later zero (suc b) c d k e = e
-later zero zero (suc c) d k e = e
-later zero zero zero d k e = absurd (omega arith)
-
-last : (a b c d : ℕ) → firstOf (a ∷ b ∷ c ∷ []) ≡ 0 → firstOf (a ∷ b ∷ c ∷ d ∷ []) ≡ d
-unfolding firstOf
-last (suc a) b c d e = absurd (omega arith)
-last zero (suc b) c d e = absurd (omega arith)
-last zero zero (suc c) d e = absurd (omega arith)
-last zero zero zero zero e = refl
-last zero zero zero (suc d) e = refl
+use Rattle.portlog.specs.Appending.{writesOf, Written}
+use Rattle.cycle.specs.Answer.{holds, cycleAnswer, cycleOf, Ready}
 
 -- the instruction that is due at the core c, and its effect
 abbrev pub due : List ℕ → Core → Instruction
@@ -59,30 +42,27 @@ abbrev pub skipStop : chip.Effect → ℕ
 skipStop e = cond (e .skip) (needs (e .core .flow .pc)) 0
 
 module _ (rom : List ℕ) (l : Lines) (s : State) (c : Core) (log : List ℕ) where
-  stop-fetch : (k : ℕ) → fetchStop rom (c .flow .pc) ≡ suc k → instructionStop (due rom c) (given rom l s c) (dues rom l s c) ≡ suc k
+  -- the stops of the fetch, and then that of the skip
+  stops-are : instructionStop (due rom c) (given rom l s c) (dues rom l s c) ≡ firstOf (fetchStop rom (c .flow .pc) ∷ skipStop (dues rom l s c) ∷ [])
   unfolding fetchStop instructionStop given
-  stop-fetch k e = later _ _ _ _ k e
+  stops-are = first-append (_ ∷ _ ∷ _ ∷ []) (_ ∷ [])
 
-  stop-skip : fetchStop rom (c .flow .pc) ≡ 0 → instructionStop (due rom c) (given rom l s c) (dues rom l s c) ≡ skipStop (dues rom l s c)
-  unfolding fetchStop instructionStop given
-  stop-skip e = last _ _ _ _ e
+  pub at-fetch : (k : ℕ) → fetchStop rom (c .flow .pc) ≡ suc k → cycleAnswer (execute rom l s c) s log ≡ holds (suc k) s log
+  unfolding execute cycleAnswer given firstOf
+  at-fetch k e = rw (stops-are, e)
 
-  pub at-fetch : (k : ℕ) → fetchStop rom (c .flow .pc) ≡ suc k → landing (execute rom l s c) s log ≡ holds (suc k) s log
-  unfolding execute landing given
-  at-fetch k e = rw (stop-fetch k e)
-
-  pub at-skip : (k : ℕ) → fetchStop rom (c .flow .pc) ≡ 0 → skipStop (dues rom l s c) ≡ suc k → landing (execute rom l s c) s log ≡ holds (suc k) s log
-  unfolding execute landing given
-  at-skip k e q = rw (stop-skip e ∙ q)
+  pub at-skip : (k : ℕ) → fetchStop rom (c .flow .pc) ≡ 0 → skipStop (dues rom l s c) ≡ suc k → cycleAnswer (execute rom l s c) s log ≡ holds (suc k) s log
+  unfolding execute cycleAnswer given firstOf
+  at-skip k e q = rw (stops-are, e, q)
 
   module _ (e : fetchStop rom (c .flow .pc) ≡ 0) (q : skipStop (dues rom l s c) ≡ 0) where
-    pub at-room : length log < 8 * length (dues rom l s c .writes) → landing (execute rom l s c) s log ≡ holds 3 s log
-    unfolding execute landing begun given
+    pub at-room : length log < 8 * length (dues rom l s c .writes) → cycleAnswer (execute rom l s c) s log ≡ holds 3 s log
+    unfolding execute cycleAnswer begun given firstOf
     at-room h =
         let t = lt-leb (length (logBytes (s .cycle .0) (dues rom l s c .writes))) (length log) (rw (records-length (s .cycle .0) (dues rom l s c .writes)) h) in
-        rw (stop-skip e ∙ q, t)
+        rw (stops-are, e, q, t)
 
-    pub at-end : 8 * length (dues rom l s c .writes) ≤ length log → landing (execute rom l s c) s log ≡ record {
+    pub at-end : 8 * length (dues rom l s c .writes) ≤ length log → cycleAnswer (execute rom l s c) s log ≡ record {
       stop = 0;
       core = ticked (setOwed (due rom c .cycles - 1 + passedOver rom (dues rom l s c)) (setPc (past (passedOver rom (dues rom l s c)) (dues rom l s c .core .flow .pc)) (dues rom l s c .core)));
       ram = withWord (s .ram) (due rom c .address c) (dues rom l s c .word);
@@ -91,10 +71,10 @@ module _ (rom : List ℕ) (l : Lines) (s : State) (c : Core) (log : List ℕ) wh
       bytes = length (logBytes (s .cycle .0) (dues rom l s c .writes));
       begun = 1;
     }
-    unfolding execute landing begun given
+    unfolding execute cycleAnswer begun given firstOf
     at-end h =
         let t = le-leb (length (logBytes (s .cycle .0) (dues rom l s c .writes))) (length log) (rw (records-length (s .cycle .0) (dues rom l s c .writes)) h) in
-        rw (stop-skip e ∙ q, t)
+        rw (stops-are, e, q, t)
 
 -- what the code is given is what the instruction is given
 module _ (rom : List ℕ) (l : Lines) (s : State) (c : Core) (f : Fetched) (b : Begins rom (c .flow .pc) f) where
@@ -124,7 +104,7 @@ module _ (rom : List ℕ) (l : Lines) (s : State) (c : Core) (f : Fetched) (b : 
 
 -- a fetch that stops
 pub holds-fetch : (rom : List ℕ) (l : Lines) (s : State) (c : Core) (log : List ℕ) (k : ℕ) → (k ≡ 0 → ⊥) → k ≡ fetchStop rom (c .flow .pc)
-    → holds k s log ≡ landing (execute rom l s c) s log
+    → holds k s log ≡ cycleAnswer (execute rom l s c) s log
 holds-fetch rom l s c log zero n e = absurd (n refl)
 holds-fetch rom l s c log (suc k) n e = sym (at-fetch rom l s c log k (sym e))
 
@@ -162,10 +142,10 @@ module _ {rom table : List ℕ} {l : Lines} {s : State} {c : Core} {log : List �
     skip-same = rw (h .does .skip, h .does .core)
 
     -- a skip that stops
-    pub holds-skip : (p .stop ≡ 0 → ⊥) → holds (p .stop) s log ≡ landing (execute rom l s c) s log
+    pub holds-skip : (p .stop ≡ 0 → ⊥) → holds (p .stop) s log ≡ cycleAnswer (execute rom l s c) s log
     holds-skip = go (p .stop) (q .stop ∙ skip-same)
       where
-        go : (k : ℕ) → k ≡ skipStop (dues rom l s c) → (k ≡ 0 → ⊥) → holds k s log ≡ landing (execute rom l s c) s log
+        go : (k : ℕ) → k ≡ skipStop (dues rom l s c) → (k ≡ 0 → ⊥) → holds k s log ≡ cycleAnswer (execute rom l s c) s log
         go zero r n = absurd (n refl)
         go (suc k) r n = sym (at-skip rom l s c log k (h .goes-on) (sym r))
 
@@ -174,7 +154,7 @@ module _ {rom table : List ℕ} {l : Lines} {s : State} {c : Core} {log : List �
       none-skipped = sym skip-same ∙ sym (q .stop) ∙ t
 
       -- a log that lacks the bytes
-      pub holds-room : length log < 8 * length (writesOf (e .port) (e .value)) → holds 3 s log ≡ landing (execute rom l s c) s log
+      pub holds-room : length log < 8 * length (writesOf (e .port) (e .value)) → holds 3 s log ≡ cycleAnswer (execute rom l s c) s log
       holds-room r = sym (at-room rom l s c log (h .goes-on) none-skipped (rw (h .does .writes) at r))
 
       over-same : p .over ≡ passedOver rom (dues rom l s c)
@@ -197,7 +177,7 @@ module _ {rom table : List ℕ} {l : Lines} {s : State} {c : Core} {log : List �
           → core ≡ ticked (setOwed (f .cycles - 1 + p .over) (setPc (p .pc) (e .core)))
           → ram ≡ set (s .ram) (e .at) (e .word)
           → Written log (s .ports) (s .cycle .0) (writesOf (e .port) (e .value)) log′ ports bytes
-          → landed (record { core = core; bytes = bytes; begun = 1; stop = 0 }) ram ports log′ ≡ landing (execute rom l s c) s log
+          → cycleOf (record { core = core; bytes = bytes; begun = 1; stop = 0 }) ram ports log′ ≡ cycleAnswer (execute rom l s c) s log
       goes r x y w =
           let d = h .does in
           let m : ticked (setOwed (f .cycles - 1 + p .over) (setPc (p .pc) (e .core)))

@@ -13,7 +13,7 @@ ghost use Rattle.upd546.specs.TheMachine.{ramLength};
 ghost use Rattle.upd546.specs.Parts.{setOwed, setPc};
 ghost use Rattle.upd546.specs.OneMachineCycle.{ticked, execute as executeOf, onAccepts, accepts};
 ghost use Rattle.laws.specs.Valid.{ValidCore};
-ghost use Rattle.cycle.specs.Landing.{stateOf, landing, landed, heldBack, Ready};
+ghost use Rattle.cycle.specs.Answer.{stateOf, cycleAnswer, cycleOf, heldBack, Ready};
 
 // What a cycle comes to: the core, the bytes appended to the log, the instructions begun; or `stop`, the number why it isn't
 // begun (0: it is), with the core as it was.
@@ -68,7 +68,7 @@ fn execute(
     n: u64,
 ) -> Stepped
     requires { ⌜ Ready (now rom) (now table) lines (stateOf before (now ram) (now ports) n) × ValidCore c ⌝ }
-    ensures { λ r. ⌜ landed r (now (ram .exit)) (now (ports .exit)) (now (log .exit)) ≡ landing (executeOf (now (rom .entry)) lines (stateOf before (now (ram .entry)) (now (ports .entry)) n) c) (stateOf before (now (ram .entry)) (now (ports .entry)) n) (now (log .entry)) ⌝ }
+    ensures { λ r. ⌜ cycleOf r (now (ram .exit)) (now (ports .exit)) (now (log .exit)) ≡ cycleAnswer (executeOf (now (rom .entry)) lines (stateOf before (now (ram .entry)) (now (ports .entry)) n) c) (stateOf before (now (ram .entry)) (now (ports .entry)) n) (now (log .entry)) ⌝ }
 {
     let f = fetch::fetch_at(rom, table, c.flow.pc);
     if f.stop != 0 {
@@ -113,7 +113,7 @@ pub fn one_cycle(
     n: u64,
 ) -> Stepped
     requires { ⌜ Ready (now rom) (now table) lines (stateOf c (now ram) (now ports) n) ⌝ }
-    ensures { λ r. ⌜ landed r (now (ram .exit)) (now (ports .exit)) (now (log .exit)) ≡ landing (onAccepts (accepts c) (now (rom .entry)) lines (stateOf c (now (ram .entry)) (now (ports .entry)) n)) (stateOf c (now (ram .entry)) (now (ports .entry)) n) (now (log .entry)) ⌝ }
+    ensures { λ r. ⌜ cycleOf r (now (ram .exit)) (now (ports .exit)) (now (log .exit)) ≡ cycleAnswer (onAccepts (accepts c) (now (rom .entry)) lines (stateOf c (now (ram .entry)) (now (ports .entry)) n)) (stateOf c (now (ram .entry)) (now (ports .entry)) n) (now (log .entry)) ⌝ }
 {
     if steps::accepts(c) {
         let core = steps::ticked(steps::taken(lines, steps::accepted(c)));

@@ -9,7 +9,8 @@ use Rattle.upd546.specs.Parts.{setMark, setPc}
 use Rattle.upd546.specs.Instructions as chip
 use Rattle.upd546.specs.Instructions.{Instruction, instruction}
 use Rattle.instructions.specs.declared.Given.{Given}
-use Rattle.instructions.specs.Groups.{chipGiven, writesOf}
+use Rattle.instructions.specs.Groups.{chipGiven}
+use Rattle.portlog.specs.Appending.{writesOf}
 use Rattle.effect.specs.declared.Effect.{Effect}
 
 abbrev pub effectOf : Effect → chip.Effect

@@ -2,14 +2,15 @@
 // It may not know how a byte is fetched, what a skip passes over, nor how a run goes.
 use decode::Decoded;
 use instructions::Controlled;
+use instructions::FLAG_PLACE;
 use instructions::Flagged;
 use instructions::Given;
 use instructions::Jumped;
-use instructions::NO_PORT;
 use instructions::Pointed;
 use instructions::Ported;
 use instructions::Summed;
 use instructions::Worked;
+use portlog::NO_PORT;
 use upd546::Core;
 use upd546::LATCHES;
 use upd546::MARK_OTHER;
@@ -197,7 +198,10 @@ pub fn effect_of(g: Given, ram: &[u8; RAM_WORDS], ports: &[u8; LATCHES]) -> Effe
             let at = instructions::working_place(op);
             after_working(g, at, instructions::working_group(op, g, load(ram, at)))
         }
-        Decoded::Flags(op) => after_flag(g, 89, instructions::flag_group(op, g, load(ram, 89))),
+        Decoded::Flags(op) => {
+            let at = FLAG_PLACE;
+            after_flag(g, at, instructions::flag_group(op, g, load(ram, at)))
+        }
         Decoded::Jumps(op) => after_jump(g, instructions::jump_group(op, g)),
         Decoded::Controls(op) => after_control(g, instructions::control_group(op, g)),
         Decoded::Ports(op) => after_port(g, instructions::port_group(op, g, ports)),

@@ -1,19 +1,10 @@
--- What a port and a value stand for, and what a bit of a port writes, case by case. Assumes nothing.
-use mathlib.Core.Path.{_≡_, refl}
+-- What a bit of a port writes, case by case. Assumes nothing.
+use mathlib.Core.Path.{_≡_}
 use mathlib.Core.List.{List, []}
 use Prim.Native.Nat.{ℕ, _<_, _≤_}
 use native.Mathlib.Omega.{arith}
 use borrow.Author.Tests.{le-leb, lt-leb, ne-eqb}
-use Rattle.upd546.specs.Ports.{written, bitWritten, bitOutputs, portE, portI}
-use Rattle.instructions.specs.Groups.{writesOf}
-
-pub no-write : writesOf 0 0 ≡ []
-unfolding writesOf
-no-write = refl
-
-pub one-write : (p v : ℕ) → (p ≡ 0 → ⊥) → (p ≡ 9 → ⊥) → writesOf p v ≡ written p v
-unfolding writesOf
-one-write p v a b = rw (ne-eqb p 0 a, ne-eqb p 9 b)
+use Rattle.upd546.specs.Ports.{bitWritten, bitOutputs, portE, portI}
 
 module _ (ports : List ℕ) (p b v : ℕ) where
   -- A to D

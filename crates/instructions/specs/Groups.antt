@@ -1,11 +1,9 @@
 -- The instructions of a group, by what they leave. Assumes nothing: these are definitions.
-use Prim.Native.Nat.{ℕ, _%_, _/_}
-use mathlib.Core.Bool.{cond}
-use mathlib.Core.List.{List, [], _++_}
-use lib.Dec.{eqb}
+use Prim.Native.Nat.{ℕ}
+use mathlib.Core.List.{List}
 use Rattle.upd546.specs.Parts.{withFlow, withTimer, setMark, setAcc, setCarry, setSaved, setDph, setDpl, setInt, setInte}
-use Rattle.upd546.specs.Ports.{Write, written, portC, portD}
 use Rattle.upd546.specs.Instructions as chip
+use Rattle.portlog.specs.Appending.{writesOf}
 use Rattle.upd546.specs.Instructions.{Effect, leaves, skips, stores, writes, next}
 use Rattle.instructions.specs.declared.Given.{Given}
 use Rattle.instructions.specs.declared.Summed.{Summed}
@@ -48,10 +46,6 @@ abbrev pub controlled : chip.Given → Controlled → Effect
 controlled g r =
     skips (r .skip)
     (leaves g (setMark (r .mark) (withTimer (setInte (r .inte) (setInt (r .int) (setSaved (r .saved) (setCarry (r .carry) (next g))))) (r .timer))))
-
--- the writes that a port and a value stand for: none for 0, those of OCD for 9, else one
-unfoldable pub writesOf : ℕ → ℕ → List Write
-writesOf port value = cond (eqb port 0) [] (cond (eqb port 9) (written portC (value % 16) ++ written portD (value / 16)) (written port value))
 
 abbrev pub ported : chip.Given → Ported → Effect
 ported g r = skips (r .skip) (writes (writesOf (r .port) (r .value)) (leaves g (setAcc (r .acc) (next g))))

@@ -10,6 +10,8 @@ use decode::Pointer;
 use decode::Port;
 use decode::Sum;
 use decode::Working;
+use portlog::NO_PORT;
+use portlog::PORTS_C_AND_D;
 use upd546::Core;
 use upd546::Flow;
 use upd546::LATCHES;
@@ -31,8 +33,9 @@ ghost use Rattle.upd546.specs.TheMachine.{placeOf, markOther};
 ghost use Rattle.upd546.specs.Bytes.{bitAt, withBit};
 ghost use Rattle.upd546.specs.Ports.{readPort, outputs, bitOutputs};
 ghost use Rattle.decode.specs.Named.{namedSum, namedBit, namedPointer, namedWorking, namedFlag, namedJump, namedControl, namedPort};
+ghost use Rattle.portlog.specs.Appending.{writesOf};
 ghost use Rattle.laws.specs.Valid.{Scalars, ValidPorts};
-ghost use Rattle.instructions.specs.Groups.{chipGiven, summed, pointed, worked, flagged, jumped, controlled, writesOf, ported};
+ghost use Rattle.instructions.specs.Groups.{chipGiven, summed, pointed, worked, flagged, jumped, controlled, ported};
 
 // What an instruction is given besides the RAM and the latches.
 pub struct Given {
@@ -87,11 +90,6 @@ pub struct Controlled {
     pub skip: bool,
 }
 
-// What stands for a port where none is written, and where C and D are, from the halves of a value.
-pub const NO_PORT: u8 = 0;
-
-pub const PORTS_C_AND_D: u8 = 9;
-
 pub struct Ported {
     pub acc: u8,
     pub skip: bool,
@@ -99,7 +97,7 @@ pub struct Ported {
     pub value: u8,
 }
 
-// The effective writes of an instruction: a port, or one of the two numbers above, and its value.
+// The effective writes of an instruction, as `portlog` takes them.
 pub struct Output {
     pub port: u8,
     pub value: u8,
@@ -140,6 +138,9 @@ fn read_port(l: Lines, p: u8) -> u8
         _ => 0,
     }
 }
+
+// The place of the flag word. Row 7 is the sixth row that exists, so its words have the places 80 to 95.
+pub const FLAG_PLACE: usize = 89;
 
 // The place of the RAM word at DP.
 pub fn dp_place(dph: u8, dpl: u8) -> usize

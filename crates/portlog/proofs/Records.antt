@@ -5,16 +5,23 @@ use Prim.Native.Nat.{ℕ, _+_, _-_, _/_, _%_, _≤_}
 use native.Mathlib.Omega.{arith}
 use lib.ListN.{length, take, drop, set}
 use lib.Seq.{drop-drop, drop-cons}
+use borrow.Author.Tests.{ne-eqb}
 use borrow.Rule.Slice.PartMut.{midOf, putMid}
 use Rattle.upd546.specs.Bytes.{bytesOf}
 use Rattle.upd546.specs.Ports.{Write, written, logRecord, portC, portD}
 use Rattle.laws.proofs.Instructions.{All, more, ValidWrite}
-use Rattle.instructions.specs.Groups.{writesOf}
-use Rattle.instructions.proofs.Writes.{one-write}
-use Rattle.portlog.specs.Appending.{Written}
+use Rattle.portlog.specs.Appending.{writesOf, Written}
 use Rattle.laws.proofs.Tails.{mid-tail, put-tail}
 
 -- which writes there are, by the port
+pub no-write : writesOf 0 0 ≡ []
+unfolding writesOf
+no-write = refl
+
+pub one-write : (p v : ℕ) → (p ≡ 0 → ⊥) → (p ≡ 9 → ⊥) → writesOf p v ≡ written p v
+unfolding writesOf
+one-write p v a b = rw (ne-eqb p 0 a, ne-eqb p 9 b)
+
 pub none-of : (port v : ℕ) → port ≡ 0 → writesOf port v ≡ []
 unfolding writesOf
 none-of port v e = rw e

@@ -1,9 +1,15 @@
--- What effective writes leave in the log and in the latches. Assumes nothing: these are definitions.
-use Prim.Native.Nat.{ℕ}
+-- The effective writes of an instruction, and what they leave in the log and in the latches. Assumes nothing: these are definitions.
+use Prim.Native.Nat.{ℕ, _%_, _/_}
 use mathlib.Core.Path.{_≡_}
-use mathlib.Core.List.{List, _++_}
+use mathlib.Core.Bool.{cond}
+use mathlib.Core.List.{List, [], _++_}
+use lib.Dec.{eqb}
 use lib.ListN.{length, drop}
-use Rattle.upd546.specs.Ports.{Write, latched, logBytes}
+use Rattle.upd546.specs.Ports.{Write, written, latched, logBytes, portC, portD}
+
+-- the writes that a port and a value stand for: none for 0, those of OCD for 9, else one
+unfoldable pub writesOf : ℕ → ℕ → List Write
+writesOf port value = cond (eqb port 0) [] (cond (eqb port 9) (written portC (value % 16) ++ written portD (value / 16)) (written port value))
 
 -- the log and the latches after the writes of cycle n, and the bytes appended
 pub record Written (log ports : List ℕ) (n : ℕ) (ws : List Write) (log′ ports′ : List ℕ) (bytes : ℕ) : Type 0 where

@@ -1,8 +1,7 @@
 // The port log: what an effective write appends to the part of the log that is still empty, and what it leaves in the latches.
 // It may not know which instruction writes, nor how a run goes.
-use instructions::NO_PORT;
-use instructions::PORTS_C_AND_D;
 use upd546::LATCHES;
+use upd546::LOG_RECORD;
 use upd546::PORT_C;
 use upd546::PORT_D;
 ghost use mathlib.Core.Path.{_≡_};
@@ -11,14 +10,15 @@ ghost use Prim.Native.Nat.{ℕ, _-_, _*_, _≤_};
 ghost use lib.ListN.{length, drop, set};
 ghost use Rattle.upd546.specs.Ports.{logRecord};
 ghost use Rattle.laws.proofs.Instructions.{All, ValidWrite};
-ghost use Rattle.instructions.specs.Groups.{writesOf};
-ghost use Rattle.portlog.specs.Appending.{Written};
+ghost use Rattle.portlog.specs.Appending.{writesOf, Written};
 
-// A record's bytes: 0 to 5 the cycle, 6 the port, 7 the value.
-const RECORD_LENGTH: usize = 8;
+// What stands for a port where none is written, and where C and D are, from the halves of a value.
+pub const NO_PORT: u8 = 0;
+
+pub const PORTS_C_AND_D: u8 = 9;
 
 // OCD appends two records.
-const OCD_LENGTH: usize = 2 * RECORD_LENGTH;
+const OCD_LENGTH: usize = 2 * LOG_RECORD;
 
 // One record, at the front of the part of the log that is still empty.
 fn put_record(log: &mut [u8], n: u64, port: u8, value: u8)
@@ -40,7 +40,7 @@ pub fn room(port: u8) -> usize
     if port == PORTS_C_AND_D {
         return OCD_LENGTH;
     }
-    RECORD_LENGTH
+    LOG_RECORD
 }
 
 // The latch of a port becomes a value.
@@ -64,10 +64,10 @@ pub fn output(log: &mut [u8], ports: &mut [u8; LATCHES], n: u64, port: u8, value
         latch(ports, PORT_C, value % 16);
         latch(ports, PORT_D, value / 16);
         put_record(log, n, PORT_C, value % 16);
-        put_record(&mut log[RECORD_LENGTH..], n, PORT_D, value / 16);
+        put_record(&mut log[LOG_RECORD..], n, PORT_D, value / 16);
         return OCD_LENGTH;
     }
     latch(ports, port, value);
     put_record(log, n, port, value);
-    RECORD_LENGTH
+    LOG_RECORD
 }

@@ -13,8 +13,8 @@ ghost use Rattle.upd546.specs.TheMachine.{follows as followsOf, past};
 ghost use Rattle.upd546.specs.Timer.{stepRegister, tick as tickOf};
 ghost use Rattle.upd546.specs.OneMachineCycle.{accepts as acceptsOf, accepted as acceptedOf, taken as takenOf, paid as paidOf, ticked as tickedOf};
 
-// 03C: where an accepted interrupt goes.
-const INTERRUPT_ADDRESS: u16 = 60;
+// Where an accepted interrupt goes.
+const INTERRUPT_ADDRESS: u16 = 0x03C;
 
 // The address that follows: only the low 8 bits count up.
 pub fn follows(a: u16) -> u16

@@ -33,7 +33,7 @@ use Rattle.schedule.specs.declared.Cursor.{Cursor}
 use Rattle.schedule.specs.Cursor.{Stands}
 use Rattle.laws.proofs.Tails.{mid-tail, put-tail}
 use Rattle.cycle.specs.declared.Stepped.{Stepped}
-use Rattle.cycle.specs.Landing.{Landing, stateOf, landed, landing, Ready}
+use Rattle.cycle.specs.Answer.{CycleAnswer, stateOf, cycleOf, cycleAnswer, Ready}
 use Rattle.jump.specs.Boundary.{Boundary, Jumpable}
 use Rattle.jump.proofs.Lengths.{stands-last}
 use Rattle.turns.specs.Either.{runBy, jumpBy}
@@ -203,10 +203,10 @@ module _ {skips : Bool} {rom sched log₀ : List ℕ} {n : ℕ} {s : State} {log
     pub some-ahead : j ≡ 0 → ⊥
 
   -- THE NEXT STEP is one cycle, which answers r and leaves RAM, latches and the part of the log that it was lent
-  pub record Lands (r : Stepped) (ram ports part : List ℕ) : Type 0 where
+  pub record OneCycle (r : Stepped) (ram ports part : List ℕ) : Type 0 where
     pub more : done < n
     pub none-ahead : 0 ≡ jumpBy skips rom sched t (n - done)
-    pub lands : landed r ram ports part ≡ landing (onAccepts (accepts (t .core)) rom (cursor .lines) t) t (midOf at (length log - at) log)
+    pub answers : cycleOf r ram ports part ≡ cycleAnswer (onAccepts (accepts (t .core)) rom (cursor .lines) t) t (midOf at (length log - at) log)
 
 module _ {skips : Bool} {rom sched log₀ : List ℕ} {n : ℕ} {s : State} {log : List ℕ} {t : State} {cursor : Cursor} {at done begun spared : ℕ}
     {h : At skips rom sched log₀ n s log t cursor at done begun spared} {j : ℕ} (k : Jumps h j) where
@@ -283,7 +283,7 @@ module _ {skips : Bool} {rom sched log₀ : List ℕ} {n : ℕ} {s : State} {log
       (record { some-cycles = some-one j (k .some-ahead); within-run = within-run; stands = stands-before; on = λ next stands. jumps-on next stands refl })
 
 module _ {skips : Bool} {rom sched log₀ : List ℕ} {n : ℕ} {s : State} {log : List ℕ} {t : State} {cursor : Cursor} {at done begun spared : ℕ}
-    {h : At skips rom sched log₀ n s log t cursor at done begun spared} {r : Stepped} {ram ports part : List ℕ} (k : Lands h r ram ports part) where
+    {h : At skips rom sched log₀ n s log t cursor at done begun spared} {r : Stepped} {ram ports part : List ℕ} (k : OneCycle h r ram ports part) where
   one-cycle-span : (b : Bool) → 0 ≡ jumpBy b rom sched t (n - done) → spanOf upd546 rom sched b t (suc (n - (done + 1))) ≡ 1
   one-cycle-span false e = refl
   one-cycle-span true e = ap strideOf (sym (rw (one-more h (k .more)) at e))
@@ -291,8 +291,8 @@ module _ {skips : Bool} {rom sched log₀ : List ℕ} {n : ℕ} {s : State} {log
   pub span-one : spanOf upd546 rom sched skips t (suc (n - (done + 1))) ≡ 1
   span-one = one-cycle-span skips (k .none-ahead)
 
-  landed-is : landed r ram ports part ≡ landing (cycle rom sched t) t (midOf at (length log - at) log)
-  landed-is = k .lands ∙ ap (λ (o : Out State). landing o t (midOf at (length log - at) log)) (cycle-lines h (k .more))
+  answer-is : cycleOf r ram ports part ≡ cycleAnswer (cycle rom sched t) t (midOf at (length log - at) log)
+  answer-is = k .answers ∙ ap (λ (o : Out State). cycleAnswer o t (midOf at (length log - at) log)) (cycle-lines h (k .more))
 
   stopped-at : ℕ → Steps State
   stopped-at i = record { ran = sofar t (h .w) done begun (some i); steps = done - spared }
@@ -312,36 +312,36 @@ module _ {skips : Bool} {rom sched log₀ : List ℕ} {n : ℕ} {s : State} {log
     pub part-is : part ≡ midOf at (length log - at) log
 
   held : (r .stop ≡ 0 → ⊥) → Held
-  unfolding landing stopped-at
-  held g = go (cycle rom sched t) refl landed-is
+  unfolding cycleAnswer stopped-at
+  held g = go (cycle rom sched t) refl answer-is
     where
-      go : (o : Out State) → cycle rom sched t ≡ o → landed r ram ports part ≡ landing o t (midOf at (length log - at) log) → Held
+      go : (o : Out State) → cycle rom sched t ≡ o → cycleOf r ram ports part ≡ cycleAnswer o t (midOf at (length log - at) log) → Held
       go (stop i) q z =
-          let same : r .stop ≡ i = ap (λ (x : Landing). x .stop) z in
+          let same : r .stop ≡ i = ap (λ (x : CycleAnswer). x .stop) z in
           record {
             whole-is = stopped i (one-stops upd546 rom sched (length log₀ - length (h .w)) t i q) ∙ ap stopped-at (sym same);
             number-is = λ d. subst StopNumber (sym same) (stop-number rom sched t i q);
-            ram-is = ap (λ (x : Landing). x .ram) z;
-            ports-is = ap (λ (x : Landing). x .ports) z;
-            part-is = ap (λ (x : Landing). x .log) z;
+            ram-is = ap (λ (x : CycleAnswer). x .ram) z;
+            ports-is = ap (λ (x : CycleAnswer). x .ports) z;
+            part-is = ap (λ (x : CycleAnswer). x .log) z;
           }
       go (went t′ x b) q z = fit (leb (length x) (length (midOf at (length log - at) log))) refl z
         where
           fit : (v : Bool) → leb (length x) (length (midOf at (length log - at) log)) ≡ v
-              → landed r ram ports part ≡ cond v
+              → cycleOf r ram ports part ≡ cond v
               (record { stop = 0; core = t′ .core; ram = t′ .ram; ports = t′ .ports; log = x ++ drop (length x) (midOf at (length log - at) log); bytes = length x; begun = b })
               (record { stop = 3; core = t .core; ram = t .ram; ports = t .ports; log = midOf at (length log - at) log; bytes = 0; begun = 0 })
               → Held
-          fit true y z = absurd (g (ap (λ (x : Landing). x .stop) z))
+          fit true y z = absurd (g (ap (λ (x : CycleAnswer). x .stop) z))
           fit false y z =
-              let same : r .stop ≡ 3 = ap (λ (x : Landing). x .stop) z in
+              let same : r .stop ≡ 3 = ap (λ (x : CycleAnswer). x .stop) z in
               let full = leb-false (length x) (length (midOf at (length log - at) log)) y in
               record {
                 whole-is = stopped 3 (one-fills upd546 rom sched (length log₀ - length (h .w)) t t′ x b q (omega (arith, full, lent-length h))) ∙ ap stopped-at (sym same);
                 number-is = λ d. absurd (d same);
-                ram-is = ap (λ (x : Landing). x .ram) z;
-                ports-is = ap (λ (x : Landing). x .ports) z;
-                part-is = ap (λ (x : Landing). x .log) z;
+                ram-is = ap (λ (x : CycleAnswer). x .ram) z;
+                ports-is = ap (λ (x : CycleAnswer). x .ports) z;
+                part-is = ap (λ (x : CycleAnswer). x .log) z;
               }
 
   -- the answer of a run that stops here
@@ -380,29 +380,29 @@ module _ {skips : Bool} {rom sched log₀ : List ℕ} {n : ℕ} {s : State} {log
     pub bytes-is : r .bytes ≡ length x
 
   gone : r .stop ≡ 0 → Gone
-  unfolding landing
-  gone g = go (cycle rom sched t) refl landed-is
+  unfolding cycleAnswer
+  gone g = go (cycle rom sched t) refl answer-is
     where
-      go : (o : Out State) → cycle rom sched t ≡ o → landed r ram ports part ≡ landing o t (midOf at (length log - at) log) → Gone
-      go (stop i) q z = absurd (stop-number rom sched t i q .some (sym (ap (λ (x : Landing). x .stop) z) ∙ g))
+      go : (o : Out State) → cycle rom sched t ≡ o → cycleOf r ram ports part ≡ cycleAnswer o t (midOf at (length log - at) log) → Gone
+      go (stop i) q z = absurd (stop-number rom sched t i q .some (sym (ap (λ (x : CycleAnswer). x .stop) z) ∙ g))
       go (went t′ x b) q z = fit (leb (length x) (length (midOf at (length log - at) log))) refl z
         where
           fit : (v : Bool) → leb (length x) (length (midOf at (length log - at) log)) ≡ v
-              → landed r ram ports part ≡ cond v
+              → cycleOf r ram ports part ≡ cond v
               (record { stop = 0; core = t′ .core; ram = t′ .ram; ports = t′ .ports; log = x ++ drop (length x) (midOf at (length log - at) log); bytes = length x; begun = b })
               (record { stop = 3; core = t .core; ram = t .ram; ports = t .ports; log = midOf at (length log - at) log; bytes = 0; begun = 0 })
               → Gone
-          fit false y z = let three : _≡_ {A = ℕ} 0 3 = sym g ∙ ap (λ (x : Landing). x .stop) z in absurd (omega arith)
+          fit false y z = let three : _≡_ {A = ℕ} 0 3 = sym g ∙ ap (λ (x : CycleAnswer). x .stop) z in absurd (omega arith)
           fit true y z =
               let room = leb-true (length x) (length (midOf at (length log - at) log)) y in
               record {
                 to = t′;
                 x = x;
-                cycle-is = q ∙ ap (went t′ x) (sym (ap (λ (x : Landing). x .begun) z));
+                cycle-is = q ∙ ap (went t′ x) (sym (ap (λ (x : CycleAnswer). x .begun) z));
                 fits = omega (arith, room, lent-length h);
                 state-is = λ j. stateOf (z j .core) (z j .ram) (z j .ports) (t′ .cycle .0);
-                part-is = ap (λ (x : Landing). x .log) z;
-                bytes-is = ap (λ (x : Landing). x .bytes) z;
+                part-is = ap (λ (x : CycleAnswer). x .log) z;
+                bytes-is = ap (λ (x : CycleAnswer). x .bytes) z;
               }
 
   module _ (g : r .stop ≡ 0) where

@@ -1,6 +1,6 @@
 // The loop of both runners: cycle after cycle, or a jump, from a state on. The state goes in by value and comes back by value; inside
 // the loop the core is a local and RAM, latches, log and tables are lent.
-// It may not know what a cycle does, only that it lands where its definition says, nor where a jump is taken, nor what refuses a run.
+// It may not know what a cycle does, only that it answers what its definition says, nor where a jump is taken, nor what refuses a run.
 use cycle::one_cycle;
 use runs::MachineCycles;
 use runs::RunEnd;
@@ -21,7 +21,7 @@ ghost use Prim.Native.Nat.{_-_, _*_, _≤_};
 ghost use Rattle.runs.specs.Numbers.{stopNumber};
 ghost use Rattle.runs.specs.TwoRunners.{cycleLimit};
 ghost use Rattle.upd546.specs.TwoRunners.{answerOf};
-ghost use Rattle.cycle.specs.Landing.{stateOf};
+ghost use Rattle.cycle.specs.Answer.{stateOf};
 ghost use Rattle.jump.specs.Boundary.{Boundary};
 ghost use Rattle.laws.proofs.Stops.{StopNumber};
 ghost use Rattle.turns.specs.Either.{Ahead, Set, runBy};

@@ -2,7 +2,7 @@
 use mathlib.Core.Path.{_∙_, sym}
 use native.Mathlib.Omega.{arith}
 use denote.Ref.{now}
-use Rattle.cycle.specs.Landing.{stateOf}
+use Rattle.cycle.specs.Answer.{stateOf}
 use Rattle.cycle.proofs.Executing.{Doing, does-due, holds-fetch, writes-valid, register-small, cycles-some, holds-skip, holds-room, owed-small, goes}
 use borrow.Author.Needs.{needs}
 use Rattle.cycle.proofs.execute.Statement.{statement}

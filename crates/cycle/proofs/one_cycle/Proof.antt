@@ -5,8 +5,8 @@ use denote.Ref.{now}
 use Rattle.upd546.specs.declared.Core.{Core}
 use Rattle.upd546.specs.OneMachineCycle.{accepted, taken, paid, ticked, execute}
 use Rattle.laws.proofs.Cycle.{taken-keeps, accepted-keeps, paid-keeps}
-use Rattle.cycle.specs.Landing.{stateOf, landing}
-use Rattle.cycle.proofs.Cycling.{taken-owed, lands-accepted, lands-owed, lands-due}
+use Rattle.cycle.specs.Answer.{stateOf, cycleAnswer}
+use Rattle.cycle.proofs.Cycling.{taken-owed, answers-accepted, answers-owed, answers-due}
 use borrow.Author.Needs.{needs}
 use Rattle.cycle.proofs.one_cycle.Statement.{statement}
 use Rattle.cycle.proofs.one_cycle.Tie as tie
@@ -40,7 +40,7 @@ returns c =
     let s = stateOf (a .c) (now (a .ram)) (now (a .ports)) (a .n) in
     let e = c .ticked .ensures ∙ ap ticked
     (at-taken .taken .ensures ∙ ap (taken (a .lines)) (at-accepted .accepted .ensures)) in
-    lands-accepted (now (a .rom)) (a .lines) s (now (a .log)) (sym (at-accepts .accepts .ensures) ∙ at-if1 .if1 .taken) e
+    answers-accepted (now (a .rom)) (a .lines) s (now (a .log)) (sym (at-accepts .accepts .ensures) ∙ at-if1 .if1 .taken) e
 
 taken-requires-2 : tie.Need-taken-requires-2
 taken-requires-2 c κs = search needs
@@ -71,7 +71,7 @@ returns-2 c =
     let s = stateOf (a .c) (now (a .ram)) (now (a .ports)) (a .n) in
     let e = c .ticked2 .ensures ∙ ap ticked
     (at-paid .paid .ensures ∙ ap paid (at-taken2 .taken2 .ensures)) in
-    lands-owed (now (a .rom)) (a .lines) s (now (a .log)) (sym (at-accepts .accepts .ensures) ∙ at-if1 .if1 .left)
+    answers-owed (now (a .rom)) (a .lines) s (now (a .log)) (sym (at-accepts .accepts .ensures) ∙ at-if1 .if1 .left)
     (at-if2 .if2 .taken) e
 
 execute-requires : tie.Need-execute-requires
@@ -96,8 +96,8 @@ returns-3 c =
     let a = at-entry .args in
     let s = stateOf (a .c) (now (a .ram)) (now (a .ports)) (a .n) in
     at-execute .execute .ensures
-    ∙ ap (λ (x : Core). landing (execute (now (a .rom)) (a .lines) s x) s (now (a .log))) (at-taken2 .taken2 .ensures)
-    ∙ lands-due (now (a .rom)) (a .lines) s (now (a .log)) (sym (at-accepts .accepts .ensures) ∙ at-if1 .if1 .left)
+    ∙ ap (λ (x : Core). cycleAnswer (execute (now (a .rom)) (a .lines) s x) s (now (a .log))) (at-taken2 .taken2 .ensures)
+    ∙ answers-due (now (a .rom)) (a .lines) s (now (a .log)) (sym (at-accepts .accepts .ensures) ∙ at-if1 .if1 .left)
     (at-if2 .if2 .left)
 
 pub one-cycle-spec : {M : Type 1} → statement M

@@ -1,6 +1,6 @@
 -- The core with the group's parts. Assumes nothing.
 use mathlib.Core.Path.{refl}
-use Rattle.instructions.specs.Groups.{writesOf}
+use Rattle.portlog.specs.Appending.{writesOf}
 use Rattle.effect.specs.Effects.{nextOf}
 use borrow.Author.Needs.{needs}
 use Rattle.effect.proofs.after_port.Statement.{statement}

@@ -3,7 +3,8 @@ use mathlib.Core.Path.{_∙_, sym, ap}
 use native.Mathlib.Omega.{arith}
 use denote.Ref.{now}
 use Rattle.upd546.specs.Ports.{written}
-use Rattle.instructions.proofs.Writes.{no-write, one-write, bit-low, bit-past, bit-below, bit-i, bit-i3}
+use Rattle.portlog.proofs.Records.{no-write, one-write}
+use Rattle.instructions.proofs.Writes.{bit-low, bit-past, bit-below, bit-i, bit-i3}
 use borrow.Author.Needs.{needs}
 use Rattle.instructions.proofs.output_bit.Statement.{statement}
 use Rattle.instructions.proofs.output_bit.Tie as tie

@@ -2,8 +2,8 @@
 use native.Mathlib.Omega.{arith}
 use borrow.Author.Tests.{le-leb, lt-leb, ne-eqb}
 use Rattle.upd546.specs.Ports.{outputs, portC, portI}
-use Rattle.instructions.specs.Groups.{writesOf}
-use Rattle.instructions.proofs.Writes.{one-write}
+use Rattle.portlog.specs.Appending.{writesOf}
+use Rattle.portlog.proofs.Records.{one-write}
 use Rattle.instructions.proofs.output_port.Statement.{statement}
 use Rattle.instructions.proofs.output_port.Tie as tie
 

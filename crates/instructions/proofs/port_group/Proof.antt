@@ -1,6 +1,6 @@
 -- Each instruction of the group leaves what its definition says. Assumes nothing.
 use native.Mathlib.Omega.{arith}
-use Rattle.instructions.specs.Groups.{writesOf}
+use Rattle.portlog.specs.Appending.{writesOf}
 use borrow.Author.Needs.{needs}
 use Rattle.instructions.proofs.port_group.Statement.{statement}
 use Rattle.instructions.proofs.port_group.Tie as tie

@@ -3,9 +3,8 @@ use mathlib.Core.Path.{ap}
 use native.Mathlib.Omega.{arith}
 use lib.ListN.{length, length-drop}
 use denote.Ref.{now}
-use Rattle.instructions.proofs.Writes.{one-write}
 use Rattle.laws.proofs.Tails.{mid-tail}
-use Rattle.portlog.proofs.Records.{both-of, port-of, writes-none, writes-one, writes-both}
+use Rattle.portlog.proofs.Records.{one-write, both-of, port-of, writes-none, writes-one, writes-both}
 use borrow.Author.Needs.{needs}
 use Rattle.portlog.proofs.output.Statement.{statement}
 use Rattle.portlog.proofs.output.Tie as tie

@@ -1,6 +1,5 @@
 -- 8 bytes for each write. Assumes nothing.
-use Rattle.instructions.proofs.Writes.{one-write}
-use Rattle.portlog.proofs.Records.{none-of, both-of}
+use Rattle.portlog.proofs.Records.{one-write, none-of, both-of}
 use Rattle.portlog.proofs.room.Statement.{statement}
 use Rattle.portlog.proofs.room.Tie as tie
 

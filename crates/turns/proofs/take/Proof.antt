@@ -5,9 +5,9 @@ use Prim.Native.Nat.{_+_, _-_}
 use native.Mathlib.Nat.{add-zero}
 use native.Mathlib.Omega.{arith}
 use denote.Ref.{now}
-use Rattle.cycle.specs.Landing.{stateOf}
+use Rattle.cycle.specs.Answer.{stateOf}
 use Rattle.turns.specs.Either.{jumpBy}
-use Rattle.turns.proofs.Turning.{At, Forward, Jumps, Lands, starts, limit, schedule-taken, finishes, boundary, ready, jumpable, within-run, jumps-forward, stops, stop-length, stop-known, counts, cycle-forward}
+use Rattle.turns.proofs.Turning.{At, Forward, Jumps, OneCycle, starts, limit, schedule-taken, finishes, boundary, ready, jumpable, within-run, jumps-forward, stops, stop-length, stop-known, counts, cycle-forward}
 use borrow.Author.Needs.{needs}
 use Rattle.turns.proofs.take.Statement.{statement}
 use Rattle.turns.proofs.take.Tie as tie
@@ -32,16 +32,16 @@ ahead c = c .jump-ahead .ensures .ahead-is _ (record { pc-is = refl; owed-is = r
 jumps : (c : tie.Then1 Inv-loop μ-loop) → Jumps (c .before .before .before .loop .inv) (c .before .jump-ahead .result)
 jumps c = record { more = c .before .before .loop-test .taken; ahead = ahead (c .before); some-ahead = c .if1 .taken }
 
--- a cycle is next, and landed
-lands : (c : tie.After-one-cycle Inv-loop μ-loop)
-    → Lands (c .before .before .before .before .before .before .before .before .loop .inv) (c .one-cycle .result) (c .one-cycle .last .1 .1 .1 .0)
+-- a cycle is next, and has answered
+cycled : (c : tie.After-one-cycle Inv-loop μ-loop)
+    → OneCycle (c .before .before .before .before .before .before .before .before .loop .inv) (c .one-cycle .result) (c .one-cycle .last .1 .1 .1 .0)
     (c .one-cycle .last .1 .1 .1 .1 .0) (c .one-cycle .last .1 .1 .1 .1 .1 .0)
-lands c =
+cycled c =
     let at-if1 = c .before .before .before .before .before in
     record {
       more = at-if1 .before .before .loop-test .taken;
       none-ahead = sym (at-if1 .if1 .left) ∙ ahead (at-if1 .before);
-      lands = c .one-cycle .ensures;
+      answers = c .one-cycle .ensures;
     }
 
 -- a step forward, by a jump or by a cycle
@@ -60,7 +60,7 @@ forward c =
           let with-lines : tie.After-lines Inv-loop μ-loop = record { before = record { before = c .before; if1 = w .0 }; lines = w .1 } in
           let with-ports : tie.After-ports2 Inv-loop μ-loop = record { before = record { before = with-lines; ram2 = w .2 }; ports2 = w .3 } in
           let with-log : tie.After-one-cycle-arg Inv-loop μ-loop = record { before = with-ports; one-cycle-arg = w .4 } in
-          cycle-forward (lands (record { before = with-log; one-cycle = w .5 })) (w .9 .left) (w .13) (w .14) (w .15) (w .16) (w .17) (w .18) (w .19) (w .20)
+          cycle-forward (cycled (record { before = with-log; one-cycle = w .5 })) (w .9 .left) (w .13) (w .14) (w .15) (w .16) (w .17) (w .18) (w .19) (w .20)
     ]
 
 loop-holds : tie.Need-loop-holds Inv-loop μ-loop
@@ -123,7 +123,7 @@ one-cycle-requires c κs =
     ready (at-loop .loop .inv) (at-loop-test .loop-test .taken) (now (at-entry .args .table)) (at-entry .pre .instructions)
 
 stop-of-requires : tie.Need-stop-of-requires Inv-loop μ-loop
-stop-of-requires c κs = stop-known (lands (c .before .before .before .before)) (c .if2 .taken)
+stop-of-requires c κs = stop-known (cycled (c .before .before .before .before)) (c .if2 .taken)
 
 state-of-requires : tie.Need-state-of-requires Inv-loop μ-loop
 state-of-requires c κs = search needs
@@ -136,7 +136,7 @@ answer-requires c κs =
 same-length : tie.Need-same-length Inv-loop μ-loop
 same-length c =
     let at-if2 = c .before .before .before in
-    stop-length (lands (at-if2 .before .before .before .before)) (at-if2 .if2 .taken)
+    stop-length (cycled (at-if2 .before .before .before .before)) (at-if2 .if2 .taken)
 
 returns : tie.Need-returns Inv-loop μ-loop
 returns c =
@@ -144,7 +144,7 @@ returns c =
     let at-stop-of = at-state-of .before in
     let at-if2 = at-stop-of .before in
     rw (c .answer .ensures, at-stop-of .stop-of .ensures)
-    (stops (lands (at-if2 .before .before .before .before)) (at-if2 .if2 .taken) (at-state-of .state-of .ensures))
+    (stops (cycled (at-if2 .before .before .before .before)) (at-if2 .if2 .taken) (at-state-of .state-of .ensures))
 
 add-at : tie.Need-add-at Inv-loop μ-loop
 add-at c =
@@ -152,14 +152,14 @@ add-at c =
     let at-one-cycle = at-if2 .before .before .before .before in
     let at-loop = at-one-cycle .before .before .before .before .before .before .before .before in
     let at-entry = at-loop .before .before .before .before .before .before .before in
-    omega (arith, counts (lands at-one-cycle) (at-if2 .if2 .left), at-entry .good .1 .1 .1 .1 .1 .1 .1 .0 .0)
+    omega (arith, counts (cycled at-one-cycle) (at-if2 .if2 .left), at-entry .good .1 .1 .1 .1 .1 .1 .1 .0 .0)
 
 add-begun-2 : tie.Need-add-begun-2 Inv-loop μ-loop
 add-begun-2 c =
     let at-if2 = c .before .before .before in
     let at-one-cycle = at-if2 .before .before .before .before in
     let h = at-one-cycle .before .before .before .before .before .before .before .before .loop .inv in
-    omega (arith, counts (lands at-one-cycle) (at-if2 .if2 .left), limit h, h .few, h .not-past)
+    omega (arith, counts (cycled at-one-cycle) (at-if2 .if2 .left), limit h, h .few, h .not-past)
 
 sub-moved : tie.Need-sub-moved Inv-loop μ-loop
 sub-moved c = omega (arith, forward (c .before) .some-cycles)

@@ -21,7 +21,7 @@ abbrev pub stateOf : Core → List ℕ → List ℕ → ℕ → State
 stateOf c ram ports n = record { core = c; ports = ports; ram = ram; cycle = record { 0 = n } }
 
 -- what a cycle answers, and what stands in the lent RAM, latches and log when it returns
-pub record Landing : Type 0 where
+pub record CycleAnswer : Type 0 where
   pub stop : ℕ
   pub core : Core
   pub ram : List ℕ
@@ -30,20 +30,20 @@ pub record Landing : Type 0 where
   pub bytes : ℕ
   pub begun : ℕ
 
-abbrev pub landed : Stepped → List ℕ → List ℕ → List ℕ → Landing
-landed r ram ports log = record { stop = r .stop; core = r .core; ram = ram; ports = ports; log = log; bytes = r .bytes; begun = r .begun }
+abbrev pub cycleOf : Stepped → List ℕ → List ℕ → List ℕ → CycleAnswer
+cycleOf r ram ports log = record { stop = r .stop; core = r .core; ram = ram; ports = ports; log = log; bytes = r .bytes; begun = r .begun }
 
 -- a cycle that isn't begun
 abbrev pub heldBack : Core → ℕ → Stepped
 heldBack c k = record { core = c; bytes = 0; begun = 0; stop = k }
 
-abbrev pub holds : ℕ → State → List ℕ → Landing
-holds k s log = landed (heldBack (s .core) k) (s .ram) (s .ports) log
+abbrev pub holds : ℕ → State → List ℕ → CycleAnswer
+holds k s log = cycleOf (heldBack (s .core) k) (s .ram) (s .ports) log
 
 -- what a cycle's outcome is on this log; 3 where its records don't fit
-unfoldable pub landing : Out State → State → List ℕ → Landing
-landing (stop k) s log = holds k s log
-landing (went t w b) s log =
+unfoldable pub cycleAnswer : Out State → State → List ℕ → CycleAnswer
+cycleAnswer (stop k) s log = holds k s log
+cycleAnswer (went t w b) s log =
     cond (leb (length w) (length log))
     (record { stop = 0; core = t .core; ram = t .ram; ports = t .ports; log = w ++ drop (length w) log; bytes = length w; begun = b })
     (holds 3 s log)
