@@ -2,6 +2,7 @@
 use runs::MachineCycles;
 use runs::Outcome;
 use runs::Refusal;
+use upd546::CYCLE_BYTES;
 use upd546::Core;
 use upd546::Flow;
 use upd546::IMAGE_LENGTH;
@@ -243,7 +244,7 @@ fn state_at(bytes: &[u8]) -> State
         core: core_at(bytes),
         ports: ports_at(bytes),
         ram: ram_at(bytes),
-        cycle: MachineCycles(big_endian::number_at(bytes, CYCLE_AT, 6)),
+        cycle: MachineCycles(big_endian::number_at(bytes, CYCLE_AT, CYCLE_BYTES)),
     }
 }
 

@@ -2,6 +2,7 @@
 // the text of what it answers. It may not know how a run goes, nor where input comes from and text goes to.
 use runs::MachineCycles;
 use runs::RunEnd;
+use upd546::CYCLE_BYTES;
 use upd546::LOG_RECORD;
 use upd546::ROM_LENGTH;
 use upd546::RunAnswer;
@@ -94,7 +95,7 @@ fn put_line(out: &mut [u8], at: usize, log: &[u8], i: usize) -> usize
     let from = LOG_RECORD * i;
     let letter = port_letter(log[from + 6]);
     let digit = hex_digit(log[from + 7]);
-    let to = put_number(out, at, big_endian::number_at(log, from, 6), b' ');
+    let to = put_number(out, at, big_endian::number_at(log, from, CYCLE_BYTES), b' ');
     put(out, to, &[letter, b' ', digit, b'\n'])
 }
 

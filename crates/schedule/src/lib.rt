@@ -2,6 +2,7 @@
 // It may not know the chip's instructions, nor how a run goes.
 use runs::Outcome;
 use runs::Refusal;
+use upd546::CYCLE_BYTES;
 use upd546::Lines;
 ghost use mathlib.Core.Path.{_≡_};
 ghost use Prim.Native.Nat.{_+_, _<_, _≤_};
@@ -12,8 +13,6 @@ ghost use Rattle.schedule.specs.Cursor.{nextCycle, linesAfter, Counted, 
 
 // A record's bytes: 0 to 5 the cycle, 6 ports A and B, 7 ports C and D, 8 the INT level, 9 zero.
 const RECORD_LENGTH: usize = 10;
-
-const CYCLE_LENGTH: usize = 6;
 
 // 4,096 records.
 const MAX_LENGTH: usize = 40960;
@@ -43,7 +42,7 @@ fn cycle_at(sched: &[u8], i: usize) -> u64
     requires { ⌜ i < recordCount (now sched) ⌝ }
     ensures { λ r. ⌜ r ≡ recordCycle (now (sched .entry)) i ⌝ }
 {
-    big_endian::number_at(sched, RECORD_LENGTH * i, CYCLE_LENGTH)
+    big_endian::number_at(sched, RECORD_LENGTH * i, CYCLE_BYTES)
 }
 
 // The lines that record i sets.

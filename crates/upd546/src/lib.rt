@@ -21,7 +21,10 @@ pub const LATCHES: usize = 7;
 
 pub const IMAGE_LENGTH: usize = 81;
 
-// The bytes of a record of the log: 0 to 5 the cycle, 6 the port, 7 the value.
+// The bytes of a cycle number in schedules, images and logs.
+pub const CYCLE_BYTES: usize = 6;
+
+// The bytes of a record of the log: the cycle, the port, the value.
 pub const LOG_RECORD: usize = 8;
 
 // The mark: the kind of the last instruction begun.
