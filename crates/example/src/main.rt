@@ -1,12 +1,13 @@
-// How another crate uses the libraries: a panel runs for three cycles, is kept as bytes, and goes on from them after a switch-off;
-// then the bytes are damaged. It prints the port log as it grows. The ROM is document 01's example: OCD A5, LI 3, OE, and then a code that is none.
+// How another crate uses the libraries: a panel runs for three cycles, is kept as bytes, and goes on from them after a switch-off,
+// by the other runner; then the bytes are damaged. It prints the port log as it grows. The ROM is document 01's example: OCD A5, LI 3, OE, and then a code that is none.
 use libc::STDOUT_FILENO;
 use runs::MachineCycles;
 use runs::Outcome;
+use upd546::CYCLE_BYTES;
 use upd546::IMAGE_LENGTH;
+use upd546::LOG_RECORD;
 use upd546::ROM_LENGTH;
 use upd546::RunAnswer;
-use upd546::State;
 
 // A run of n cycles that isn't refused is lent 8n + 8 bytes.
 const LOG_LENGTH: usize = 8 * 7 + 8;
@@ -25,64 +26,64 @@ fn main() {
     damaged(&image);
 }
 
-// Three cycles from the fresh state, and a save.
+// Three cycles from the fresh state by the plain runner, and a save.
 fn evening(rom: &[u8], image: &mut [u8]) {
-    let state = run(rom, upd546::fresh_state(), 3);
-    let outcome = image::save(state, image);
-    told(b"saved ", outcome);
+    let schedule = [0u8; 0];
+    let mut log = [0u8; LOG_LENGTH];
+    let state = upd546::fresh_state();
+    let answer = runner::run_plain(rom, &schedule, state, &mut log, MachineCycles(3));
+    show(answer, &log);
+    let next = answer.state;
+    tell(b"saved", image::save(next, image));
 }
 
-// The bytes are restored, and the panel goes on by the other runner. It stops at the code that is none, with number 23.
+// The bytes are restored, and the panel goes on by the timer-skipping runner. It stops at the code that is none, with number 23.
 fn morning(rom: &[u8], image: &[u8]) {
-    let answer = image::restore(image);
-    let outcome = answer.outcome;
-    let state = answer.state;
-    told(b"restored ", outcome);
-    run(rom, state, 7);
+    let kept = image::restore(image);
+    let outcome = kept.outcome;
+    tell(b"restored", outcome);
+    let schedule = [0u8; 0];
+    let mut log = [0u8; LOG_LENGTH];
+    let state = kept.state;
+    let answer = runner::run_skipping(rom, &schedule, state, &mut log, MachineCycles(7));
+    show(answer, &log);
 }
 
 // DP has 7 bits, so the image is refused with 34. The answer's state is the fresh one.
 fn damaged(image: &[u8]) {
-    let answer = image::restore(image);
-    let outcome = answer.outcome;
-    told(b"damaged ", outcome);
+    let kept = image::restore(image);
+    let outcome = kept.outcome;
+    tell(b"damaged", outcome);
 }
 
-fn run(rom: &[u8], state: State, n: u64) -> State {
-    let schedule = [0u8; 0];
-    let mut log = [0u8; LOG_LENGTH];
-    let answer = runner::run_skipping(rom, &schedule, state, &mut log, MachineCycles(n));
-    records(&log, answer.written);
-    end(answer);
-    let next = answer.state;
-    next
-}
-
-// Each record has 8 bytes: the cycle, the port and its latch after the write. Cycles are small here: the last byte has them.
-fn records(log: &[u8], written: usize) {
-    let mut at = 0;
-    while at + 8 <= log.len() {
-        if written <= at {
-            return;
-        }
-        byte(log[at + 5]);
-        byte(log[at + 6]);
-        byte(log[at + 7]);
-        line();
-        at += 8;
-    }
-}
-
-fn end(answer: RunAnswer) {
+// The records of a run, its cycles and instructions, and its number.
+fn show(answer: RunAnswer, log: &[u8]) {
+    records(log, answer.written);
     let end = answer.end;
-    io::write_all(STDOUT_FILENO, b"end ");
+    io::write_all(STDOUT_FILENO, b"end");
     number(answer.cycles.0);
     number(answer.begun);
     number(runs::end_number(end) as u64);
     line();
 }
 
-fn told(what: &[u8], outcome: Outcome) {
+// Each record: the cycle, the port and its latch after the write.
+fn records(log: &[u8], written: usize) {
+    let mut at = 0;
+    while at + LOG_RECORD <= log.len() {
+        if written <= at {
+            return;
+        }
+        io::write_all(STDOUT_FILENO, b"record");
+        number(big_endian::number_at(log, at, CYCLE_BYTES));
+        byte(log[at + 6]);
+        byte(log[at + 7]);
+        line();
+        at += LOG_RECORD;
+    }
+}
+
+fn tell(what: &[u8], outcome: Outcome) {
     io::write_all(STDOUT_FILENO, what);
     number(runs::outcome_number(outcome) as u64);
     line();
@@ -93,8 +94,8 @@ fn byte(b: u8) {
 }
 
 fn number(n: u64) {
-    io::print_decimal(STDOUT_FILENO, n);
     io::write_all(STDOUT_FILENO, b" ");
+    io::print_decimal(STDOUT_FILENO, n);
 }
 
 fn line() {

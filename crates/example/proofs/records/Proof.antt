@@ -6,10 +6,10 @@ use Rattle.example.proofs.records.Statement.{statement}
 use Rattle.example.proofs.records.Tie as tie
 
 abbrev Inv-loop : tie.InvT-loop
-Inv-loop log written at₀ at = at ≤ length log
+Inv-loop log written at₀ t4 at = at ≤ length log
 
 abbrev μ-loop : tie.MeasureT-loop
-μ-loop log written at₀ at = length log - at
+μ-loop log written at₀ t4 at = length log - at
 
 loop-holds : tie.Need-loop-holds Inv-loop μ-loop
 loop-holds c = search needs
@@ -19,6 +19,18 @@ add-loop c = search needs
 
 returns : tie.Need-returns Inv-loop μ-loop
 returns c = search needs
+
+slice-aggregate-write-all : tie.Need-slice-aggregate-write-all Inv-loop μ-loop
+slice-aggregate-write-all c = search needs
+
+write-all-requires : tie.Need-write-all-requires Inv-loop μ-loop
+write-all-requires c κs = search needs
+
+number-at-requires : tie.Need-number-at-requires Inv-loop μ-loop
+number-at-requires c κs = search needs
+
+number-requires : tie.Need-number-requires Inv-loop μ-loop
+number-requires c κs = search needs
 
 add-byte : tie.Need-add-byte Inv-loop μ-loop
 add-byte c = search needs
@@ -37,15 +49,6 @@ shared-slice-read-byte-2 c = search needs
 
 byte-requires-2 : tie.Need-byte-requires-2 Inv-loop μ-loop
 byte-requires-2 c κs = search needs
-
-add-byte-3 : tie.Need-add-byte-3 Inv-loop μ-loop
-add-byte-3 c = search needs
-
-shared-slice-read-byte-3 : tie.Need-shared-slice-read-byte-3 Inv-loop μ-loop
-shared-slice-read-byte-3 c = search needs
-
-byte-requires-3 : tie.Need-byte-requires-3 Inv-loop μ-loop
-byte-requires-3 c κs = search needs
 
 line-requires : tie.Need-line-requires Inv-loop μ-loop
 line-requires c κs = search needs
@@ -71,15 +74,16 @@ records-spec =
     loop-holds
     add-loop
     returns
+    slice-aggregate-write-all
+    write-all-requires
+    number-at-requires
+    number-requires
     add-byte
     shared-slice-read-byte
     byte-requires
     add-byte-2
     shared-slice-read-byte-2
     byte-requires-2
-    add-byte-3
-    shared-slice-read-byte-3
-    byte-requires-3
     line-requires
     add-at
     loop-less
