@@ -10,7 +10,7 @@ use lib.Seq.{take-append-seam, take-at}
 use borrow.Author.Tests.{le-leb, leb-true}
 use Rattle.runs.specs.Machine.{Machine}
 use Rattle.runs.specs.Reports.{clocksPerCycle}
-use Rattle.runs.specs.TwoRunners.{cycleLimit, logBound, RunAnswer, SaveAnswer, Ran, Stepped, firstOf, endOf}
+use Rattle.runs.specs.TwoRunners.{cycleLimit, logBound, RunAnswer, SaveAnswer, RestoreAnswer, Ran, Stepped, firstOf, endOf}
 use Rattle.runs.specs.TwoRunners.{unbroken, within, strides, runNumber, told, stepwise, plain, skipping}
 use Rattle.runs.specs.TwoRunners.{saveNumber, put, saved, got, restored}
 use Rattle.runs.specs.Laws.{Panel, ImageLaws, Laws}
@@ -159,4 +159,7 @@ module _ (M : Machine) where
 
   pub restore-same : ImageLaws M → (s : M .State) (bytes : List ℕ) → WrittenBy M s bytes → restored M bytes ≡ record { number = 0; state = s }
   unfolding restored
-  restore-same L s bytes wr = let f = wrote L s bytes wr in rw (f .1, L .image-accepted s (f .0), L .image-back s (f .0))
+  restore-same L s bytes wr =
+      let f = wrote L s bytes wr in
+      let answer : M .State → RestoreAnswer (M .State) = λ t. record { number = 0; state = t } in
+      rw (f .1, L .image-accepted s (f .0)) (ap answer (L .image-back s (f .0)))

@@ -18,6 +18,10 @@ pub cycles-small : (code : ℕ) → code < 256 → sizeOf code .cycles < 4
 unfolding sizeOf instruction
 cycles-small code h = ltb→lt _ _ (every-at (λ c. ltb (instruction c .cycles) 4) 256 tt code h)
 
+-- bytes and base cycles, read one by one
+pub size-same : (code : ℕ) {bytes cycles : ℕ} → bytes ≡ sizeOf code .bytes → cycles ≡ sizeOf code .cycles → record { bytes = bytes; cycles = cycles } ≡ sizeOf code
+size-same code b k = rw (b, k)
+
 pub position-at : (r : ℕ) → 0 < r → r < 64 → getD positionTable (r - 1) 0 ≡ positionOf r
 unfolding positionTable
 position-at r p h =
