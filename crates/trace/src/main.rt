@@ -8,6 +8,6 @@ fn main() {
     let mut input = io::large_buffer();
     let mut text = io::large_buffer();
     let got = io::read_full(STDIN_FILENO, &mut input);
-    let size = report::trace(&input[..got], &mut text);
+    let size = listing::trace(&input[..got], &mut text);
     io::write_all(STDOUT_FILENO, &text[..size]);
 }

@@ -1,4 +1,4 @@
-//! The same runs as crates/speed, by this interpreter: reads the same 8 bytes (a seed, a load, a runner, the number of slices)
+//! The same runs as crates/test_speed, by this interpreter: reads the same 8 bytes (a seed, a load, a runner, the number of slices)
 //! and writes the same line.
 
 use std::io::Read;

@@ -1,0 +1,67 @@
+-- Which text a run and an input have. Assumes nothing.
+use mathlib.Core.Path.{_≡_, ap}
+use mathlib.Core.List.{List}
+use Prim.Native.Nat.{ℕ, _+_, _<_, _≤_}
+use native.Mathlib.Omega.{arith}
+use lib.ListN.{length, take, drop, replicate}
+use borrow.Author.Tests.{lt-ltb, le-ltb}
+use Rattle.runs.specs.declared.Stop.{Stop}
+use Rattle.runs.specs.declared.Refusal.{Refusal}
+use Rattle.runs.specs.declared.RunEnd.the-variants.{Finished, Stopped, Refused}
+use Rattle.runs.specs.TwoRunners.{plain}
+use Rattle.runs.specs.TwoRunners as runners
+use Rattle.runs.specs.Numbers.{stopNumber, refusalNumber, endOf}
+use Rattle.upd546.specs.declared.State.{State}
+use Rattle.upd546.specs.declared.RunAnswer.{RunAnswer}
+use Rattle.upd546.specs.TheMachine.{romLength, fresh}
+use Rattle.upd546.specs.Bytes.{numberAt}
+use Rattle.upd546.specs.TwoRunners.{upd546, answerOf}
+use Rattle.upd546.specs.Reports.{refusedText, reportText, onEnd, traceLog, traceText, runText}
+use Rattle.io.specs.Counts.{Counts}
+use Rattle.listing.specs.Writing.{Appended}
+use Rattle.listing.specs.Texts.{Traced}
+use Rattle.listing.proofs.Writing.{front, kept-length}
+
+-- HOW A RUN ENDED
+
+module _ (a : RunAnswer) (log : List ℕ) where
+  pub finished-text : a .end ≡ Finished → reportText (answerOf a log) 0 ≡ onEnd (endOf (a .end)) (answerOf a log)
+  finished-text e = rw e
+
+  pub stopped-text : (why : Stop) {k : ℕ} → a .end ≡ Stopped why → k ≡ stopNumber why
+      → reportText (answerOf a log) k ≡ onEnd (endOf (a .end)) (answerOf a log)
+  stopped-text why e p = rw (e, p)
+
+  pub refused-text : (why : Refusal) {k : ℕ} → a .end ≡ Refused why → k ≡ refusalNumber why
+      → refusedText k ≡ onEnd (endOf (a .end)) (answerOf a log)
+  refused-text why e p = rw (e, p)
+
+-- the answer of a run has the run's text
+pub run-text : (rom sched log : List ℕ) (n : ℕ) (a : RunAnswer) {log′ : List ℕ} → answerOf a log′ ≡ plain upd546 rom sched fresh log n
+    → onEnd (endOf (a .end)) (answerOf a log′) ≡ runText rom sched log n
+unfolding runText
+run-text rom sched log n a e = ap (λ (b : runners.RunAnswer State). onEnd (b .end) b) e
+
+-- THE INPUT
+
+module _ (input : List ℕ) where
+  -- "under 2,004 bytes being 21"
+  pub short-text : length input < 4 + romLength → refusedText 21 ≡ traceText input
+  unfolding traceText
+  short-text h = rw (lt-ltb (length input) (4 + romLength) h)
+
+  -- n, ROM and schedule
+  pub long-text : 4 + romLength ≤ length input → {rom sched log : List ℕ} {n : ℕ} → rom ≡ take romLength (drop 4 input)
+      → sched ≡ drop (4 + romLength) input → log ≡ replicate traceLog 0 → n ≡ numberAt input 0 4 → runText rom sched log n ≡ traceText input
+  unfolding traceText runText
+  long-text h p q r s = rw (p, q, r, s, le-ltb (length input) (4 + romLength) h)
+
+-- A TEXT AT THE FRONT OF A BUFFER
+
+counted : {b b₁ w : List ℕ} {r : ℕ} → Appended b 0 w b₁ r → Counts r b₁
+counted {b} {b₁} {w} {r} p =
+    let whole : length (take r b₁) ≡ length w = ap length (front p) in
+    (omega (arith, kept-length p, p .fits), omega (arith, whole, p .ends))
+
+pub traced : {input b b₁ : List ℕ} {r : ℕ} → Appended b 0 (traceText input) b₁ r → Traced input b b₁ r
+traced p = record { counts = counted p; size = omega (arith, p .ends); text = p .stands }

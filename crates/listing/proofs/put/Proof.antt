@@ -1,0 +1,36 @@
+-- A copy into the part from a place on. Assumes nothing.
+use denote.Ref.{now}
+use Rattle.laws.proofs.Tails.{put-copy}
+use Rattle.listing.proofs.Writing.{copied}
+use borrow.Author.Needs.{needs}
+use Rattle.listing.proofs.put.Statement.{statement}
+use Rattle.listing.proofs.put.Tie as tie
+
+sub-copy : tie.Need-sub-copy
+sub-copy c = search needs
+
+part-copy-start : tie.Need-part-copy-start
+part-copy-start c = search needs
+
+part-copy-end : tie.Need-part-copy-end
+part-copy-end c = search needs
+
+copy-requires : tie.Need-copy-requires
+copy-requires c κs = search needs
+
+add-result : tie.Need-add-result
+add-result c = search needs
+
+same-length : tie.Need-same-length
+same-length c = search needs
+
+returns : tie.Need-returns
+returns c =
+    let at-entry = c .before .before .before .before .before .before in
+    copied (at-entry .args .at) (now (at-entry .args .out)) (now (at-entry .args .bytes)) (at-entry .pre)
+    (put-copy (at-entry .args .at) (now (at-entry .args .out)) (now (at-entry .args .bytes)) (c .before .before .copy .ensures .1))
+
+pub put-spec : {M : Type 1} → statement M
+put-spec =
+    tie.close
+    (tie.spec sub-copy part-copy-start part-copy-end copy-requires add-result same-length returns)

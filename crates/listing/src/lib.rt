@@ -1,0 +1,201 @@
+// The report of a panel: the input of program `trace` split into n, ROM and schedule, a fresh state run on the plain runner, and
+// the text of what it answers. It may not know how a run goes, nor where input comes from and text goes to.
+use runs::MachineCycles;
+use runs::RunEnd;
+use upd546::CYCLE_BYTES;
+use upd546::LOG_RECORD;
+use upd546::ROM_LENGTH;
+use upd546::RunAnswer;
+ghost use mathlib.Core.Path.{_≡_};
+ghost use mathlib.Core.List.{_∷_, [], _++_};
+ghost use Prim.Native.Nat.{_+_, _*_, _/_, _<_, _≤_};
+ghost use lib.ListN.{length, replicate};
+ghost use Rattle.runs.specs.Numbers.{endOf};
+ghost use Rattle.runs.specs.TwoRunners.{plain};
+ghost use Rattle.upd546.specs.TheMachine.{fresh};
+ghost use Rattle.upd546.specs.Ports.{portI};
+ghost use Rattle.upd546.specs.TwoRunners.{upd546, answerOf};
+ghost use Rattle.upd546.specs.Reports.{decimal, portLetter, hexDigit, recordText, recordsText, refusedText, reportText, onEnd, traceLog, runText};
+ghost use Rattle.listing.specs.Writing.{Appended, numberLength, lineLength, refusedLength, endLength, textLength, endLine};
+ghost use Rattle.listing.specs.Records.{Legible, Recorded};
+ghost use Rattle.listing.specs.Texts.{Reportable, Traced};
+
+// "n (4 bytes, big-endian)"
+const COUNT_LENGTH: usize = 4;
+
+// "under 2,004 bytes being 21"
+const SCHEDULE_AT: usize = COUNT_LENGTH + ROM_LENGTH;
+
+// "a log of 16,384 bytes"
+const LOG_LENGTH: usize = 16384;
+
+// A number of 64 bits has at most 20 digits.
+const DIGITS: usize = 20;
+
+// Every text fits this many bytes; `textLength` is the same number.
+pub const TEXT_LENGTH: usize = 65536;
+
+// Copies bytes to a place of the text, and answers the place behind them.
+fn put(out: &mut [u8], at: usize, bytes: &[u8]) -> usize
+    requires { ⌜ at + length (now bytes) ≤ length (now out) ⌝ }
+    ensures { λ r. ⌜ Appended (now (out .entry)) at (now (bytes .entry)) (now (out .exit)) r ⌝ }
+{
+    bytes::copy(bytes, &mut out[at..]);
+    at + bytes.len()
+}
+
+fn put_byte(out: &mut [u8], at: usize, byte: u8) -> usize
+    requires { ⌜ at < length (now out) ⌝ }
+    ensures { λ r. ⌜ Appended (now (out .entry)) at (byte ∷ []) (now (out .exit)) r ⌝ }
+{
+    out[at] = byte;
+    at + 1
+}
+
+fn put_decimal(out: &mut [u8], at: usize, n: u64) -> usize
+    requires { ⌜ at + numberLength ≤ length (now out) ⌝ }
+    ensures { λ r. ⌜ Appended (now (out .entry)) at (decimal n) (now (out .exit)) r × (r ≤ at + numberLength) ⌝ }
+{
+    let mut digits = [0u8; DIGITS];
+    let k = io::decimal(n, &mut digits);
+    put(out, at, &digits[..k])
+}
+
+fn port_letter(port: u8) -> u8
+    requires { ⌜ port ≤ portI ⌝ }
+    ensures { λ r. ⌜ r ≡ portLetter port ⌝ }
+{
+    b'A' + port
+}
+
+fn hex_digit(value: u8) -> u8
+    requires { ⌜ value < 16 ⌝ }
+    ensures { λ r. ⌜ r ≡ hexDigit value ⌝ }
+{
+    if value < 10 {
+        return b'0' + value;
+    }
+    b'A' + (value - 10)
+}
+
+// A number and one byte behind it.
+fn put_number(out: &mut [u8], at: usize, n: u64, after: u8) -> usize
+    requires { ⌜ at + numberLength + 1 ≤ length (now out) ⌝ }
+    ensures { λ r. ⌜ Appended (now (out .entry)) at (decimal n ++ (after ∷ [])) (now (out .exit)) r × (r ≤ at + numberLength + 1) ⌝ }
+{
+    let to = put_decimal(out, at, n);
+    put_byte(out, to, after)
+}
+
+// The line of record i of a log.
+fn put_line(out: &mut [u8], at: usize, log: &[u8], i: usize) -> usize
+    requires { ⌜ (at + lineLength ≤ length (now out)) × (8 * i + 8 ≤ length (now log)) × Legible (now log) (i + 1) ⌝ }
+    ensures { λ r. ⌜ Appended (now (out .entry)) at (recordText (now (log .entry)) i) (now (out .exit)) r × (r ≤ at + lineLength) ⌝ }
+{
+    let from = LOG_RECORD * i;
+    let letter = port_letter(log[from + 6]);
+    let digit = hex_digit(log[from + 7]);
+    let to = put_number(out, at, big_endian::number_at(log, from, CYCLE_BYTES), b' ');
+    put(out, to, &[letter, b' ', digit, b'\n'])
+}
+
+// The lines of the first records of a log.
+fn put_lines(out: &mut [u8], at: usize, log: &[u8], count: usize) -> usize
+    requires { ⌜ (at + lineLength * count ≤ length (now out)) × (8 * count ≤ length (now log)) × Legible (now log) count ⌝ }
+    ensures { λ r. ⌜ Appended (now (out .entry)) at (recordsText (now (log .entry)) count) (now (out .exit)) r × (r ≤ at + lineLength * count) ⌝ }
+{
+    let mut to = at;
+    let mut i = 0;
+    while i < count {
+        to = put_line(out, to, log, i);
+        i += 1;
+    }
+    to
+}
+
+// "A refusal prints only `refused` and the number."
+fn put_refused(out: &mut [u8], number: u8) -> usize
+    requires { ⌜ refusedLength ≤ length (now out) ⌝ }
+    ensures { λ r. ⌜ Appended (now (out .entry)) 0 (refusedText number) (now (out .exit)) r ⌝ }
+{
+    let to = put(out, 0, b"refused ");
+    put_number(out, to, number as u64, b'\n')
+}
+
+// "then cycles, instructions, stop (0 if finished)"
+fn put_end(out: &mut [u8], at: usize, cycles: MachineCycles, begun: u64, number: u8) -> usize
+    requires { ⌜ at + endLength ≤ length (now out) ⌝ }
+    ensures { λ r. ⌜ Appended (now (out .entry)) at (endLine (cycles .0) begun number) (now (out .exit)) r ⌝ }
+{
+    let words = put(out, at, b"end ");
+    let counted = put_number(out, words, cycles.0, b' ');
+    let told = put_number(out, counted, begun, b' ');
+    put_number(out, told, number as u64, b'\n')
+}
+
+// The text of a run that isn't refused.
+fn put_report(out: &mut [u8], answer: RunAnswer, log: &[u8], number: u8) -> usize
+    requires { ⌜ Reportable answer (now log) (now out) ⌝ }
+    ensures { λ r. ⌜ Appended (now (out .entry)) 0 (reportText (answerOf answer (now (log .entry))) number) (now (out .exit)) r ⌝ }
+{
+    let headed = put(out, 0, b"cycle port value\n");
+    let listed = put_lines(out, headed, log, answer.written / LOG_RECORD);
+    let cycles = answer.cycles;
+    put_end(out, listed, cycles, answer.begun, number)
+}
+
+// The text of a run.
+fn put_answer(out: &mut [u8], answer: RunAnswer, log: &[u8]) -> usize
+    requires { ⌜ Reportable answer (now log) (now out) ⌝ }
+    ensures { λ r. ⌜ Appended (now (out .entry)) 0 (onEnd (endOf (answer .end)) (answerOf answer (now (log .entry)))) (now (out .exit)) r ⌝ }
+{
+    let end = answer.end;
+    match end {
+        RunEnd::Finished => put_report(out, answer, log, 0),
+        RunEnd::Stopped(why) => put_report(out, answer, log, runs::stop_number(why)),
+        RunEnd::Refused(why) => put_refused(out, runs::refusal_number(why)),
+    }
+}
+
+// "runs a fresh state on the plain runner"
+fn run_fresh(rom: &[u8], sched: &[u8], log: &mut [u8], n: MachineCycles) -> RunAnswer
+    ensures { λ r. ⌜ answerOf r (now (log .exit)) ≡ plain upd546 (now (rom .entry)) (now (sched .entry)) fresh (now (log .entry)) (n .0) ⌝ }
+    ensures { λ r. ⌜ Recorded (r .written) (now (log .exit)) ⌝ }
+{
+    let state = upd546::fresh_state();
+    runner::run_plain(rom, sched, state, log, n)
+}
+
+// The text of n cycles of a panel, on a log of 16,384 bytes.
+fn put_run(out: &mut [u8], rom: &[u8], sched: &[u8], log: &mut [u8], n: MachineCycles) -> usize
+    requires { ⌜ (length (now log) ≡ traceLog) × (textLength ≤ length (now out)) ⌝ }
+    ensures { λ r. ⌜ Appended (now (out .entry)) 0 (runText (now (rom .entry)) (now (sched .entry)) (now (log .entry)) (n .0)) (now (out .exit)) r ⌝ }
+{
+    let answer = run_fresh(rom, sched, log, n);
+    put_answer(out, answer, log)
+}
+
+// "a log of 16,384 bytes"; the length is what lending it as a slice asks.
+fn empty_log() -> [u8; LOG_LENGTH]
+    ensures { λ r. ⌜ (r ≡ replicate traceLog 0) × (traceLog ≡ length r) ⌝ }
+{
+    [0; LOG_LENGTH]
+}
+
+// THE TEXT OF PROGRAM `trace` for its input, at the front of a buffer: its length.
+pub fn trace(input: &[u8], out: &mut [u8; TEXT_LENGTH]) -> usize
+    ensures { λ r. ⌜ Traced (now (input .entry)) (now (out .entry)) (now (out .exit)) r ⌝ }
+{
+    if input.len() < SCHEDULE_AT {
+        return put_refused(out, 21);
+    }
+    let n = MachineCycles(big_endian::number_at(input, 0, COUNT_LENGTH));
+    let mut log = empty_log();
+    put_run(
+        out,
+        &input[COUNT_LENGTH..SCHEDULE_AT],
+        &input[SCHEDULE_AT..],
+        &mut log,
+        n,
+    )
+}

@@ -1,0 +1,68 @@
+-- A schedule of the generator: one turn a byte. Assumes nothing.
+use borrow.Author.Needs.{needs}
+use Prim.Native.Nat.{_≤_, _-_}
+use mathlib.Core.Path.{_≡_}
+use lib.ListN.{length}
+use Rattle.test_cases.proofs.lines.fill.Statement.{statement}
+use Rattle.test_cases.proofs.lines.fill.Tie as tie
+
+abbrev Inv-loop : tie.InvT-loop
+Inv-loop schedule₀ seed gap first s₀ cycle₀ i₀ schedule s cycle i = (i ≤ length schedule₀) × (length schedule ≡ length schedule₀)
+
+abbrev μ-loop : tie.MeasureT-loop
+μ-loop schedule₀ seed gap first s₀ cycle₀ i₀ schedule s cycle i = length schedule₀ - i
+
+returns : tie.Need-returns Inv-loop μ-loop
+returns c = search needs
+
+next-requires : tie.Need-next-requires Inv-loop μ-loop
+next-requires c κs = search needs
+
+loop-holds : tie.Need-loop-holds Inv-loop μ-loop
+loop-holds c = search needs
+
+record-byte-requires : tie.Need-record-byte-requires Inv-loop μ-loop
+record-byte-requires c κs = search needs
+
+store-requires : tie.Need-store-requires Inv-loop μ-loop
+store-requires c κs = search needs
+
+cycle-after-requires : tie.Need-cycle-after-requires Inv-loop μ-loop
+cycle-after-requires c κs = search needs
+
+number-after-requires : tie.Need-number-after-requires Inv-loop μ-loop
+number-after-requires c κs = search needs
+
+add-i : tie.Need-add-i Inv-loop μ-loop
+add-i c = search needs
+
+loop-less : tie.Need-loop-less Inv-loop μ-loop
+loop-less c = search needs
+
+loop-again : tie.Need-loop-again Inv-loop μ-loop
+loop-again c = search needs
+
+same-length : tie.Need-same-length Inv-loop μ-loop
+same-length c = search needs
+
+returns-2 : tie.Need-returns-2 Inv-loop μ-loop
+returns-2 c = search needs
+
+pub fill-spec : {M : Type 1} → statement M
+fill-spec =
+    tie.close
+    (tie.spec
+    Inv-loop
+    μ-loop
+    returns
+    next-requires
+    loop-holds
+    record-byte-requires
+    store-requires
+    cycle-after-requires
+    number-after-requires
+    add-i
+    loop-less
+    loop-again
+    same-length
+    returns-2)

@@ -1,0 +1,60 @@
+-- RAM words of the generator: one turn a word. Assumes nothing.
+use borrow.Author.Needs.{needs}
+use Prim.Native.Nat.{_≤_, _-_}
+use mathlib.Core.Path.{_≡_}
+use lib.ListN.{length}
+use Rattle.test_cases.proofs.start.fill.Statement.{statement}
+use Rattle.test_cases.proofs.start.fill.Tie as tie
+
+abbrev Inv-loop : tie.InvT-loop
+Inv-loop ram₀ seed s₀ i₀ ram s i = (i ≤ length ram₀) × (length ram ≡ length ram₀)
+
+abbrev μ-loop : tie.MeasureT-loop
+μ-loop ram₀ seed s₀ i₀ ram s i = length ram₀ - i
+
+returns : tie.Need-returns Inv-loop μ-loop
+returns c = search needs
+
+loop-holds : tie.Need-loop-holds Inv-loop μ-loop
+loop-holds c = search needs
+
+next-requires : tie.Need-next-requires Inv-loop μ-loop
+next-requires c κs = search needs
+
+top-requires : tie.Need-top-requires Inv-loop μ-loop
+top-requires c κs = search needs
+
+store-requires : tie.Need-store-requires Inv-loop μ-loop
+store-requires c κs = search needs
+
+add-i : tie.Need-add-i Inv-loop μ-loop
+add-i c = search needs
+
+loop-less : tie.Need-loop-less Inv-loop μ-loop
+loop-less c = search needs
+
+loop-again : tie.Need-loop-again Inv-loop μ-loop
+loop-again c = search needs
+
+same-length : tie.Need-same-length Inv-loop μ-loop
+same-length c = search needs
+
+returns-2 : tie.Need-returns-2 Inv-loop μ-loop
+returns-2 c = search needs
+
+pub fill-spec : {M : Type 1} → statement M
+fill-spec =
+    tie.close
+    (tie.spec
+    Inv-loop
+    μ-loop
+    returns
+    loop-holds
+    next-requires
+    top-requires
+    store-requires
+    add-i
+    loop-less
+    loop-again
+    same-length
+    returns-2)

@@ -1,0 +1,76 @@
+// Calls that are refused. Each has to answer its number and change nothing.
+use crate::lent;
+use upd546::RunAnswer;
+use upd546::State;
+
+// Whether the call of a slice was refused as it has to be; false where there is none. A run is by the runner of the slice.
+pub fn refused(call: u8, runner: u8, rom: &[u8], schedule: &[u8], state: State) -> bool {
+    match call {
+        1 => short_rom(runner, rom, schedule, state),
+        2 => run(runner, rom, &[0u8; 7], state, 9, 11),
+        3 => save(state),
+        4 => restore(),
+        5 => run(runner, rom, schedule, state, u64::MAX, 2),
+        _ => false,
+    }
+}
+
+fn short_rom(runner: u8, rom: &[u8], schedule: &[u8], state: State) -> bool {
+    if rom.len() < 1999 {
+        return false;
+    }
+    run(runner, &rom[..1999], schedule, state, 9, 21)
+}
+
+fn run(runner: u8, rom: &[u8], schedule: &[u8], state: State, n: u64, number: u8) -> bool {
+    let mut log = [0u8; 80];
+    let answer = lent::run(runner, rom, schedule, state, &mut log, n);
+    let end = answer.end;
+    let left = answer.state;
+    if runs::end_number(end) != number {
+        return false;
+    }
+    if !counts_nothing(answer) {
+        return false;
+    }
+    if test_cases::state_digest(left) != test_cases::state_digest(state) {
+        return false;
+    }
+    lent::untouched(&log, 0)
+}
+
+fn counts_nothing(answer: RunAnswer) -> bool {
+    if answer.cycles.0 != 0 {
+        return false;
+    }
+    if answer.clocks.0 != 0 {
+        return false;
+    }
+    if answer.begun != 0 {
+        return false;
+    }
+    if answer.written != 0 {
+        return false;
+    }
+    answer.steps == 0
+}
+
+fn save(state: State) -> bool {
+    let mut buffer = [0u8; 80];
+    test_cases::make_log(&mut buffer);
+    let outcome = image::save(state, &mut buffer);
+    if runs::outcome_number(outcome) != 1 {
+        return false;
+    }
+    lent::untouched(&buffer, 0)
+}
+
+fn restore() -> bool {
+    let answer = image::restore(&[0u8; 80]);
+    let outcome = answer.outcome;
+    let state = answer.state;
+    if runs::outcome_number(outcome) != 31 {
+        return false;
+    }
+    test_cases::state_digest(state) == test_cases::state_digest(upd546::fresh_state())
+}

@@ -1,0 +1,189 @@
+// One slice of a list: a run, a call that is refused or none, a save and a restore.
+use crate::lent;
+use crate::refused;
+use crate::unbroken::Unbroken;
+use runs::MachineCycles;
+use upd546::IMAGE_LENGTH;
+use upd546::RunAnswer;
+use upd546::State;
+
+// The runner, the call that is refused after the run, and the cycles of the run.
+pub struct Slice {
+    pub runner: u8,
+    pub call: u8,
+    pub cycles: u32,
+}
+
+// How far a list has come: the state that the last restore answered, the number of the first run that didn't finish, the sums of
+// what the runs answered, whether nothing was wrong so far, the slices, and the calls that were refused as they have to be.
+pub struct Progress {
+    pub state: State,
+    pub number: u8,
+    pub cycles: u64,
+    pub begun: u64,
+    pub written: usize,
+    pub right: bool,
+    pub slices: u32,
+    pub refused: u32,
+}
+
+pub fn begin(state: State) -> Progress {
+    Progress {
+        state,
+        number: 0,
+        cycles: 0,
+        begun: 0,
+        written: 0,
+        right: true,
+        slices: 0,
+        refused: 0,
+    }
+}
+
+// Whether a list that has come to its end ended as the unbroken run did.
+pub fn ends_same(p: Progress, u: Unbroken) -> bool {
+    if !p.right {
+        return false;
+    }
+    if p.number != u.number {
+        return false;
+    }
+    if p.cycles != u.cycles {
+        return false;
+    }
+    if p.begun != u.begun {
+        return false;
+    }
+    if p.written != u.written {
+        return false;
+    }
+    let state = p.state;
+    let image = u.image;
+    saves_as(state, image)
+}
+
+// Whether a save of the state writes these bytes.
+fn saves_as(state: State, image: [u8; IMAGE_LENGTH]) -> bool {
+    let mut again = [0u8; IMAGE_LENGTH];
+    test_cases::make_log(&mut again);
+    let outcome = image::save(state, &mut again);
+    if runs::outcome_number(outcome) != 0 {
+        return false;
+    }
+    test_cases::equal(&again, &image)
+}
+
+// One slice. `whole` is the log of the unbroken run.
+pub fn one(
+    p: Progress,
+    s: Slice,
+    rom: &[u8],
+    schedule: &[u8],
+    whole: &[u8],
+    space: &mut [u8],
+) -> Progress {
+    let room = lent::room(s.cycles, space.len());
+    let q = ran(p, s, rom, schedule, whole, &mut space[..room]);
+    let q = called(q, s, rom, schedule);
+    kept(q)
+}
+
+fn ran(
+    p: Progress,
+    s: Slice,
+    rom: &[u8],
+    schedule: &[u8],
+    whole: &[u8],
+    log: &mut [u8],
+) -> Progress {
+    let given = p.state;
+    let answer = lent::run(s.runner, rom, schedule, given, log, s.cycles as u64);
+    let wrote = logged(log, answer.written, whole, p.written);
+    added(p, answer, s.cycles as u64, wrote)
+}
+
+// Whether the run wrote what the unbroken run wrote from a place of its log on, and left the rest of its own log as it was.
+fn logged(log: &[u8], written: usize, whole: &[u8], at: usize) -> bool {
+    if log.len() < written {
+        return false;
+    }
+    if whole.len() < at {
+        return false;
+    }
+    if whole.len() - at < written {
+        return false;
+    }
+    let end = at + written;
+    if !test_cases::equal(&log[..written], &whole[at..end]) {
+        return false;
+    }
+    lent::untouched(log, written)
+}
+
+// The sums with one answer more.
+fn added(p: Progress, answer: RunAnswer, asked: u64, wrote: bool) -> Progress {
+    let state = answer.state;
+    let end = answer.end;
+    let number = runs::end_number(end);
+    Progress {
+        state,
+        number: first(p.number, number),
+        cycles: std::num::wrapping_add_u64(p.cycles, answer.cycles.0),
+        begun: std::num::wrapping_add_u64(p.begun, answer.begun),
+        written: std::num::wrapping_add_usize(p.written, answer.written),
+        right: p.right & wrote & fits(p.number, number, asked, answer.cycles),
+        slices: more(p.slices),
+        refused: p.refused,
+    }
+}
+
+fn first(before: u8, number: u8) -> u8 {
+    if before == 0 {
+        return number;
+    }
+    before
+}
+
+// Every stop of a list has the same number, and a run that finished did the cycles that it was asked for.
+fn fits(before: u8, number: u8, asked: u64, done: MachineCycles) -> bool {
+    if number == 0 {
+        return done.0 == asked;
+    }
+    first(before, number) == number
+}
+
+fn more(n: u32) -> u32 {
+    std::num::wrapping_add_u32(n, 1)
+}
+
+// What a refused call answers is dropped.
+fn called(p: Progress, s: Slice, rom: &[u8], schedule: &[u8]) -> Progress {
+    let state = p.state;
+    let mut q = p;
+    if refused::refused(s.call, s.runner, rom, schedule, state) {
+        q.refused = more(p.refused);
+    }
+    q
+}
+
+// A save to a buffer of 81 bytes, and a restore of these bytes.
+fn kept(p: Progress) -> Progress {
+    let state = p.state;
+    let mut bytes = [0u8; IMAGE_LENGTH];
+    test_cases::make_log(&mut bytes);
+    let saved = image::save(state, &mut bytes);
+    let answer = image::restore(&bytes);
+    let restored = answer.outcome;
+    let again = answer.state;
+    let done = (runs::outcome_number(saved) == 0) & (runs::outcome_number(restored) == 0);
+    Progress {
+        state: again,
+        number: p.number,
+        cycles: p.cycles,
+        begun: p.begun,
+        written: p.written,
+        right: p.right & done,
+        slices: p.slices,
+        refused: p.refused,
+    }
+}
