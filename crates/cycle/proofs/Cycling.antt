@@ -9,7 +9,7 @@ use Rattle.upd546.specs.declared.Core.{Core}
 use Rattle.upd546.specs.declared.Lines.{Lines}
 use Rattle.upd546.specs.declared.State.{State}
 use Rattle.upd546.specs.OneMachineCycle.{accepts, accepted, taken, paid, ticked, quiet, execute, onOwed, onAccepts}
-use Rattle.cycle.specs.declared.Stepped.{Stepped}
+use Rattle.cycle.specs.declared.CycleResult.{CycleResult}
 use Rattle.cycle.specs.Answer.{cycleAnswer, cycleOf}
 
 -- the lines leave what is owed
@@ -18,7 +18,7 @@ unfolding taken
 taken-owed l c = refl
 
 -- a cycle that begins no instruction
-abbrev pub quietStep : Core → Stepped
+abbrev pub quietStep : Core → CycleResult
 quietStep c = record { core = c; bytes = 0; begun = 0; stop = 0 }
 
 quiet-answers : (s : State) (c : Core) (log : List ℕ) → cycleOf (quietStep (ticked c)) (s .ram) (s .ports) log ≡ cycleAnswer (quiet s c) s log

@@ -7,7 +7,7 @@ use native.Mathlib.Omega.{arith}
 use lib.Dec.{ltb}
 use lib.ListN.{length, drop, set}
 use borrow.Author.Tests.{le-leb, lt-leb, ltb-true}
-use Rattle.runs.specs.TwoRunners.{firstOf}
+use Rattle.runs.specs.Refusals.{firstOf}
 use Rattle.runs.proofs.Refusals.{first-at, first-append, passes}
 use Rattle.upd546.specs.declared.Core.{Core}
 use Rattle.upd546.specs.declared.Lines.{Lines}
@@ -19,9 +19,10 @@ use Rattle.upd546.specs.Instructions as chip
 use Rattle.upd546.specs.Instructions.{Instruction, instruction}
 use Rattle.upd546.specs.OneMachineCycle.{ticked, given, needs, instructionStop, passedOver, begun, execute}
 use Rattle.laws.specs.Valid.{ValidCore}
-use Rattle.laws.proofs.Instructions.{All, ValidWrite, ValidEffect, keeps}
+use Rattle.laws.proofs.Instructions.{ValidEffect, keeps}
+use Rattle.laws.specs.Writes.{All, ValidWrite}
 use Rattle.laws.proofs.Cycle.{given-valid, records-length}
-use Rattle.instructions.specs.declared.Given.{Given}
+use Rattle.instructions.specs.declared.Inputs.{Inputs}
 use Rattle.effect.specs.declared.Effect.{Effect}
 use Rattle.effect.specs.Effects.{effectAt, Does}
 use Rattle.fetch.specs.declared.Fetched.{Fetched}
@@ -78,7 +79,7 @@ module _ (rom : List ℕ) (l : Lines) (s : State) (c : Core) (log : List ℕ) wh
 
 -- what the code is given is what the instruction is given
 module _ (rom : List ℕ) (l : Lines) (s : State) (c : Core) (f : Fetched) (b : Begins rom (c .flow .pc) f) where
-  abbrev pub gave : Given
+  abbrev pub gave : Inputs
   gave = record { core = c; after = f .after; code = f .code; second = f .second; lines = l }
 
   effect-due : effectAt (instruction (f .code)) gave (s .ram) (s .ports) ≡ dues rom l s c

@@ -6,7 +6,7 @@ use mathlib.Core.List.{List, _++_}
 use lib.Dec.{leb}
 use lib.ListN.{length, drop}
 use Rattle.runs.specs.Machine.{Out, stop, went}
-use Rattle.runs.specs.TwoRunners.{cycleLimit}
+use Rattle.runs.specs.Refusals.{cycleLimit}
 use Rattle.runs.specs.Laws.{Bytes}
 use Rattle.upd546.specs.declared.Core.{Core}
 use Rattle.upd546.specs.declared.Lines.{Lines}
@@ -14,7 +14,7 @@ use Rattle.upd546.specs.declared.State.{State}
 use Rattle.upd546.specs.TheMachine.{romLength}
 use Rattle.tables.specs.Tables.{instructionTable}
 use Rattle.laws.specs.Valid.{Valid, ValidLines}
-use Rattle.cycle.specs.declared.Stepped.{Stepped}
+use Rattle.cycle.specs.declared.CycleResult.{CycleResult}
 
 -- the state that a core, lent RAM and latches and the cycle number are
 abbrev pub stateOf : Core → List ℕ → List ℕ → ℕ → State
@@ -30,11 +30,11 @@ pub record CycleAnswer : Type 0 where
   pub bytes : ℕ
   pub begun : ℕ
 
-abbrev pub cycleOf : Stepped → List ℕ → List ℕ → List ℕ → CycleAnswer
+abbrev pub cycleOf : CycleResult → List ℕ → List ℕ → List ℕ → CycleAnswer
 cycleOf r ram ports log = record { stop = r .stop; core = r .core; ram = ram; ports = ports; log = log; bytes = r .bytes; begun = r .begun }
 
 -- a cycle that isn't begun
-abbrev pub heldBack : Core → ℕ → Stepped
+abbrev pub heldBack : Core → ℕ → CycleResult
 heldBack c k = record { core = c; bytes = 0; begun = 0; stop = k }
 
 abbrev pub holds : ℕ → State → List ℕ → CycleAnswer

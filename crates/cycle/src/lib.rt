@@ -1,6 +1,6 @@
 // One machine cycle in code, on a core by value and the RAM, the latches and the empty part of the log as they are lent.
 // Every stop is decided before anything lent is changed. It may not know of schedules, nor how many cycles a run has.
-use instructions::Given;
+use instructions::Inputs;
 use tables::InstructionTable;
 use upd546::Core;
 use upd546::LATCHES;
@@ -17,17 +17,17 @@ ghost use Rattle.cycle.specs.Answer.{stateOf, cycleAnswer, cycleOf, held
 
 // What a cycle comes to: the core, the bytes appended to the log, the instructions begun; or `stop`, the number why it isn't
 // begun (0: it is), with the core as it was.
-pub struct Stepped {
+pub struct CycleResult {
     pub core: Core,
     pub bytes: usize,
     pub begun: u64,
     pub stop: u8,
 }
 
-fn held(core: Core, stop: u8) -> Stepped
+fn held(core: Core, stop: u8) -> CycleResult
     ensures { λ r. ⌜ r ≡ heldBack core stop ⌝ }
 {
-    Stepped {
+    CycleResult {
         core,
         bytes: 0,
         begun: 0,
@@ -49,7 +49,7 @@ fn finished(core: Core, pc: u16, owed: u8) -> Core
     requires { ⌜ core .timer .register < 64 ⌝ }
     ensures { λ r. ⌜ r ≡ ticked (setOwed owed (setPc pc core)) ⌝ }
 {
-    let mut c = upd546::same(core);
+    let mut c = upd546::copy_core(core);
     c.flow.pc = pc;
     c.owed = owed;
     steps::ticked(c)
@@ -66,7 +66,7 @@ fn execute(
     log: &mut [u8],
     lines: Lines,
     n: u64,
-) -> Stepped
+) -> CycleResult
     requires { ⌜ Ready (now rom) (now table) lines (stateOf before (now ram) (now ports) n) × ValidCore c ⌝ }
     ensures { λ r. ⌜ cycleOf r (now (ram .exit)) (now (ports .exit)) (now (log .exit)) ≡ cycleAnswer (executeOf (now (rom .entry)) lines (stateOf before (now (ram .entry)) (now (ports .entry)) n) c) (stateOf before (now (ram .entry)) (now (ports .entry)) n) (now (log .entry)) ⌝ }
 {
@@ -74,7 +74,7 @@ fn execute(
     if f.stop != 0 {
         return held(before, f.stop);
     }
-    let g = Given {
+    let g = Inputs {
         core: c,
         after: f.after,
         code: f.code,
@@ -93,7 +93,7 @@ fn execute(
     store(ram, e.at, e.word);
     let core = e.core;
     let next = finished(core, p.pc, f.cycles - 1 + p.over);
-    Stepped {
+    CycleResult {
         core: next,
         bytes,
         begun: 1,
@@ -111,13 +111,13 @@ pub fn one_cycle(
     log: &mut [u8],
     lines: Lines,
     n: u64,
-) -> Stepped
+) -> CycleResult
     requires { ⌜ Ready (now rom) (now table) lines (stateOf c (now ram) (now ports) n) ⌝ }
     ensures { λ r. ⌜ cycleOf r (now (ram .exit)) (now (ports .exit)) (now (log .exit)) ≡ cycleAnswer (onAccepts (accepts c) (now (rom .entry)) lines (stateOf c (now (ram .entry)) (now (ports .entry)) n)) (stateOf c (now (ram .entry)) (now (ports .entry)) n) (now (log .entry)) ⌝ }
 {
     if steps::accepts(c) {
         let core = steps::ticked(steps::taken(lines, steps::accepted(c)));
-        return Stepped {
+        return CycleResult {
             core,
             bytes: 0,
             begun: 0,
@@ -127,7 +127,7 @@ pub fn one_cycle(
     let t = steps::taken(lines, c);
     if c.owed != 0 {
         let core = steps::ticked(steps::paid(t));
-        return Stepped {
+        return CycleResult {
             core,
             bytes: 0,
             begun: 0,

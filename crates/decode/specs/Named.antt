@@ -23,7 +23,7 @@ use Rattle.decode.specs.declared.Port.{Port}
 use Rattle.decode.specs.declared.Port.the-variants as ports
 
 abbrev pub namedSum : Sum → Instruction
-namedSum sums.S = chip.s
+namedSum sums.S = chip.sM
 namedSum sums.Daa = chip.daa
 namedSum sums.Ad = chip.ad
 namedSum sums.Ads = chip.ads

@@ -12,7 +12,7 @@ use Rattle.runs.specs.Lists.{Kind, run, runAnswer, refusal, refusalOf, ChangesN
 use Rattle.runs.proofs.Calls.{by-number, changes-nothing}
 use Rattle.upd546.specs.declared.State.{State}
 use Rattle.upd546.specs.TwoRunners.{upd546}
-use Rattle.driver.specs.declared.Machine.{Machine}
+use Rattle.driver.specs.declared.KeptMachine.{KeptMachine}
 use Rattle.driver.specs.declared.Report.{Report}
 use Rattle.driver.specs.Lending.{broughtTo, AsItWas}
 
@@ -30,7 +30,7 @@ numbered why.ImageMark = (31, refl)
 numbered why.ImageVersion = (32, refl)
 numbered why.Field = (33, refl)
 
-module _ (kind : Kind) (rom sched : List ℕ) (m : Machine) (log : List ℕ) (n : ℕ) where
+module _ (kind : Kind) (rom sched : List ℕ) (m : KeptMachine) (log : List ℕ) (n : ℕ) where
   -- what a refused run answers, with this number
   abbrev nothing : ℕ → RunAnswer State
   nothing k =
@@ -42,7 +42,7 @@ module _ (kind : Kind) (rom sched : List ℕ) (m : Machine) (log : List ℕ) (n 
       subst (λ (j : ℕ). ChangesNothing upd546 j (run kind rom sched (m .state) log n)) e
       (changes-nothing upd546 (run kind rom sched (m .state) log n))
 
-  module _ (r : Report) (m′ : Machine) (log′ : List ℕ) (e : broughtTo r m′ log′ ≡ runAnswer upd546 kind rom sched (m .state) log n) where
+  module _ (r : Report) (m′ : KeptMachine) (log′ : List ℕ) (e : broughtTo r m′ log′ ≡ runAnswer upd546 kind rom sched (m .state) log n) where
     as-it-was : (k : ℕ) → broughtTo r m′ log′ ≡ nothing k → AsItWas r m m′ log log′
     as-it-was k a = record {
       machine-kept = λ i. record { state = a i .state };

@@ -7,7 +7,7 @@ use Rattle.runs.specs.TwoRunners.{RunAnswer}
 use Rattle.runs.specs.Numbers.{endOf}
 use Rattle.runs.specs.Lists.{Kind, plainOne, skippingOne}
 use Rattle.upd546.specs.declared.State.{State}
-use Rattle.driver.specs.declared.Machine.{Machine}
+use Rattle.driver.specs.declared.KeptMachine.{KeptMachine}
 use Rattle.driver.specs.declared.Report.{Report}
 use Rattle.driver.specs.declared.Runner.{Runner}
 use Rattle.driver.specs.declared.Runner.the-variants.{Plain, Skipping}
@@ -18,7 +18,7 @@ kindOf Plain = plainOne
 kindOf Skipping = skippingOne
 
 -- A run's report, with the machine and the lent log as they stand when the run returns, in the terms of the definitions.
-abbrev pub broughtTo : Report → Machine → List ℕ → RunAnswer State
+abbrev pub broughtTo : Report → KeptMachine → List ℕ → RunAnswer State
 broughtTo r m log = record {
   end = endOf (r .end);
   state = m .state;
@@ -31,7 +31,7 @@ broughtTo r m log = record {
 }
 
 -- "These change nothing, with all counts 0": the machine and the log after a refused run, and its report.
-pub record AsItWas (r : Report) (m m′ : Machine) (log log′ : List ℕ) : Type 0 where
+pub record AsItWas (r : Report) (m m′ : KeptMachine) (log log′ : List ℕ) : Type 0 where
   pub machine-kept : m′ ≡ m
   pub log-kept : log′ ≡ log
   pub no-cycles : r .cycles .0 ≡ 0

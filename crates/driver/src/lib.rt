@@ -15,7 +15,7 @@ ghost use Rattle.upd546.specs.TwoRunners.{upd546, answerOf};
 ghost use Rattle.driver.specs.Lending.{kindOf, broughtTo};
 
 // The machine that the board keeps.
-pub struct Machine {
+pub struct KeptMachine {
     pub state: State,
 }
 
@@ -37,7 +37,7 @@ pub struct Report {
 
 // The machine after a run, and the run's report.
 pub struct DriveAnswer {
-    pub machine: Machine,
+    pub machine: KeptMachine,
     pub report: Report,
 }
 
@@ -50,7 +50,7 @@ fn told(a: RunAnswer) -> DriveAnswer
     let cycles = a.cycles;
     let clocks = a.clocks;
     DriveAnswer {
-        machine: Machine { state },
+        machine: KeptMachine { state },
         report: Report {
             end,
             cycles,
@@ -64,7 +64,7 @@ fn told(a: RunAnswer) -> DriveAnswer
 
 // A run of n cycles by this runner, with the machine by value and back.
 fn forward(
-    machine: Machine,
+    machine: KeptMachine,
     kind: Runner,
     rom: &[u8],
     sched: &[u8],
@@ -82,7 +82,7 @@ fn forward(
 
 // A run of n cycles by this runner brings the lent machine forward; a refused one leaves it as it was.
 pub fn drive(
-    machine: &mut Machine,
+    machine: &mut KeptMachine,
     kind: Runner,
     rom: &[u8],
     sched: &[u8],
@@ -99,7 +99,7 @@ pub fn drive(
 
 // A machine that is kept in a local and lent for the run. Its parameters are plain, so whoever calls it needs no walk.
 pub fn driven(
-    start: Machine,
+    start: KeptMachine,
     kind: Runner,
     rom: &[u8],
     sched: &[u8],

@@ -18,8 +18,8 @@ use Rattle.decode.specs.declared.Pointer.the-variants as pointers
 use Rattle.decode.specs.declared.Flag.{Flag}
 use Rattle.decode.specs.declared.Flag.the-variants as flags
 use Rattle.decode.specs.Named.{namedSum, namedBit, namedPointer, namedFlag}
-use Rattle.instructions.specs.declared.Given.{Given}
-use Rattle.instructions.specs.Groups.{chipGiven}
+use Rattle.instructions.specs.declared.Inputs.{Inputs}
+use Rattle.instructions.specs.Groups.{givenOf}
 use Rattle.effect.specs.declared.Effect.{Effect}
 use Rattle.effect.specs.Effects.{effectOf, DoesAs, Does}
 
@@ -75,11 +75,11 @@ pub flags-place : placeOf flagWord ≡ 89
 unfolding placeOf
 flags-place = refl
 
-module _ (g : Given) (ram ports : List ℕ) (e : Effect) (i : Instruction) where
+module _ (g : Inputs) (ram ports : List ℕ) (e : Effect) (i : Instruction) where
   -- an instruction that works on its word
-  word-does : e .at ≡ placeOf (i .address (g .core)) → effectOf e ≡ i .effect (chipGiven g (getD ram (e .at) 0) ports) → DoesAs i g ram ports e
+  word-does : e .at ≡ placeOf (i .address (g .core)) → effectOf e ≡ i .effect (givenOf g (getD ram (e .at) 0) ports) → DoesAs i g ram ports e
   word-does p q =
-      let f : effectOf e ≡ i .effect (chipGiven g (wordAt ram (i .address (g .core))) ports) = q ∙ ap (λ (n : ℕ). i .effect (chipGiven g (getD ram n 0) ports)) p in
+      let f : effectOf e ≡ i .effect (givenOf g (wordAt ram (i .address (g .core))) ports) = q ∙ ap (λ (n : ℕ). i .effect (givenOf g (getD ram n 0) ports)) p in
       record {
         core = ap (λ (x : chip.Effect). x .core) f;
         skip = ap (λ (x : chip.Effect). x .skip) f;
@@ -88,7 +88,7 @@ module _ (g : Given) (ram ports : List ℕ) (e : Effect) (i : Instruction) where
       }
 
   -- an instruction that leaves its word alone
-  plain-does : length ram ≡ ramLength → e .at ≡ 96 → ((word : ℕ) → stores word (effectOf e) ≡ i .effect (chipGiven g word ports)) → DoesAs i g ram ports e
+  plain-does : length ram ≡ ramLength → e .at ≡ 96 → ((word : ℕ) → stores word (effectOf e) ≡ i .effect (givenOf g word ports)) → DoesAs i g ram ports e
   plain-does l p q =
       let a = i .address (g .core) in
       let f = q (wordAt ram a) in
@@ -100,9 +100,9 @@ module _ (g : Given) (ram ports : List ℕ) (e : Effect) (i : Instruction) where
       }
 
 -- the same of the instruction that the code stands for
-module _ (g : Given) (ram ports : List ℕ) (e : Effect) (i : Instruction) (named : i ≡ instruction (g .code)) where
-  pub does-word : (a : ℕ) → i .address (g .core) ≡ a → e .at ≡ placeOf a → effectOf e ≡ i .effect (chipGiven g (getD ram (e .at) 0) ports) → Does g ram ports e
+module _ (g : Inputs) (ram ports : List ℕ) (e : Effect) (i : Instruction) (named : i ≡ instruction (g .code)) where
+  pub does-word : (a : ℕ) → i .address (g .core) ≡ a → e .at ≡ placeOf a → effectOf e ≡ i .effect (givenOf g (getD ram (e .at) 0) ports) → Does g ram ports e
   does-word a r p q = subst (λ (x : Instruction). DoesAs x g ram ports e) named (word-does g ram ports e i (p ∙ ap placeOf (sym r)) q)
 
-  pub does-plain : length ram ≡ ramLength → e .at ≡ 96 → ((word : ℕ) → stores word (effectOf e) ≡ i .effect (chipGiven g word ports)) → Does g ram ports e
+  pub does-plain : length ram ≡ ramLength → e .at ≡ 96 → ((word : ℕ) → stores word (effectOf e) ≡ i .effect (givenOf g word ports)) → Does g ram ports e
   does-plain l p q = subst (λ (x : Instruction). DoesAs x g ram ports e) named (plain-does g ram ports e i l p q)

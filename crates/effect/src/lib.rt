@@ -4,7 +4,7 @@ use decode::Decoded;
 use instructions::Controlled;
 use instructions::FLAG_PLACE;
 use instructions::Flagged;
-use instructions::Given;
+use instructions::Inputs;
 use instructions::Jumped;
 use instructions::Pointed;
 use instructions::Ported;
@@ -22,7 +22,7 @@ ghost use lib.ListN.{length, getD};
 ghost use Rattle.upd546.specs.TheMachine.{ramLength};
 ghost use Rattle.upd546.specs.Instructions.{stores};
 ghost use Rattle.laws.specs.Valid.{Scalars, ValidPorts, ValidRam};
-ghost use Rattle.instructions.specs.Groups.{chipGiven, summed, pointed, worked, flagged, jumped, controlled, ported};
+ghost use Rattle.instructions.specs.Groups.{givenOf, sumEffect, pointerEffect, workingEffect, flagEffect, jumpEffect, controlEffect, portEffect};
 ghost use Rattle.effect.specs.Effects.{effectOf, nextOf, Does};
 
 // The core, the RAM word that is stored back and its place (96: none), whether the next instruction is skipped, and the port
@@ -47,19 +47,19 @@ fn load(ram: &[u8; RAM_WORDS], at: usize) -> u8
 }
 
 // The core that every instruction leaves but for its own effects.
-fn next(g: Given) -> Core
+fn next(g: Inputs) -> Core
     ensures { λ r. ⌜ r ≡ nextOf g ⌝ }
 {
     let core = g.core;
-    let mut c = upd546::same(core);
+    let mut c = upd546::copy_core(core);
     let pc = g.after;
     c.flow.pc = pc;
     c.mark = MARK_OTHER;
     c
 }
 
-fn after_sum(g: Given, at: usize, r: Summed) -> Effect
-    ensures { λ e. ⌜ (e .at ≡ at) × ((word : ℕ) (ports : List ℕ) → effectOf e ≡ summed (chipGiven g word ports) r) ⌝ }
+fn after_sum(g: Inputs, at: usize, r: Summed) -> Effect
+    ensures { λ e. ⌜ (e .at ≡ at) × ((word : ℕ) (ports : List ℕ) → effectOf e ≡ sumEffect (givenOf g word ports) r) ⌝ }
 {
     let mut c = next(g);
     c.registers.acc = r.acc;
@@ -74,8 +74,8 @@ fn after_sum(g: Given, at: usize, r: Summed) -> Effect
     }
 }
 
-fn after_pointer(g: Given, at: usize, r: Pointed) -> Effect
-    ensures { λ e. ⌜ (e .at ≡ at) × ((word : ℕ) (ports : List ℕ) → effectOf e ≡ pointed (chipGiven g word ports) r) ⌝ }
+fn after_pointer(g: Inputs, at: usize, r: Pointed) -> Effect
+    ensures { λ e. ⌜ (e .at ≡ at) × ((word : ℕ) (ports : List ℕ) → effectOf e ≡ pointerEffect (givenOf g word ports) r) ⌝ }
 {
     let mut c = next(g);
     c.registers.acc = r.acc;
@@ -92,8 +92,8 @@ fn after_pointer(g: Given, at: usize, r: Pointed) -> Effect
     }
 }
 
-fn after_working(g: Given, at: usize, r: Worked) -> Effect
-    ensures { λ e. ⌜ (e .at ≡ at) × ((word : ℕ) (ports : List ℕ) → effectOf e ≡ worked (chipGiven g word ports) r) ⌝ }
+fn after_working(g: Inputs, at: usize, r: Worked) -> Effect
+    ensures { λ e. ⌜ (e .at ≡ at) × ((word : ℕ) (ports : List ℕ) → effectOf e ≡ workingEffect (givenOf g word ports) r) ⌝ }
 {
     let mut c = next(g);
     c.registers.acc = r.acc;
@@ -109,8 +109,8 @@ fn after_working(g: Given, at: usize, r: Worked) -> Effect
     }
 }
 
-fn after_flag(g: Given, at: usize, r: Flagged) -> Effect
-    ensures { λ e. ⌜ (e .at ≡ at) × ((word : ℕ) (ports : List ℕ) → effectOf e ≡ flagged (chipGiven g word ports) r) ⌝ }
+fn after_flag(g: Inputs, at: usize, r: Flagged) -> Effect
+    ensures { λ e. ⌜ (e .at ≡ at) × ((word : ℕ) (ports : List ℕ) → effectOf e ≡ flagEffect (givenOf g word ports) r) ⌝ }
 {
     let c = next(g);
     Effect {
@@ -123,8 +123,8 @@ fn after_flag(g: Given, at: usize, r: Flagged) -> Effect
     }
 }
 
-fn after_jump(g: Given, r: Jumped) -> Effect
-    ensures { λ e. ⌜ (e .at ≡ 96) × ((word : ℕ) (ports : List ℕ) → stores word (effectOf e) ≡ jumped (chipGiven g word ports) r) ⌝ }
+fn after_jump(g: Inputs, r: Jumped) -> Effect
+    ensures { λ e. ⌜ (e .at ≡ 96) × ((word : ℕ) (ports : List ℕ) → stores word (effectOf e) ≡ jumpEffect (givenOf g word ports) r) ⌝ }
 {
     let mut c = next(g);
     let flow = r.flow;
@@ -139,8 +139,8 @@ fn after_jump(g: Given, r: Jumped) -> Effect
     }
 }
 
-fn after_control(g: Given, r: Controlled) -> Effect
-    ensures { λ e. ⌜ (e .at ≡ 96) × ((word : ℕ) (ports : List ℕ) → stores word (effectOf e) ≡ controlled (chipGiven g word ports) r) ⌝ }
+fn after_control(g: Inputs, r: Controlled) -> Effect
+    ensures { λ e. ⌜ (e .at ≡ 96) × ((word : ℕ) (ports : List ℕ) → stores word (effectOf e) ≡ controlEffect (givenOf g word ports) r) ⌝ }
 {
     let mut c = next(g);
     c.registers.carry = r.carry;
@@ -160,8 +160,8 @@ fn after_control(g: Given, r: Controlled) -> Effect
     }
 }
 
-fn after_port(g: Given, r: Ported) -> Effect
-    ensures { λ e. ⌜ (e .at ≡ 96) × ((word : ℕ) (ports : List ℕ) → stores word (effectOf e) ≡ ported (chipGiven g word ports) r) ⌝ }
+fn after_port(g: Inputs, r: Ported) -> Effect
+    ensures { λ e. ⌜ (e .at ≡ 96) × ((word : ℕ) (ports : List ℕ) → stores word (effectOf e) ≡ portEffect (givenOf g word ports) r) ⌝ }
 {
     let mut c = next(g);
     c.registers.acc = r.acc;
@@ -176,7 +176,7 @@ fn after_port(g: Given, r: Ported) -> Effect
 }
 
 // What the instruction of g's code does.
-pub fn effect_of(g: Given, ram: &[u8; RAM_WORDS], ports: &[u8; LATCHES]) -> Effect
+pub fn effect_of(g: Inputs, ram: &[u8; RAM_WORDS], ports: &[u8; LATCHES]) -> Effect
     requires { ⌜ Scalars (g .core) × ValidRam (now ram) × ValidPorts (now ports) ⌝ }
     ensures { λ e. ⌜ Does g (now (ram .entry)) (now (ports .entry)) e ⌝ }
 {

@@ -5,7 +5,7 @@ use mathlib.Core.List.{List}
 use Prim.Native.Nat.{ℕ, suc, _<_, _≤_}
 use native.Mathlib.Omega.{arith}
 use borrow.Author.Tests.{lt-ltb, le-leb, lt-leb}
-use Rattle.runs.specs.TwoRunners.{firstOf}
+use Rattle.runs.specs.Refusals.{firstOf}
 use Rattle.upd546.specs.TheMachine.{lastAddress, byteAt, follows, past}
 use Rattle.upd546.specs.Instructions.{instruction}
 use Rattle.upd546.specs.OneMachineCycle.{needs}

@@ -4,7 +4,7 @@ use mathlib.Core.Path.{_≡_}
 use mathlib.Core.Bool.{Bool, cond}
 use mathlib.Core.List.{List, [], _∷_}
 use lib.Dec.{eqb, ltb}
-use Rattle.runs.specs.TwoRunners.{firstOf, unless}
+use Rattle.runs.specs.Refusals.{firstOf, unless}
 use Rattle.upd546.specs.TheMachine.{byteAt, follows, past}
 use Rattle.upd546.specs.Instructions.{Instruction, instruction}
 use Rattle.upd546.specs.OneMachineCycle.{needs}

@@ -16,9 +16,9 @@ use upd546::Timer;
 ghost use mathlib.Core.Path.{_≡_};
 ghost use Prim.Native.Nat.{_+_};
 ghost use lib.Dec.{leb};
-ghost use Rattle.runs.specs.TwoRunners.{cycleLimit};
+ghost use Rattle.runs.specs.Refusals.{cycleLimit};
 ghost use Rattle.runs.specs.Numbers.{outcomeNumber};
-ghost use Rattle.upd546.specs.Tests.{allBelow};
+ghost use Rattle.upd546.specs.Checks.{allBelow};
 ghost use Rattle.upd546.specs.StateImage.{registersSound, flowSound, interruptSound, timerSound, coreSound, portsSound, ramSound, stateSound, stateNumber};
 
 // A PC has 11 bits.
@@ -27,40 +27,40 @@ const ADDRESSES: u16 = 0x800;
 // 2^48 - 1.
 const CYCLE_LIMIT: u64 = 0xFFFF_FFFF_FFFF;
 
-fn registers(r: Registers) -> bool
+fn registers_sound(r: Registers) -> bool
     ensures { λ b. ⌜ b ≡ registersSound r ⌝ }
 {
     (r.acc < 16) & (r.carry < 2) & (r.saved < 2) & (r.dph < 8) & (r.dpl < 16)
 }
 
-fn flow(f: Flow) -> bool
+fn flow_sound(f: Flow) -> bool
     ensures { λ b. ⌜ b ≡ flowSound f ⌝ }
 {
     let stack = f.stack;
     (f.pc < ADDRESSES) & (stack[0] < ADDRESSES) & (stack[1] < ADDRESSES) & (stack[2] < ADDRESSES)
 }
 
-fn interrupt(i: Interrupt) -> bool
+fn interrupt_sound(i: Interrupt) -> bool
     ensures { λ b. ⌜ b ≡ interruptSound i ⌝ }
 {
     (i.int < 2) & (i.inte < 2) & (i.level < 2)
 }
 
 // A stopped timer has counter 0.
-fn timer(t: Timer) -> bool
+fn timer_sound(t: Timer) -> bool
     ensures { λ b. ⌜ b ≡ timerSound t ⌝ }
 {
     (t.tm < 2) & (t.register < 64) & (t.counter < 64) & ((0 < t.register) | (t.counter == 0))
 }
 
 // Marks are 0 to 3, owed cycles too.
-fn core(c: Core) -> bool
+fn core_sound(c: Core) -> bool
     ensures { λ b. ⌜ b ≡ coreSound c ⌝ }
 {
-    registers(c.registers)
-        & flow(c.flow)
-        & interrupt(c.interrupt)
-        & timer(c.timer)
+    registers_sound(c.registers)
+        & flow_sound(c.flow)
+        & interrupt_sound(c.interrupt)
+        & timer_sound(c.timer)
         & (c.mark <= MARK_STM)
         & (c.owed <= 3)
 }
@@ -79,31 +79,31 @@ fn all_below(entries: &[u8], bound: u8) -> bool
 }
 
 // Port I, the last, has 3 bits.
-fn ports(latches: [u8; LATCHES]) -> bool
+fn ports_sound(latches: [u8; LATCHES]) -> bool
     ensures { λ b. ⌜ b ≡ portsSound latches ⌝ }
 {
     all_below(&latches, 16) & (latches[6] < 8)
 }
 
-fn ram(words: [u8; RAM_WORDS]) -> bool
+fn ram_sound(words: [u8; RAM_WORDS]) -> bool
     ensures { λ b. ⌜ b ≡ ramSound words ⌝ }
 {
     all_below(&words, 16)
 }
 
-fn state(s: State) -> bool
+fn state_sound(s: State) -> bool
     ensures { λ b. ⌜ b ≡ stateSound s ⌝ }
 {
     let latches = s.ports;
     let words = s.ram;
-    core(s.core) & ports(latches) & ram(words) & (s.cycle.0 <= CYCLE_LIMIT)
+    core_sound(s.core) & ports_sound(latches) & ram_sound(words) & (s.cycle.0 <= CYCLE_LIMIT)
 }
 
 // 34 where a field is above its width or against its rule.
 pub fn check(s: State) -> Outcome
     ensures { λ r. ⌜ outcomeNumber r ≡ stateNumber s ⌝ }
 {
-    if state(s) {
+    if state_sound(s) {
         Outcome::Done
     } else {
         Outcome::Refused(Refusal::Field)

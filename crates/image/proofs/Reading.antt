@@ -9,10 +9,11 @@ use lib.Dec.{eqb, ltb}
 use lib.ListN.{length, getD, drop, drop-of-length-le}
 use lib.Seq.{drop-cons}
 use borrow.Author.Tests.{eq-eqb, ne-eqb, eqb-true, lt-ltb, le-ltb}
-use Rattle.runs.specs.TwoRunners.{firstOf, unless, restored}
+use Rattle.runs.specs.TwoRunners.{restoreAnswer}
+use Rattle.runs.specs.Refusals.{firstOf, unless}
 use Rattle.runs.proofs.Refusals.{first-at, passes}
 use Rattle.upd546.specs.TheMachine.{fresh}
-use Rattle.upd546.specs.Tests.{sameNumbers}
+use Rattle.upd546.specs.Checks.{sameNumbers}
 use Rattle.upd546.specs.Bytes.{part}
 use Rattle.upd546.specs.StateImage.{imageLength, imageMark, imageVersion, byte, ofImage, stateSound, stateNumber, fieldsNumber, imageNumber}
 use Rattle.upd546.specs.TwoRunners.{upd546}
@@ -83,17 +84,17 @@ module _ (image : List ℕ) where
       go true true true false e = refl
       go true true true true e = refl
 
-  pub restore-head : (k : ℕ) → k ≡ headNumber image → (k ≡ 0 → ⊥) → record { number = k; state = fresh } ≡ restored upd546 image
-  unfolding restored firstOf
+  pub restore-head : (k : ℕ) → k ≡ headNumber image → (k ≡ 0 → ⊥) → record { number = k; state = fresh } ≡ restoreAnswer upd546 image
+  unfolding restoreAnswer firstOf
   restore-head zero e h = absurd (h refl)
   restore-head (suc k) e h = rw (all-number, ← e)
 
   module _ (head : headNumber image ≡ 0) where
-    pub restore-fields : (k : ℕ) → k ≡ stateNumber (ofImage image) → (k ≡ 0 → ⊥) → record { number = k; state = fresh } ≡ restored upd546 image
-    unfolding restored firstOf
+    pub restore-fields : (k : ℕ) → k ≡ stateNumber (ofImage image) → (k ≡ 0 → ⊥) → record { number = k; state = fresh } ≡ restoreAnswer upd546 image
+    unfolding restoreAnswer firstOf
     restore-fields zero e h = absurd (h refl)
     restore-fields (suc k) e h = rw (all-number, head, ← e)
 
-    pub restore-done : stateNumber (ofImage image) ≡ 0 → record { number = 0; state = ofImage image } ≡ restored upd546 image
-    unfolding restored firstOf
+    pub restore-done : stateNumber (ofImage image) ≡ 0 → record { number = 0; state = ofImage image } ≡ restoreAnswer upd546 image
+    unfolding restoreAnswer firstOf
     restore-done e = rw (all-number, head, e)

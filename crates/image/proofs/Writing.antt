@@ -4,7 +4,8 @@ use mathlib.Core.List.{List, [], _++_}
 use Prim.Native.Nat.{ℕ, zero, suc, _+_, _*_, _≤_}
 use native.Mathlib.Omega.{arith}
 use lib.ListN.{length, take, drop, length-append}
-use Rattle.runs.specs.TwoRunners.{firstOf, saveNumber, saved}
+use Rattle.runs.specs.TwoRunners.{saveNumber, saveAnswer}
+use Rattle.runs.specs.Refusals.{firstOf}
 use Rattle.upd546.specs.declared.Core.{Core}
 use Rattle.upd546.specs.declared.State.{State}
 use Rattle.upd546.specs.Bytes.{bytesOf}
@@ -54,16 +55,16 @@ image-written s v b₀ {b₁} {b₂} {b₃} e₁ p₂ p₃ p₄ =
 
 -- WHAT A SAVE ANSWERS
 module _ (s : State) (buffer : List ℕ) where
-  pub save-refused : (k : ℕ) → k ≡ stateNumber s → (k ≡ 0 → ⊥) → record { number = k; buffer = buffer } ≡ saved upd546 s buffer
-  unfolding saved saveNumber firstOf
+  pub save-refused : (k : ℕ) → k ≡ stateNumber s → (k ≡ 0 → ⊥) → record { number = k; buffer = buffer } ≡ saveAnswer upd546 s buffer
+  unfolding saveAnswer saveNumber firstOf
   save-refused zero e h = absurd (h refl)
   save-refused (suc k) e h = rw (← e)
 
   module _ (v : stateNumber s ≡ 0) where
-    pub save-short : length buffer ≤ 80 → record { number = 1; buffer = buffer } ≡ saved upd546 s buffer
-    unfolding saved saveNumber firstOf
+    pub save-short : length buffer ≤ 80 → record { number = 1; buffer = buffer } ≡ saveAnswer upd546 s buffer
+    unfolding saveAnswer saveNumber firstOf
     save-short h = rw (v, lt-leb imageLength (length buffer) (omega arith))
 
-    pub save-done : imageLength ≤ length buffer → {b : List ℕ} → b ≡ imageOf s ++ drop imageLength buffer → record { number = 0; buffer = b } ≡ saved upd546 s buffer
-    unfolding saved saveNumber firstOf
+    pub save-done : imageLength ≤ length buffer → {b : List ℕ} → b ≡ imageOf s ++ drop imageLength buffer → record { number = 0; buffer = b } ≡ saveAnswer upd546 s buffer
+    unfolding saveAnswer saveNumber firstOf
     save-done h e = rw (v, le-leb imageLength (length buffer) h, e)

@@ -3,10 +3,10 @@ use Prim.Native.Nat.{ℕ, _+_}
 use mathlib.Core.List.{List, [], _∷_, _++_}
 use lib.Dec.{eqb, ltb}
 use lib.ListN.{length}
-use Rattle.runs.specs.TwoRunners.{firstOf, unless}
+use Rattle.runs.specs.Refusals.{firstOf, unless}
 use Rattle.upd546.specs.declared.Core.{Core}
 use Rattle.upd546.specs.Bytes.{bytesOf, part}
-use Rattle.upd546.specs.Tests.{sameNumbers}
+use Rattle.upd546.specs.Checks.{sameNumbers}
 use Rattle.upd546.specs.StateImage.{imageLength, imageMark, imageVersion, wordsBytes, coreBytes, byte, ofImage}
 
 -- bytes 0 to 19

@@ -19,10 +19,10 @@ ghost use mathlib.Core.List.{_++_};
 ghost use Prim.Native.Nat.{_+_, _*_, _/_, _<_, _≤_};
 ghost use lib.ListN.{length, take, drop};
 ghost use Rattle.runs.specs.Numbers.{outcomeNumber};
-ghost use Rattle.runs.specs.TwoRunners.{saved, restored};
+ghost use Rattle.runs.specs.TwoRunners.{saveAnswer, restoreAnswer};
 ghost use Rattle.upd546.specs.TheMachine.{latches, ramLength, fresh};
 ghost use Rattle.upd546.specs.Bytes.{bytesOf, numberAt, part};
-ghost use Rattle.upd546.specs.Tests.{sameNumbers};
+ghost use Rattle.upd546.specs.Checks.{sameNumbers};
 ghost use Rattle.upd546.specs.StateImage.{imageLength, wordsBytes, coreBytes, packed, imageOf, unpacked, ofImage};
 ghost use Rattle.upd546.specs.TwoRunners.{upd546, saveOf, restoreOf};
 ghost use Rattle.laws.specs.Valid.{Scalars, ValidCore, ValidRam, Valid};
@@ -134,7 +134,7 @@ fn write(s: State, buffer: &mut [u8])
 
 // SAVE: 34, then 1, and then 81 bytes only.
 pub fn save(s: State, buffer: &mut [u8]) -> Outcome
-    ensures { λ r. ⌜ saveOf r (now (buffer .exit)) ≡ saved upd546 s (now (buffer .entry)) ⌝ }
+    ensures { λ r. ⌜ saveOf r (now (buffer .exit)) ≡ saveAnswer upd546 s (now (buffer .entry)) ⌝ }
 {
     let by_fields = fields::check(s);
     if runs::outcome_number(by_fields) != 0 {
@@ -278,7 +278,7 @@ fn refused(why: Outcome) -> RestoreAnswer
 
 // RESTORE: 31 to 34 in order; where it is refused, the fresh state.
 pub fn restore(bytes: &[u8]) -> RestoreAnswer
-    ensures { λ r. ⌜ restoreOf r ≡ restored upd546 (now (bytes .entry)) ⌝ }
+    ensures { λ r. ⌜ restoreOf r ≡ restoreAnswer upd546 (now (bytes .entry)) ⌝ }
 {
     let by_head = head_check(bytes);
     if runs::outcome_number(by_head) != 0 {

@@ -5,7 +5,7 @@ use Rattle.upd546.specs.Parts.{withFlow, withTimer, setMark, setAcc, setCarry, 
 use Rattle.upd546.specs.Instructions as chip
 use Rattle.portlog.specs.Appending.{writesOf}
 use Rattle.upd546.specs.Instructions.{Effect, leaves, skips, stores, writes, next}
-use Rattle.instructions.specs.declared.Given.{Given}
+use Rattle.instructions.specs.declared.Inputs.{Inputs}
 use Rattle.instructions.specs.declared.Summed.{Summed}
 use Rattle.instructions.specs.declared.Pointed.{Pointed}
 use Rattle.instructions.specs.declared.Worked.{Worked}
@@ -15,8 +15,8 @@ use Rattle.instructions.specs.declared.Controlled.{Controlled}
 use Rattle.instructions.specs.declared.Ported.{Ported}
 
 -- what the instruction is given, with a RAM word and the latches
-abbrev pub chipGiven : Given → ℕ → List ℕ → chip.Given
-chipGiven g word ports = record {
+abbrev pub givenOf : Inputs → ℕ → List ℕ → chip.Given
+givenOf g word ports = record {
   core = g .core;
   after = g .after;
   code = g .code;
@@ -27,25 +27,25 @@ chipGiven g word ports = record {
 }
 
 -- what each group leaves of it
-abbrev pub summed : chip.Given → Summed → Effect
-summed g r = skips (r .skip) (stores (r .word) (leaves g (setCarry (r .carry) (setAcc (r .acc) (next g)))))
+abbrev pub sumEffect : chip.Given → Summed → Effect
+sumEffect g r = skips (r .skip) (stores (r .word) (leaves g (setCarry (r .carry) (setAcc (r .acc) (next g)))))
 
-abbrev pub pointed : chip.Given → Pointed → Effect
-pointed g r = skips (r .skip) (stores (r .word) (leaves g (setMark (r .mark) (setDpl (r .dpl) (setDph (r .dph) (setAcc (r .acc) (next g)))))))
+abbrev pub pointerEffect : chip.Given → Pointed → Effect
+pointerEffect g r = skips (r .skip) (stores (r .word) (leaves g (setMark (r .mark) (setDpl (r .dpl) (setDph (r .dph) (setAcc (r .acc) (next g)))))))
 
-abbrev pub worked : chip.Given → Worked → Effect
-worked g r = stores (r .word) (leaves g (setDpl (r .dpl) (setDph (r .dph) (setAcc (r .acc) (next g)))))
+abbrev pub workingEffect : chip.Given → Worked → Effect
+workingEffect g r = stores (r .word) (leaves g (setDpl (r .dpl) (setDph (r .dph) (setAcc (r .acc) (next g)))))
 
-abbrev pub flagged : chip.Given → Flagged → Effect
-flagged g r = skips (r .skip) (stores (r .word) (leaves g (next g)))
+abbrev pub flagEffect : chip.Given → Flagged → Effect
+flagEffect g r = skips (r .skip) (stores (r .word) (leaves g (next g)))
 
-abbrev pub jumped : chip.Given → Jumped → Effect
-jumped g r = skips (r .skip) (leaves g (withFlow (next g) (r .flow)))
+abbrev pub jumpEffect : chip.Given → Jumped → Effect
+jumpEffect g r = skips (r .skip) (leaves g (withFlow (next g) (r .flow)))
 
-abbrev pub controlled : chip.Given → Controlled → Effect
-controlled g r =
+abbrev pub controlEffect : chip.Given → Controlled → Effect
+controlEffect g r =
     skips (r .skip)
     (leaves g (setMark (r .mark) (withTimer (setInte (r .inte) (setInt (r .int) (setSaved (r .saved) (setCarry (r .carry) (next g))))) (r .timer))))
 
-abbrev pub ported : chip.Given → Ported → Effect
-ported g r = skips (r .skip) (writes (writesOf (r .port) (r .value)) (leaves g (setAcc (r .acc) (next g))))
+abbrev pub portEffect : chip.Given → Ported → Effect
+portEffect g r = skips (r .skip) (writes (writesOf (r .port) (r .value)) (leaves g (setAcc (r .acc) (next g))))

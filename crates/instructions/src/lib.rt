@@ -35,10 +35,10 @@ ghost use Rattle.upd546.specs.Ports.{readPort, outputs, bitOutputs};
 ghost use Rattle.decode.specs.Named.{namedSum, namedBit, namedPointer, namedWorking, namedFlag, namedJump, namedControl, namedPort};
 ghost use Rattle.portlog.specs.Appending.{writesOf};
 ghost use Rattle.laws.specs.Valid.{Scalars, ValidPorts};
-ghost use Rattle.instructions.specs.Groups.{chipGiven, summed, pointed, worked, flagged, jumped, controlled, ported};
+ghost use Rattle.instructions.specs.Groups.{givenOf, sumEffect, pointerEffect, workingEffect, flagEffect, jumpEffect, controlEffect, portEffect};
 
 // What an instruction is given besides the RAM and the latches.
-pub struct Given {
+pub struct Inputs {
     pub core: Core,
     pub after: u16,
     pub code: u8,
@@ -175,9 +175,9 @@ pub fn working_place(op: Working) -> usize
 }
 
 // Sums and comparisons of Acc, C and M.
-pub fn sum_group(op: Sum, g: Given, word: u8) -> Summed
+pub fn sum_group(op: Sum, g: Inputs, word: u8) -> Summed
     requires { ⌜ Scalars (g .core) × (word < 16) ⌝ }
-    ensures { λ r. ⌜ ((ports : List ℕ) → namedSum op .effect (chipGiven g word ports) ≡ summed (chipGiven g word ports) r) ⌝ }
+    ensures { λ r. ⌜ ((ports : List ℕ) → namedSum op .effect (givenOf g word ports) ≡ sumEffect (givenOf g word ports) r) ⌝ }
 {
     let acc = g.core.registers.acc;
     let carry = g.core.registers.carry;
@@ -314,9 +314,9 @@ fn sum_left(acc: u8, carry: u8, word: u8, skip: bool) -> Summed
 }
 
 // Bits of Acc and M, and constants.
-pub fn bit_group(op: Bit, g: Given, word: u8) -> Summed
+pub fn bit_group(op: Bit, g: Inputs, word: u8) -> Summed
     requires { ⌜ Scalars (g .core) × (word < 16) ⌝ }
-    ensures { λ r. ⌜ ((ports : List ℕ) → namedBit op .effect (chipGiven g word ports) ≡ summed (chipGiven g word ports) r) ⌝ }
+    ensures { λ r. ⌜ ((ports : List ℕ) → namedBit op .effect (givenOf g word ports) ≡ sumEffect (givenOf g word ports) r) ⌝ }
 {
     let acc = g.core.registers.acc;
     let carry = g.core.registers.carry;
@@ -335,8 +335,8 @@ pub fn bit_group(op: Bit, g: Given, word: u8) -> Summed
 }
 
 // LDI loads DP, unless the instruction before it was an LDI.
-fn ldi(g: Given, word: u8) -> Pointed
-    ensures { λ r. ⌜ ((ports : List ℕ) → namedPointer Pointer.Ldi .effect (chipGiven g word ports) ≡ pointed (chipGiven g word ports) r) ⌝ }
+fn ldi(g: Inputs, word: u8) -> Pointed
+    ensures { λ r. ⌜ ((ports : List ℕ) → namedPointer Pointer.Ldi .effect (givenOf g word ports) ≡ pointerEffect (givenOf g word ports) r) ⌝ }
 {
     let acc = g.core.registers.acc;
     let dph = g.core.registers.dph;
@@ -375,9 +375,9 @@ fn pointer_left(acc: u8, dph: u8, dpl: u8, word: u8, skip: bool) -> Pointed
 }
 
 // DP, and M with it.
-pub fn pointer_group(op: Pointer, g: Given, word: u8) -> Pointed
+pub fn pointer_group(op: Pointer, g: Inputs, word: u8) -> Pointed
     requires { ⌜ Scalars (g .core) × (word < 16) ⌝ }
-    ensures { λ r. ⌜ ((ports : List ℕ) → namedPointer op .effect (chipGiven g word ports) ≡ pointed (chipGiven g word ports) r) ⌝ }
+    ensures { λ r. ⌜ ((ports : List ℕ) → namedPointer op .effect (givenOf g word ports) ≡ pointerEffect (givenOf g word ports) r) ⌝ }
 {
     let acc = g.core.registers.acc;
     let dph = g.core.registers.dph;
@@ -410,9 +410,9 @@ fn working_left(acc: u8, dph: u8, dpl: u8, word: u8) -> Worked
 }
 
 // The words Z, W, S, R, Y and X.
-pub fn working_group(op: Working, g: Given, word: u8) -> Worked
+pub fn working_group(op: Working, g: Inputs, word: u8) -> Worked
     requires { ⌜ Scalars (g .core) × (word < 16) ⌝ }
-    ensures { λ r. ⌜ ((ports : List ℕ) → namedWorking op .effect (chipGiven g word ports) ≡ worked (chipGiven g word ports) r) ⌝ }
+    ensures { λ r. ⌜ ((ports : List ℕ) → namedWorking op .effect (givenOf g word ports) ≡ workingEffect (givenOf g word ports) r) ⌝ }
 {
     let acc = g.core.registers.acc;
     let dph = g.core.registers.dph;
@@ -432,9 +432,9 @@ pub fn working_group(op: Working, g: Given, word: u8) -> Worked
 }
 
 // Bits of the flag word.
-pub fn flag_group(op: Flag, g: Given, word: u8) -> Flagged
+pub fn flag_group(op: Flag, g: Inputs, word: u8) -> Flagged
     requires { ⌜ word < 16 ⌝ }
-    ensures { λ r. ⌜ ((ports : List ℕ) → namedFlag op .effect (chipGiven g word ports) ≡ flagged (chipGiven g word ports) r) ⌝ }
+    ensures { λ r. ⌜ ((ports : List ℕ) → namedFlag op .effect (givenOf g word ports) ≡ flagEffect (givenOf g word ports) r) ⌝ }
 {
     let b = g.code % 4;
     match op {
@@ -467,9 +467,9 @@ fn jump_left(pc: u16, stack: [u16; STACK_DEPTH], skip: bool) -> Jumped
 }
 
 // PC and the stack.
-pub fn jump_group(op: Jump, g: Given) -> Jumped
+pub fn jump_group(op: Jump, g: Inputs) -> Jumped
     requires { ⌜ Scalars (g .core) ⌝ }
-    ensures { λ r. ⌜ ((word : ℕ) (ports : List ℕ) → namedJump op .effect (chipGiven g word ports) ≡ jumped (chipGiven g word ports) r) ⌝ }
+    ensures { λ r. ⌜ ((word : ℕ) (ports : List ℕ) → namedJump op .effect (givenOf g word ports) ≡ jumpEffect (givenOf g word ports) r) ⌝ }
 {
     let stack = g.core.flow.stack;
     let s0 = stack[0];
@@ -489,8 +489,8 @@ pub fn jump_group(op: Jump, g: Given) -> Jumped
 }
 
 // Flip-flops, carries and the timer.
-pub fn control_group(op: Control, g: Given) -> Controlled
-    ensures { λ r. ⌜ ((word : ℕ) (ports : List ℕ) → namedControl op .effect (chipGiven g word ports) ≡ controlled (chipGiven g word ports) r) ⌝ }
+pub fn control_group(op: Control, g: Inputs) -> Controlled
+    ensures { λ r. ⌜ ((word : ℕ) (ports : List ℕ) → namedControl op .effect (givenOf g word ports) ≡ controlEffect (givenOf g word ports) r) ⌝ }
 {
     let carry = g.core.registers.carry;
     let saved = g.core.registers.saved;
@@ -671,9 +671,9 @@ fn written(acc: u8, o: Output) -> Ported
 }
 
 // Ports.
-pub fn port_group(op: Port, g: Given, ports: &[u8; LATCHES]) -> Ported
+pub fn port_group(op: Port, g: Inputs, ports: &[u8; LATCHES]) -> Ported
     requires { ⌜ Scalars (g .core) × ValidPorts (now ports) ⌝ }
-    ensures { λ r. ⌜ ((word : ℕ) → namedPort op .effect (chipGiven g word (now (ports .entry))) ≡ ported (chipGiven g word (now (ports .entry))) r) ⌝ }
+    ensures { λ r. ⌜ ((word : ℕ) → namedPort op .effect (givenOf g word (now (ports .entry))) ≡ portEffect (givenOf g word (now (ports .entry))) r) ⌝ }
 {
     let acc = g.core.registers.acc;
     let dpl = g.core.registers.dpl;

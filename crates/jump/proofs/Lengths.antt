@@ -7,13 +7,13 @@ use native.Mathlib.Omega.{arith}
 use lib.Dec.{eqb}
 use lib.ListN.{getD}
 use borrow.Author.Tests.{lt-ltb, le-leb, lt-leb, eq-eqb, ne-eqb}
-use Rattle.runs.specs.TwoRunners.{cycleLimit}
+use Rattle.runs.specs.Refusals.{cycleLimit}
 use Rattle.upd546.specs.declared.Interrupt.{Interrupt}
 use Rattle.upd546.specs.declared.Timer.{Timer}
 use Rattle.upd546.specs.declared.Lines.{Lines}
 use Rattle.upd546.specs.declared.State.{State}
 use Rattle.upd546.specs.TheMachine.{lastAddress, byteAt, follows, pageOf}
-use Rattle.upd546.specs.Tests.{allOf}
+use Rattle.upd546.specs.Checks.{allOf}
 use Rattle.upd546.specs.TheLineSchedule.{linesAt, scheduleNumber, noRecord}
 use Rattle.upd546.specs.Timer.{ticksLeft}
 use Rattle.upd546.specs.TwoRunners.{atTtm, atJcpBack, mayJump, jumpLength}

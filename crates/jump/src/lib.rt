@@ -13,10 +13,12 @@ ghost use mathlib.Core.Path.{_≡_};
 ghost use mathlib.Core.Bool.{_&&_};
 ghost use Prim.Native.Nat.{_+_, _-_, _*_, _%_, _<_, _≤_, min};
 ghost use lib.ListN.{length};
-ghost use Rattle.runs.specs.TwoRunners.{cycleLimit};
+ghost use Rattle.runs.specs.Refusals.{cycleLimit};
 ghost use Rattle.upd546.specs.TheMachine.{romLength};
-ghost use Rattle.upd546.specs.Timer.{period, ticksLeft, timerLeft};
-ghost use Rattle.upd546.specs.TwoRunners.{atTtm, atJcpBack, jumpedCore};
+ghost use Rattle.upd546.specs.Timer.{period, ticksLeft};
+ghost use Rattle.laws.specs.Timer.{timerLeft};
+ghost use Rattle.upd546.specs.TwoRunners.{atTtm, atJcpBack};
+ghost use Rattle.laws.specs.Jump.{coreAfterJump};
 ghost use Rattle.tables.specs.Tables.{positionTable, registerTable};
 ghost use Rattle.jump.specs.Boundary.{Boundary, JumpsBy, Jumpable};
 
@@ -148,14 +150,19 @@ fn timer_left(registers: &RegisterTable, tm: u8, ticks: u64) -> Timer
 }
 
 // The core after a jump of j cycles, at the same cost for every j.
-pub fn jumped(positions: &PositionTable, registers: &RegisterTable, core: Core, j: u64) -> Core
+pub fn core_after_jump(
+    positions: &PositionTable,
+    registers: &RegisterTable,
+    core: Core,
+    j: u64,
+) -> Core
     requires { ⌜ Jumpable (now positions) (now registers) core j ⌝ }
-    ensures { λ r. ⌜ r ≡ jumpedCore j core ⌝ }
+    ensures { λ r. ⌜ r ≡ coreAfterJump j core ⌝ }
 {
     let timer = core.timer;
     let ticks = ticks_left(positions, timer) - j;
     let left = timer_left(registers, core.timer.tm, ticks);
-    let mut next = upd546::same(core);
+    let mut next = upd546::copy_core(core);
     next.timer = left;
     next.mark = MARK_OTHER;
     next

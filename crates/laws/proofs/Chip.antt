@@ -4,7 +4,8 @@ use mathlib.Core.List.{List}
 use Prim.Native.Nat.{ℕ, _+_, _<_, _≤_}
 use lib.ListN.{length}
 use Rattle.runs.specs.Machine.{went}
-use Rattle.runs.specs.TwoRunners.{cycleLimit, logBound, unbroken}
+use Rattle.runs.specs.TwoRunners.{logBound, unbroken}
+use Rattle.runs.specs.Refusals.{cycleLimit}
 use Rattle.runs.specs.Laws.{Panel, Cycled, CycleLaws}
 use Rattle.runs.proofs.Iterate as iterate
 use Rattle.upd546.specs.declared.State.{State}
@@ -24,7 +25,7 @@ chip-laws = record {
     step : (rom sched : List ℕ) (s t : State) (w : List ℕ) (b : ℕ) → Panel upd546 rom sched → stateNumber s ≡ 0 → s .cycle .0 < cycleLimit
         → cycle rom sched s ≡ went t w b → Cycled upd546 debt s t w
     step rom sched s t w b p v h e =
-        let k = cycle-keeps rom sched s t w b (p .rom-bytes) (p .sched-bytes) (p .accepted) (accepted-valid s v) h e in
+        let k = cycle-keeps rom sched s t w b (p .rom-bytes) (p .sched-bytes) (p .not-refused) (accepted-valid s v) h e in
         record { sound = valid-accepted t (k .valid); rises = k .rises; records = k .records }
 
 -- n cycles of an accepted panel append at most 8n + 8 bytes

@@ -9,7 +9,7 @@ use lib.Dec.{T, eqb, ltb, ltb→lt}
 use lib.ListN.{length, set, length-set}
 use borrow.Author.Tests.{eqb-false, ltb-true}
 use Rattle.runs.specs.Machine.{Out, stop, went}
-use Rattle.runs.specs.TwoRunners.{cycleLimit}
+use Rattle.runs.specs.Refusals.{cycleLimit}
 use Rattle.runs.specs.Laws.{Bytes}
 use Rattle.runs.proofs.Refusals.{first-at, passes}
 use Rattle.upd546.specs.declared.Core.{Core}
@@ -27,7 +27,8 @@ use Rattle.upd546.specs.TwoRunners.{panelNumber}
 use Rattle.upd546.proofs.Computed.{every-at}
 use Rattle.laws.specs.Valid.{Scalars, ValidCore, ValidPorts, ValidRam, Valid, ValidLines}
 use Rattle.laws.proofs.Lists.{below-set, set-entry}
-use Rattle.laws.proofs.Instructions.{All, more, ValidWrite, ValidGiven, Keeps, keeps, pushed-valid}
+use Rattle.laws.proofs.Instructions.{ValidGiven, Keeps, keeps, pushed-valid}
+use Rattle.laws.specs.Writes.{All, _▹_, ValidWrite}
 use Rattle.laws.proofs.Lines.{lines-valid}
 
 -- THE TIMER
@@ -120,7 +121,7 @@ past-small (suc n) a h = past-small n (follows a) (follows-small a h)
 
 latched-valid : (ws : List Write) (ports : List ℕ) → All ValidWrite ws → ValidPorts ports → ValidPorts (latched ws ports)
 latched-valid [] ports a v = v
-latched-valid (w ∷ ws) ports (more h a) v =
+latched-valid (w ∷ ws) ports (h ▹ a) v =
     latched-valid ws (set ports (w .port - portC) (w .value)) a
     (record {
       count = length-set ports (w .port - portC) (w .value) ∙ v .count;

@@ -8,14 +8,15 @@ use lib.Dec.{eqb, ltb, eqb→eq}
 use lib.ListN.{length, getD, take, drop, length-append}
 use lib.Seq.{take-all, take-add, take-at, drop-at}
 use borrow.Author.Tests.{eq-eqb, eqb-true, lt-ltb, ltb-true, le-leb}
-use Rattle.runs.specs.TwoRunners.{firstOf, saveNumber, saved, restored}
+use Rattle.runs.specs.TwoRunners.{saveNumber, saveAnswer, restoreAnswer}
+use Rattle.runs.specs.Refusals.{firstOf}
 use Rattle.runs.specs.Laws.{Bytes}
 use Rattle.runs.proofs.Refusals.{first-at, passes}
 use Rattle.upd546.specs.declared.Core.{Core}
 use Rattle.upd546.specs.declared.State.{State}
 use Rattle.upd546.specs.TheMachine.{addresses, stackDepth, dpOf, entries}
 use Rattle.upd546.specs.Bytes.{bitAt, numberOf, bytesOf, part}
-use Rattle.upd546.specs.Tests.{sameNumbers}
+use Rattle.upd546.specs.Checks.{sameNumbers}
 use Rattle.upd546.specs.StateImage.{imageLength, imageMark, imageVersion, wordsBytes, flagsByte, coreBytes, packed, imageOf, byte, unpacked, ofImage, stateSound, stateNumber, fieldsNumber, imageNumber}
 use Rattle.upd546.specs.TwoRunners.{upd546}
 use Rattle.upd546.proofs.Computed.{every-at, entries-of}
@@ -308,27 +309,27 @@ module _ (image : List ℕ) (bytes : Bytes image) (accepted : imageNumber image 
 -- DEMAND 2, SECOND HALF
 
 pub saved-restores : SavedRestores
-unfolding saved saveNumber restored firstOf
+unfolding saveAnswer saveNumber restoreAnswer firstOf
 saved-restores s buffer e h =
     let v = accepted-valid s e in
     let first : take imageLength (imageOf s ++ drop imageLength buffer) ≡ imageOf s = take-at (imageOf s) _ imageLength (image-length s v) in
     rw (e, le-leb imageLength (length buffer) h, first, image-accepted s v, image-back s v)
 
 -- the state that an accepted image restores to
-pub restores-to : (image : List ℕ) → imageNumber image ≡ 0 → restored upd546 image ≡ record { number = 0; state = ofImage image }
-unfolding restored
+pub restores-to : (image : List ℕ) → imageNumber image ≡ 0 → restoreAnswer upd546 image ≡ record { number = 0; state = ofImage image }
+unfolding restoreAnswer
 restores-to image e = rw e
 
-pub restore-number : (image : List ℕ) → restored upd546 image .number ≡ imageNumber image
-unfolding restored
+pub restore-number : (image : List ℕ) → restoreAnswer upd546 image .number ≡ imageNumber image
+unfolding restoreAnswer
 restore-number image = go (imageNumber image) refl
   where
-    go : (k : ℕ) → imageNumber image ≡ k → restored upd546 image .number ≡ imageNumber image
+    go : (k : ℕ) → imageNumber image ≡ k → restoreAnswer upd546 image .number ≡ imageNumber image
     go zero e = rw e
     go (suc k) e = rw e
 
 pub restored-saves : RestoredSaves
-unfolding saved saveNumber firstOf
+unfolding saveAnswer saveNumber firstOf
 restored-saves image buffer b e h =
     let z = sym (restore-number image) ∙ e in
     let sound : stateNumber (ofImage image) ≡ 0 = valid-accepted (ofImage image) (sound-valid (ofImage image) (accepted-sound image b z)) in
@@ -337,14 +338,14 @@ restored-saves image buffer b e h =
 pub accepted-exactly : AcceptedExactly
 accepted-exactly image b = (to, from)
   where
-    to : restored upd546 image .number ≡ 0 → ImageOfSome image
+    to : restoreAnswer upd546 image .number ≡ 0 → ImageOfSome image
     to e =
         let z = sym (restore-number image) ∙ e in
         record {
           state = ofImage image;
-          accepted = valid-accepted (ofImage image) (sound-valid (ofImage image) (accepted-sound image b z));
+          not-refused = valid-accepted (ofImage image) (sound-valid (ofImage image) (accepted-sound image b z));
           same = sym (image-same image b z);
         }
 
-    from : ImageOfSome image → restored upd546 image .number ≡ 0
-    from o = restore-number image ∙ ap imageNumber (o .same) ∙ image-accepted (o .state) (accepted-valid (o .state) (o .accepted))
+    from : ImageOfSome image → restoreAnswer upd546 image .number ≡ 0
+    from o = restore-number image ∙ ap imageNumber (o .same) ∙ image-accepted (o .state) (accepted-valid (o .state) (o .not-refused))

@@ -19,18 +19,8 @@ use Rattle.upd546.specs.Instructions as chip
 use Rattle.upd546.specs.Instructions.{Given, Effect, Instruction, codes, instruction}
 use Rattle.upd546.proofs.Computed.{everyFrom, every-at}
 use Rattle.laws.specs.Valid.{Below, Scalars, ValidStack, ValidCore, ValidPorts, ValidLines}
+use Rattle.laws.specs.Writes.{All, none, _▹_, ValidWrite}
 use Rattle.laws.proofs.Lists.{and-left, and-right}
-
--- an effective write: a port from C on to I, and a value that its latch holds
-pub record ValidWrite (w : Write) : Type 0 where
-  pub first : portC ≤ w .port
-  pub last : w .port ≤ portI
-  pub value : w .value < 16
-  pub narrow : w .port ≡ portI → w .value < 8
-
-pub data All {A : Type 0} (P : A → Type 0) : List A → Type 0 where
-  none : All P []
-  more : {x : A} {l : List A} → P x → All P l → All P (x ∷ l)
 
 pub record ValidGiven (g : Given) : Type 0 where
   pub core : ValidCore (g .core)
@@ -55,16 +45,16 @@ pub record Keeps (i : Instruction) : Type 0 where
 
 all-getD : {A : Type 0} (P : A → Type 0) {l : List A} (d : A) → All P l → P d → (n : ℕ) → P (getD l n d)
 all-getD P d none e n = e
-all-getD P d (more h a) e zero = h
-all-getD P d (more h a) e (suc n) = all-getD P d a e n
+all-getD P d (h ▹ a) e zero = h
+all-getD P d (h ▹ a) e (suc n) = all-getD P d a e n
 
 all-append : {A : Type 0} (P : A → Type 0) {l m : List A} → All P l → All P m → All P (l ++ m)
 all-append P none b = b
-all-append P (more h a) b = more h (all-append P a b)
+all-append P (h ▹ a) b = h ▹ all-append P a b
 
 all-replicate : {A : Type 0} (P : A → Type 0) (n : ℕ) {x : A} → P x → All P (replicate n x)
 all-replicate P zero h = none
-all-replicate P (suc n) h = more h (all-replicate P n h)
+all-replicate P (suc n) h = h ▹ all-replicate P n h
 
 -- a bit of a number below a bound stays below it: x, b and v are counted through
 abbrev bit-test : ℕ → ℕ → ℕ → ℕ → ℕ → Bool
@@ -92,7 +82,7 @@ turn g v = xor-lt 3 (chip.dph g) (chip.operand2 g) (v .core .scalars .dph) (omeg
 
 read-small : (l : Lines) (p : ℕ) → ValidLines l → readPort l p < 16
 unfolding readPort
-read-small l p v = all-getD (λ (x : ℕ). x < 16) 0 (more (v .a) (more (v .b) (more (v .c) (more (v .d) none)))) (omega arith) p
+read-small l p v = all-getD (λ (x : ℕ). x < 16) 0 (v .a ▹ v .b ▹ v .c ▹ v .d ▹ none) (omega arith) p
 
 -- the stack after a call and after a return
 pub pushed-valid : (a : ℕ) (stack : List ℕ) → a < addresses → ValidStack stack → ValidStack (pushed a stack)
@@ -141,8 +131,8 @@ keeps-nop = plain chip.nop (omega arith) (λ g. refl) (λ g. refl) (λ g v. omeg
 keeps-di : Keeps chip.di
 keeps-di = plain chip.di (omega arith) (λ g. refl) (λ g. refl) (λ g v. omega arith) (λ g v. omega arith)
 
-keeps-s : Keeps chip.s
-keeps-s = plain chip.s (omega arith) (λ g. refl) (λ g. refl) (λ g v. omega arith) (λ g v. omega arith)
+keeps-s : Keeps chip.sM
+keeps-s = plain chip.sM (omega arith) (λ g. refl) (λ g. refl) (λ g v. omega arith) (λ g v. omega arith)
 
 keeps-tit : Keeps chip.tit
 keeps-tit = plain chip.tit (omega arith) (λ g. refl) (λ g. refl) (λ g v. omega arith) (λ g v. omega arith)
@@ -373,7 +363,7 @@ below-i : (p v : ℕ) → portC ≤ p → p < portI → v < 16 → ValidWrite (r
 below-i p v a b h = record { first = a; last = omega arith; value = h; narrow = λ z. absurd (omega arith) }
 
 one-write : (p v : ℕ) → ValidWrite (record { port = p; value = v }) → Written (written p v)
-one-write p v h = record { writes = more h none; one = omega arith }
+one-write p v h = record { writes = h ▹ none; one = omega arith }
 
 output-write : (p v : ℕ) → v < 16 → Written (outputs p v)
 unfolding outputs
@@ -471,9 +461,7 @@ keeps-ocd = record {
   effect = λ g v. record {
     core = record { scalars = omega arith; stack = v .core .stack };
     word = v .word;
-    writes =
-        more (below-i portC (chip.second4 g) (omega arith) (omega arith) (omega arith))
-        (more (below-i portD (g .second / 16) (omega arith) (omega arith) (omega arith)) none);
+    writes = below-i portC (chip.second4 g) (omega arith) (omega arith) (omega arith) ▹ below-i portD (g .second / 16) (omega arith) (omega arith) (omega arith) ▹ none;
   };
   records = λ g v. omega arith;
 }
@@ -485,21 +473,19 @@ fours a b c d =
 
 rows : All (All Keeps) codes
 rows =
-    more (more keeps-nop (more keeps-di (more keeps-s (more keeps-tit (more keeps-tc (more keeps-ttm (more keeps-daa (more keeps-tal (more keeps-ad (more keeps-ads (more keeps-das (more keeps-clc (more keeps-cm (more keeps-inc (more keeps-op (more keeps-dec none))))))))))))))))
-    (more (more keeps-cma (more keeps-cia (more keeps-tla (more keeps-ded (more keeps-stm (more keeps-ldi (more keeps-cli (more keeps-ci (more keeps-exl (more keeps-adc (more keeps-xc (more keeps-stc (more keeps-none (more keeps-inm (more keeps-ocd (more keeps-dem none))))))))))))))))
-    (more (fours keeps-fbf keeps-tab keeps-xm keeps-xmd)
-    (more
-    (all-append Keeps
-    (all-append Keeps (all-append Keeps (more keeps-rar (more keeps-ei (more keeps-ip (more keeps-ind none)))) (all-replicate Keeps 4 keeps-cmb)) (all-replicate Keeps 4 keeps-lm))
-    (all-replicate Keeps 4 keeps-xmi))
-    (more (more keeps-ia (more keeps-jpa (more keeps-taz (more keeps-taw (more keeps-oe (more keeps-none (more keeps-tly (more keeps-thx (more keeps-rt (more keeps-rts (more keeps-xaz (more keeps-xaw (more keeps-xls (more keeps-xhr (more keeps-xly (more keeps-xhx none))))))))))))))))
-    (more (fours keeps-tpb keeps-tpa keeps-tmb keeps-fbt)
-    (more (fours keeps-rpb keeps-reb keeps-rmb keeps-rfb)
-    (more (fours keeps-spb keeps-seb keeps-smb keeps-sfb)
-    (more (all-replicate Keeps 16 keeps-ldz)
-    (more (all-replicate Keeps 16 keeps-li)
-    (more (all-append Keeps (all-replicate Keeps 8 keeps-jmp) (all-replicate Keeps 8 keeps-cal))
-    (more (all-replicate Keeps 16 keeps-czp) none)))))))))))
+    (keeps-nop ▹ keeps-di ▹ keeps-s ▹ keeps-tit ▹ keeps-tc ▹ keeps-ttm ▹ keeps-daa ▹ keeps-tal ▹ keeps-ad ▹ keeps-ads ▹ keeps-das ▹ keeps-clc ▹ keeps-cm ▹ keeps-inc ▹ keeps-op ▹ keeps-dec ▹ none)
+    ▹ (keeps-cma ▹ keeps-cia ▹ keeps-tla ▹ keeps-ded ▹ keeps-stm ▹ keeps-ldi ▹ keeps-cli ▹ keeps-ci ▹ keeps-exl ▹ keeps-adc ▹ keeps-xc ▹ keeps-stc ▹ keeps-none ▹ keeps-inm ▹ keeps-ocd ▹ keeps-dem ▹ none)
+    ▹ fours keeps-fbf keeps-tab keeps-xm keeps-xmd
+    ▹ all-append Keeps (all-append Keeps (all-append Keeps (keeps-rar ▹ keeps-ei ▹ keeps-ip ▹ keeps-ind ▹ none) (all-replicate Keeps 4 keeps-cmb)) (all-replicate Keeps 4 keeps-lm)) (all-replicate Keeps 4 keeps-xmi)
+    ▹ (keeps-ia ▹ keeps-jpa ▹ keeps-taz ▹ keeps-taw ▹ keeps-oe ▹ keeps-none ▹ keeps-tly ▹ keeps-thx ▹ keeps-rt ▹ keeps-rts ▹ keeps-xaz ▹ keeps-xaw ▹ keeps-xls ▹ keeps-xhr ▹ keeps-xly ▹ keeps-xhx ▹ none)
+    ▹ fours keeps-tpb keeps-tpa keeps-tmb keeps-fbt
+    ▹ fours keeps-rpb keeps-reb keeps-rmb keeps-rfb
+    ▹ fours keeps-spb keeps-seb keeps-smb keeps-sfb
+    ▹ all-replicate Keeps 16 keeps-ldz
+    ▹ all-replicate Keeps 16 keeps-li
+    ▹ all-append Keeps (all-replicate Keeps 8 keeps-jmp) (all-replicate Keeps 8 keeps-cal)
+    ▹ all-replicate Keeps 16 keeps-czp
+    ▹ none
 
 pub keeps : (code : ℕ) → Keeps (instruction code)
 unfolding instruction

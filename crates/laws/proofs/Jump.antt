@@ -12,7 +12,8 @@ use lib.ListN.{length, replicate, getD-replicate, List·getD-eq-default}
 use lib.Seq.{set-getD}
 use borrow.Author.Tests.{ltb-true, leb-true, eqb-true, eqb-false, lt-ltb, le-ltb, not-true}
 use Rattle.runs.specs.Machine.{went}
-use Rattle.runs.specs.TwoRunners.{cycleLimit, Ran, firstOf, begins, unbroken, within}
+use Rattle.runs.specs.TwoRunners.{Ran, begins, unbroken, within}
+use Rattle.runs.specs.Refusals.{cycleLimit, firstOf}
 use Rattle.runs.specs.Laws.{Panel}
 use Rattle.runs.proofs.Iterate as iterate
 use Rattle.runs.proofs.Cut.{roomy}
@@ -21,13 +22,15 @@ use Rattle.upd546.specs.declared.Timer.{Timer}
 use Rattle.upd546.specs.declared.Lines.{Lines}
 use Rattle.upd546.specs.declared.State.{State}
 use Rattle.upd546.specs.TheMachine.{inRom, byteAt, follows, past, pageOf, markOther}
-use Rattle.upd546.specs.Tests.{allOf}
+use Rattle.upd546.specs.Checks.{allOf}
 use Rattle.upd546.specs.TheLineSchedule.{recordCount, recordCycle, linesAt, noneAmong, noRecord}
-use Rattle.upd546.specs.Timer.{tick, ticksLeft, timerLeft}
+use Rattle.upd546.specs.Timer.{tick, ticksLeft}
+use Rattle.laws.specs.Timer.{timerLeft}
 use Rattle.upd546.specs.Instructions.{instruction, codes, jcp, none as noInstruction}
 use Rattle.upd546.specs.OneMachineCycle.{accepts, taken, ticked, given, instructionStop, passedOver, begun, execute, cycle}
 use Rattle.upd546.specs.StateImage.{stateNumber}
-use Rattle.upd546.specs.TwoRunners.{atTtm, atJcpBack, mayJump, jumpable, largest, onJump, jumpLength, jumpedCore, jumped, upd546}
+use Rattle.upd546.specs.TwoRunners.{atTtm, atJcpBack, mayJump, jumpable, largest, onJump, jumpLength, upd546}
+use Rattle.laws.specs.Jump.{coreAfterJump, stateAfterJump}
 use Rattle.laws.specs.Valid.{Valid}
 use Rattle.laws.proofs.Lists.{and-left, and-right, all-at}
 use Rattle.laws.proofs.Sound.{accepted-valid, valid-accepted}
@@ -257,15 +260,15 @@ may-jump rom sched s e =
 
 -- what a jump leaves is the state at TTM again
 jumped-is : (s : State) (j : ℕ) → s .core .owed ≡ 0 → s .core .timer .tm ≡ 0
-    → atTtmAgain s (ticksLeft (s .core .timer) - j) (s .cycle .0 + j) ≡ jumped j s
-unfolding jumpedCore
+    → atTtmAgain s (ticksLeft (s .core .timer) - j) (s .cycle .0 + j) ≡ stateAfterJump j s
+unfolding coreAfterJump
 jumped-is s j o z = rw (o, z)
 
 -- any even number of cycles, up to the ticks left and the next record
 module _ (rom sched : List ℕ) (s : State) (j : ℕ) (small : s .core .timer .register < 64) (may : mayJump rom sched s ≡ true)
     (even : j % 2 ≡ 0) (more : 0 < j) (left : j ≤ ticksLeft (s .core .timer))
     (between : noRecord sched (s .cycle .0 + 1) (s .cycle .0 + j) ≡ true) where
-  pub turns-unbroken : unbroken upd546 rom sched j s ≡ quietly j (jumped j s)
+  pub turns-unbroken : unbroken upd546 rom sched j s ≡ quietly j (stateAfterJump j s)
   turns-unbroken =
       let m = may-jump rom sched s may in
       let n = s .cycle .0 in
@@ -279,7 +282,7 @@ module _ (rom sched : List ℕ) (s : State) (j : ℕ) (small : s .core .timer .r
       (turns rom sched (j / 2 - 1) q s (m .waits)) t (level-stays sched s j (m .level) between)
       ∙ ap (quietly j) (jumped-is s j (m .waits .owed) (m .tm))
 
-  pub turns-within : (room : ℕ) → within upd546 rom sched room j s ≡ quietly j (jumped j s)
+  pub turns-within : (room : ℕ) → within upd546 rom sched room j s ≡ quietly j (stateAfterJump j s)
   turns-within room =
       let none : length (unbroken upd546 rom sched j s .bytes) ≤ room = omega (arith, ap (λ (r : Ran State). length (r .bytes)) turns-unbroken) in
       roomy upd546 rom sched j room s none ∙ turns-unbroken
@@ -354,11 +357,11 @@ module _ (rom sched : List ℕ) (s : State) (left j : ℕ) (e : jumpLength rom s
 
   -- THE JUMP LAW: where the timer-skipping runner jumps j cycles, j plain cycles come to what the jump says
   module _ (v : Valid s) where
-    pub jump-unbroken : unbroken upd546 rom sched j s ≡ quietly j (jumped j s)
+    pub jump-unbroken : unbroken upd546 rom sched j s ≡ quietly j (stateAfterJump j s)
     jump-unbroken =
         turns-unbroken rom sched s j (v .core .scalars .register) (is-jump .may) (is-jump .even) (omega arith) (is-jump .left) (is-jump .between)
 
-    pub jump-in-room : (room : ℕ) → within upd546 rom sched room j s ≡ quietly j (jumped j s)
+    pub jump-in-room : (room : ℕ) → within upd546 rom sched room j s ≡ quietly j (stateAfterJump j s)
     jump-in-room room =
         turns-within rom sched s j (v .core .scalars .register) (is-jump .may) (is-jump .even) (omega arith) (is-jump .left) (is-jump .between) room
 
@@ -404,7 +407,7 @@ jump-length-none rom sched s left e = rw e
 
 -- a jump leads from an accepted state to an accepted state
 pub jump-keeps : (rom sched : List ℕ) (s : State) (left j : ℕ) → Panel upd546 rom sched → Valid s → s .cycle .0 + j ≤ cycleLimit
-    → jumpLength rom sched s left ≡ j → (j ≡ 0 → ⊥) → Valid (jumped j s)
+    → jumpLength rom sched s left ≡ j → (j ≡ 0 → ⊥) → Valid (stateAfterJump j s)
 jump-keeps rom sched s left j p v h e more =
     let r = iterate.reaches upd546 chip-laws rom sched p j s (valid-accepted s v) h in
-    accepted-valid (jumped j s) (sym (ap (λ (x : Ran State). stateNumber (x .state)) (jump-unbroken rom sched s left j e more v)) ∙ r .sound)
+    accepted-valid (stateAfterJump j s) (sym (ap (λ (x : Ran State). stateNumber (x .state)) (jump-unbroken rom sched s left j e more v)) ∙ r .sound)

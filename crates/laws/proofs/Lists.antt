@@ -6,7 +6,7 @@ use Prim.Native.Nat.{ℕ, zero, suc, _<_}
 use lib.Dec.{ltb}
 use lib.ListN.{getD, set}
 use borrow.Author.Tests.{lt-ltb, ltb-true}
-use Rattle.upd546.specs.Tests.{allOf, allBelow}
+use Rattle.upd546.specs.Checks.{allOf, allBelow}
 use Rattle.laws.specs.Valid.{Below}
 
 -- the parts of a test that passes

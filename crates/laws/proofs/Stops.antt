@@ -6,7 +6,7 @@ use Prim.Native.Nat.{ℕ, zero, suc}
 use native.Mathlib.Omega.{arith}
 use lib.Dec.{eqb, ltb}
 use Rattle.runs.specs.Machine.{Out, stop, went}
-use Rattle.runs.specs.TwoRunners.{firstOf, unless}
+use Rattle.runs.specs.Refusals.{firstOf, unless}
 use Rattle.upd546.specs.declared.Core.{Core}
 use Rattle.upd546.specs.declared.Lines.{Lines}
 use Rattle.upd546.specs.declared.State.{State}
@@ -14,11 +14,7 @@ use Rattle.upd546.specs.TheMachine.{inRom, follows}
 use Rattle.upd546.specs.TheLineSchedule.{linesAt}
 use Rattle.upd546.specs.Instructions.{Given, Effect, Instruction, instruction}
 use Rattle.upd546.specs.OneMachineCycle.{accepts, taken, given, needs, instructionStop, passedOver, begun, onStop, execute, onOwed, onAccepts, cycle}
-
--- the number of a stop
-pub record StopNumber (k : ℕ) : Type 0 where
-  pub some : k ≡ 0 → ⊥
-  pub else23 : (k ≡ 22 → ⊥) → k ≡ 23
+use Rattle.laws.specs.Stops.{StopNumber}
 
 -- a number that is 0, 22 or 23
 abbrev Maybe : ℕ → Type 0

@@ -8,10 +8,11 @@ use lib.Dec.{leb, lit<}
 use lib.ListN.{length, take, drop, replicate, length-drop}
 use lib.Seq.{take-all, length-take-le}
 use borrow.Author.Tests.{leb-true, leb-false, le-leb, lt-leb, eq-eqb}
-use Rattle.runs.specs.TwoRunners.{cycleLimit, firstOf, runNumber, plain}
+use Rattle.runs.specs.TwoRunners.{runNumber, plain}
+use Rattle.runs.specs.Refusals.{cycleLimit, firstOf}
 use Rattle.upd546.specs.TheMachine.{romLength, fresh}
 use Rattle.upd546.specs.Bytes.{numberAt}
-use Rattle.upd546.specs.Tests.{allOf}
+use Rattle.upd546.specs.Checks.{allOf}
 use Rattle.upd546.specs.TheLineSchedule.{recordLength, maxRecords, scheduleNumber}
 use Rattle.upd546.specs.StateImage.{registersSound, flowSound, interruptSound, timerSound, coreSound, portsSound, ramSound, stateSound, stateNumber}
 use Rattle.upd546.specs.TwoRunners.{upd546, panelNumber}

@@ -9,7 +9,8 @@ use lib.Dec.{leb}
 use lib.ListN.{length, getD, drop, length-append}
 use lib.Seq.{getD-append-add}
 use Rattle.runs.specs.Machine.{Out, stop, went}
-use Rattle.runs.specs.TwoRunners.{cycleLimit, Ran, onRoom, onOutWithin, begins, still, within, runNumber, told, stepwise, plain}
+use Rattle.runs.specs.TwoRunners.{Ran, onRoom, onOutWithin, begins, still, within, runNumber, told, stepwise, plain}
+use Rattle.runs.specs.Refusals.{cycleLimit}
 use Rattle.runs.specs.TwoRunners as runners
 use Rattle.runs.specs.Laws.{Bytes}
 use Rattle.runs.proofs.Calls.{run-fit}
@@ -23,7 +24,8 @@ use Rattle.upd546.specs.Instructions.{Given, Instruction, instruction}
 use Rattle.upd546.specs.OneMachineCycle.{accepts, taken, given, instructionStop, passedOver, begun, onStop, execute, onOwed, onAccepts, cycle}
 use Rattle.upd546.specs.TwoRunners.{panelNumber, upd546, answerOf}
 use Rattle.laws.specs.Valid.{ValidCore, Valid, ValidLines}
-use Rattle.laws.proofs.Instructions.{All, more, ValidWrite, keeps}
+use Rattle.laws.proofs.Instructions.{keeps}
+use Rattle.laws.specs.Writes.{All, _▹_, ValidWrite}
 use Rattle.laws.proofs.Lines.{lines-valid}
 use Rattle.laws.proofs.Sound.{accepted-valid}
 use Rattle.laws.proofs.Cycle.{taken-keeps, given-valid, cycle-keeps}
@@ -36,7 +38,7 @@ pub data Records : List ℕ → Type 0 where
 
 records-of : (n : ℕ) (ws : List Write) → All ValidWrite ws → Records (logBytes n ws)
 records-of n [] a = empty
-records-of n (w ∷ ws) (more h a) = also n w h (records-of n ws a)
+records-of n (w ∷ ws) (h ▹ a) = also n w h (records-of n ws a)
 
 joined : {l m : List ℕ} → Records l → Records m → Records (l ++ m)
 joined empty q = q

@@ -9,7 +9,7 @@ use borrow.Author.Tests.{ne-eqb}
 use borrow.Rule.Slice.PartMut.{midOf, putMid}
 use Rattle.upd546.specs.Bytes.{bytesOf}
 use Rattle.upd546.specs.Ports.{Write, written, logRecord, portC, portD}
-use Rattle.laws.proofs.Instructions.{All, more, ValidWrite}
+use Rattle.laws.specs.Writes.{All, _▹_, ValidWrite}
 use Rattle.portlog.specs.Appending.{writesOf, Written}
 use Rattle.laws.proofs.Tails.{mid-tail, put-tail}
 
@@ -34,7 +34,7 @@ abbrev record-of : ℕ → ℕ → Write
 record-of port v = record { port = port; value = v }
 
 head-of : {w : Write} {ws : List Write} → All ValidWrite (w ∷ ws) → ValidWrite w
-head-of (more h a) = h
+head-of (h ▹ a) = h
 
 -- the port of one effective write
 pub port-of : (port v : ℕ) → (port ≡ 0 → ⊥) → (port ≡ 9 → ⊥) → All ValidWrite (writesOf port v) → (2 ≤ port) × (port ≤ 8)

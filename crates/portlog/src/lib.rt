@@ -9,7 +9,7 @@ ghost use mathlib.Core.List.{_++_};
 ghost use Prim.Native.Nat.{ℕ, _-_, _*_, _≤_};
 ghost use lib.ListN.{length, drop, set};
 ghost use Rattle.upd546.specs.Ports.{logRecord};
-ghost use Rattle.laws.proofs.Instructions.{All, ValidWrite};
+ghost use Rattle.laws.specs.Writes.{All, ValidWrite};
 ghost use Rattle.portlog.specs.Appending.{writesOf, Written};
 
 // What stands for a port where none is written, and where C and D are, from the halves of a value.

@@ -10,7 +10,8 @@ use native.Mathlib.Omega.{arith}
 use Rattle.runs.specs.declared.Refusal.{Refusal}
 use Rattle.runs.specs.declared.Refusal.the-variants as why
 use Rattle.runs.specs.Numbers.{refusalNumber}
-use Rattle.runs.specs.TwoRunners.{refused, cycleLimit, firstOf, runNumber, plain, skipping}
+use Rattle.runs.specs.TwoRunners.{refused, runNumber, plain, skipping}
+use Rattle.runs.specs.Refusals.{cycleLimit, firstOf}
 use Rattle.upd546.specs.declared.State.{State}
 use Rattle.upd546.specs.TheMachine.{romLength}
 use Rattle.upd546.specs.TheLineSchedule.{scheduleNumber}

@@ -51,7 +51,7 @@ fn run_accepted(
     let positions = tables::position_table();
     let registers = tables::register_table();
     let first = schedule::start(sched, s.cycle.0);
-    turns::take(
+    turns::run_loop(
         rom,
         sched,
         &table,

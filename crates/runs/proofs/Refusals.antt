@@ -5,7 +5,7 @@ use mathlib.Core.List.{List, [], _∷_, _++_}
 use Prim.Native.Nat.{ℕ, zero, suc, _<_}
 use native.Mathlib.Omega.{arith}
 use lib.ListN.{getD}
-use Rattle.runs.specs.TwoRunners.{firstOf, unless}
+use Rattle.runs.specs.Refusals.{firstOf, unless}
 
 -- where none refuses, none of them does
 pub first-at : (ks : List ℕ) → firstOf ks ≡ 0 → (i : ℕ) → getD ks i 0 ≡ 0

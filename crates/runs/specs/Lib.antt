@@ -1,4 +1,5 @@
 pub mod Machine
+pub mod Refusals
 pub mod TwoRunners
 pub mod Numbers
 pub mod Reports

@@ -10,22 +10,21 @@ pub data Out (S : Type 0) : Type 0 where
   went : S → List ℕ → ℕ → Out S
 
 -- A number of 0 refuses nothing.
-pub record Machine : Type 1 where
-  pub State : Type 0
+pub record Machine (S : Type 0) : Type 0 where
   -- one machine cycle: ROM, schedule, state
-  pub cycle : List ℕ → List ℕ → State → Out State
+  pub cycle : List ℕ → List ℕ → S → Out S
   -- the state's cycle number
-  pub at : State → ℕ
+  pub at : S → ℕ
   -- the cycles that the timer-skipping runner jumps in one step (0: it doesn't jump): ROM, schedule, state, cycles left
-  pub jump : List ℕ → List ℕ → State → ℕ → ℕ
+  pub jump : List ℕ → List ℕ → S → ℕ → ℕ
   -- what refuses a ROM and a schedule: 21, 12, 11, 13, 14
   pub panelNumber : List ℕ → List ℕ → ℕ
   -- what refuses a state given as a value: 34
-  pub stateNumber : State → ℕ
+  pub stateNumber : S → ℕ
   -- what refuses an image: 31 to 34
   pub imageNumber : List ℕ → ℕ
   -- the length of an image, the image of a state, the state of an image, the fresh state
   pub imageLength : ℕ
-  pub image : State → List ℕ
-  pub ofImage : List ℕ → State
-  pub fresh : State
+  pub image : S → List ℕ
+  pub ofImage : List ℕ → S
+  pub fresh : S

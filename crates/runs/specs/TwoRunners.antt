@@ -7,11 +7,8 @@ use mathlib.Core.Option.{Option, none, some}
 use lib.Dec.{leb}
 use lib.ListN.{length, drop}
 use Rattle.runs.specs.Machine.{Machine, Out, stop, went}
+use Rattle.runs.specs.Refusals.{cycleLimit, firstOf, unless}
 use Rattle.runs.specs.Reports.{clocksPerCycle}
-
--- "Cycle number, at most 2^48 - 1."
-abbrev pub cycleLimit : ℕ
-cycleLimit = 2 ^ 48 - 1
 
 -- "a run of n cycles that isn't refused is lent a log of at least 8n + 8 bytes" (demand 3)
 abbrev pub logBound : ℕ → ℕ
@@ -59,20 +56,9 @@ pub record Stepped (S : Type 0) : Type 0 where
   pub ran : Ran S
   pub steps : ℕ
 
--- the first of the numbers that isn't 0
-unfoldable pub firstOf : List ℕ → ℕ
-firstOf [] = 0
-firstOf (zero ∷ ks) = firstOf ks
-firstOf (suc k ∷ ks) = suc k
-
--- no number where the test holds, else k
-abbrev pub unless : Bool → ℕ → ℕ
-unless true k = 0
-unless false k = k
-
-abbrev pub endOf : Option ℕ → End
-endOf none = finished
-endOf (some k) = stopped k
+abbrev pub endWith : Option ℕ → End
+endWith none = finished
+endWith (some k) = stopped k
 
 module _ {S : Type 0} where
   -- no cycle: at the end of n, or at the boundary of a stop
@@ -115,21 +101,21 @@ abbrev pub strideOf : ℕ → ℕ
 strideOf zero = 1
 strideOf (suc j) = suc j
 
-module _ (M : Machine) where
+module _ {S : Type 0} (M : Machine S) where
   -- "The unbroken run is the machine cycle above, N times or up to a stop, from the same state, ROM and schedule, with
   -- room in its log for every record."
-  unfoldable pub unbroken : List ℕ → List ℕ → ℕ → M .State → Ran (M .State)
+  unfoldable pub unbroken : List ℕ → List ℕ → ℕ → S → Ran S
   unbroken rom sched zero s = still s none
   unbroken rom sched (suc n) s = onOut (M .cycle rom sched s) s (λ t. unbroken rom sched n t)
 
   -- The same on a log with room for so many bytes: "3 the log lacks the 8 or 16 bytes of the next instruction", and
   -- "22, 23 and 3, in that order .. are stops: the cycle isn't begun, and the answer stands at its boundary. n = 0 finishes."
-  unfoldable pub within : List ℕ → List ℕ → ℕ → ℕ → M .State → Ran (M .State)
+  unfoldable pub within : List ℕ → List ℕ → ℕ → ℕ → S → Ran S
   within rom sched room zero s = still s none
   within rom sched room (suc n) s = onOutWithin (M .cycle rom sched s) s room (λ t left. within rom sched left n t)
 
   -- The timer-skipping run on such a log, step by step. `fuel` bounds the steps: as many as there are cycles are enough.
-  unfoldable pub strides : List ℕ → List ℕ → ℕ → ℕ → ℕ → M .State → Stepped (M .State)
+  unfoldable pub strides : List ℕ → List ℕ → ℕ → ℕ → ℕ → S → Stepped S
   strides rom sched zero room n s = record { ran = still s none; steps = 0 }
   strides rom sched (suc fuel) room zero s = record { ran = still s none; steps = 0 }
   strides rom sched (suc fuel) room (suc n) s =
@@ -138,15 +124,15 @@ module _ (M : Machine) where
       onStride r (r .number) (strides rom sched fuel (room - length (r .bytes)) (suc n - stride) (r .state))
 
   -- "A run checks 21, 12, 11, 13/14, 34, 2"; "2 cycle number + n above 2^48 - 1"
-  unfoldable pub runNumber : List ℕ → List ℕ → M .State → ℕ → ℕ
+  unfoldable pub runNumber : List ℕ → List ℕ → S → ℕ → ℕ
   runNumber rom sched s n = firstOf (M .panelNumber rom sched ∷ M .stateNumber s ∷ unless (leb (M .at s + n) cycleLimit) 2 ∷ [])
 
   -- What a run answers whose refusal is k, whose cycles come to r, on the state s and the log given.
   -- "A run starts at the lent log's first byte; each record it writes into the part of the log that is still empty."
   -- "These change nothing, with all counts 0; a refused run answers the state given"
-  abbrev pub told : ℕ → Stepped (M .State) → M .State → List ℕ → RunAnswer (M .State)
+  abbrev pub told : ℕ → Stepped S → S → List ℕ → RunAnswer S
   told zero r s log = record {
-    end = endOf (r .ran .number);
+    end = endWith (r .ran .number);
     state = r .ran .state;
     cycles = r .ran .cycles;
     clocks = clocksPerCycle * r .ran .cycles;
@@ -158,19 +144,19 @@ module _ (M : Machine) where
   told (suc k) r s log = record { end = refused (suc k); state = s; cycles = 0; clocks = 0; begun = 0; written = 0; steps = 0; log = log }
 
   -- "The plain one takes one step a cycle."
-  abbrev pub stepwise : Ran (M .State) → Stepped (M .State)
+  abbrev pub stepwise : Ran S → Stepped S
   stepwise r = record { ran = r; steps = r .cycles }
 
   -- THE PLAIN RUNNER: ROM, schedule, state, log, n
-  unfoldable pub plain : List ℕ → List ℕ → M .State → List ℕ → ℕ → RunAnswer (M .State)
+  unfoldable pub plain : List ℕ → List ℕ → S → List ℕ → ℕ → RunAnswer S
   plain rom sched s log n = told (runNumber rom sched s n) (stepwise (within rom sched (length log) n s)) s log
 
   -- THE TIMER-SKIPPING RUNNER
-  unfoldable pub skipping : List ℕ → List ℕ → M .State → List ℕ → ℕ → RunAnswer (M .State)
+  unfoldable pub skipping : List ℕ → List ℕ → S → List ℕ → ℕ → RunAnswer S
   skipping rom sched s log n = told (runNumber rom sched s n) (strides rom sched n (length log) n s) s log
 
   -- "save 34, 1"; "1 image buffer under 81 bytes"
-  unfoldable pub saveNumber : M .State → List ℕ → ℕ
+  unfoldable pub saveNumber : S → List ℕ → ℕ
   saveNumber s buffer = firstOf (M .stateNumber s ∷ unless (leb (M .imageLength) (length buffer)) 1 ∷ [])
 
   abbrev pub put : ℕ → List ℕ → List ℕ → SaveAnswer
@@ -178,13 +164,13 @@ module _ (M : Machine) where
   put (suc k) bytes buffer = record { number = suc k; buffer = buffer }
 
   -- SAVE: "and then writes 81 bytes only"
-  unfoldable pub saved : M .State → List ℕ → SaveAnswer
-  saved s buffer = put (saveNumber s buffer) (M .image s) buffer
+  unfoldable pub saveAnswer : S → List ℕ → SaveAnswer
+  saveAnswer s buffer = put (saveNumber s buffer) (M .image s) buffer
 
-  abbrev pub got : ℕ → M .State → RestoreAnswer (M .State)
+  abbrev pub got : ℕ → S → RestoreAnswer S
   got zero s = record { number = 0; state = s }
   got (suc k) s = record { number = suc k; state = M .fresh }
 
   -- RESTORE: "restore 31 to 34", "a refused restore the fresh state"
-  unfoldable pub restored : List ℕ → RestoreAnswer (M .State)
-  restored bytes = got (M .imageNumber bytes) (M .ofImage bytes)
+  unfoldable pub restoreAnswer : List ℕ → RestoreAnswer S
+  restoreAnswer bytes = got (M .imageNumber bytes) (M .ofImage bytes)

@@ -2,7 +2,7 @@
 // It may not know the chip: instructions, timer, lines and the image's layout stand behind the record `Machine`.
 ghost use mathlib.Core.Path.{_≡_};
 ghost use Prim.Native.Nat.{_≤_};
-ghost use Rattle.runs.specs.TwoRunners.{cycleLimit};
+ghost use Rattle.runs.specs.Refusals.{cycleLimit};
 ghost use Rattle.runs.specs.Numbers.{stopNumber, refusalNumber, endNumber, outcomeNumber};
 ghost use Rattle.runs.specs.Reports.{clocksOf};
 

@@ -7,7 +7,7 @@ use upd546::Lines;
 ghost use mathlib.Core.Path.{_≡_};
 ghost use Prim.Native.Nat.{_+_, _<_, _≤_};
 ghost use Rattle.runs.specs.Numbers.{outcomeNumber};
-ghost use Rattle.runs.specs.TwoRunners.{cycleLimit};
+ghost use Rattle.runs.specs.Refusals.{cycleLimit};
 ghost use Rattle.upd546.specs.TheLineSchedule.{recordLength, recordCount, recordByte, recordCycle, recordLines, recordNumber, scheduleNumber};
 ghost use Rattle.schedule.specs.Cursor.{nextCycle, linesAfter, Counted, Stands};
 

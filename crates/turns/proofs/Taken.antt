@@ -5,7 +5,8 @@ use Prim.Native.Nat.{ℕ, _+_, _≤_}
 use lib.Dec.{eqb, leb}
 use lib.ListN.{length}
 use borrow.Author.Tests.{eqb-true, leb-true}
-use Rattle.runs.specs.TwoRunners.{cycleLimit, runNumber}
+use Rattle.runs.specs.TwoRunners.{runNumber}
+use Rattle.runs.specs.Refusals.{cycleLimit}
 use Rattle.runs.proofs.Refusals.{first-at, passes}
 use Rattle.upd546.specs.declared.State.{State}
 use Rattle.upd546.specs.TheMachine.{romLength}

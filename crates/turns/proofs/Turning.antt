@@ -12,8 +12,9 @@ use lib.Seq.{drop-drop, take-at, drop-at}
 use borrow.Author.Tests.{leb-true, leb-false}
 use borrow.Rule.Slice.PartMut.{midOf, putMid}
 use Rattle.runs.specs.Machine.{Out, stop, went}
-use Rattle.runs.specs.TwoRunners.{cycleLimit, still, endOf, strideOf, runNumber, within, told, plain, skipping}
-use Rattle.runs.specs.TwoRunners.{Stepped as Steps}
+use Rattle.runs.specs.TwoRunners.{still, endWith, strideOf, runNumber, within, told, plain, skipping}
+use Rattle.runs.specs.Refusals.{cycleLimit}
+use Rattle.runs.specs.TwoRunners.{Stepped}
 use Rattle.runs.specs.Laws.{Bytes, Panel}
 use Rattle.runs.proofs.Loop.{sofar, one-stops, one-fills, one-goes, onwards, spanOf, Halfway, loop-starts, loop-ends, loop-stops, loop-goes}
 use Rattle.upd546.specs.declared.Core.{Core}
@@ -21,18 +22,20 @@ use Rattle.upd546.specs.declared.Lines.{Lines}
 use Rattle.upd546.specs.declared.State.{State}
 use Rattle.upd546.specs.TheLineSchedule.{scheduleNumber}
 use Rattle.upd546.specs.OneMachineCycle.{accepts, onAccepts, cycle}
-use Rattle.upd546.specs.TwoRunners.{jumpLength, jumpedCore, jumped, upd546}
+use Rattle.upd546.specs.TwoRunners.{jumpLength, upd546}
+use Rattle.laws.specs.Jump.{coreAfterJump, stateAfterJump}
 use Rattle.tables.specs.Tables.{instructionTable, positionTable, registerTable}
 use Rattle.laws.specs.Valid.{Valid, ValidLines}
 use Rattle.laws.proofs.Sound.{accepted-valid}
 use Rattle.laws.proofs.Lines.{lines-valid}
 use Rattle.laws.proofs.Cycle.{Cycled, cycle-keeps}
-use Rattle.laws.proofs.Stops.{StopNumber, stop-number}
+use Rattle.laws.proofs.Stops.{stop-number}
+use Rattle.laws.specs.Stops.{StopNumber}
 use Rattle.laws.proofs.Jump.{jump-within, jump-runs, jump-ticks, jump-in-room, jump-keeps}
 use Rattle.schedule.specs.declared.Cursor.{Cursor}
 use Rattle.schedule.specs.Cursor.{Stands}
 use Rattle.laws.proofs.Tails.{mid-tail, put-tail}
-use Rattle.cycle.specs.declared.Stepped.{Stepped}
+use Rattle.cycle.specs.declared.CycleResult.{CycleResult}
 use Rattle.cycle.specs.Answer.{CycleAnswer, stateOf, cycleOf, cycleAnswer, Ready}
 use Rattle.jump.specs.Boundary.{Boundary, Jumpable}
 use Rattle.jump.proofs.Lengths.{stands-last}
@@ -40,7 +43,7 @@ use Rattle.turns.specs.Either.{runBy, jumpBy}
 use Rattle.turns.proofs.Taken.{Taken, run-taken}
 
 -- the whole run, of the runner that `skips` chooses
-abbrev whole : Bool → List ℕ → List ℕ → List ℕ → ℕ → State → Steps State
+abbrev whole : Bool → List ℕ → List ℕ → List ℕ → ℕ → State → Stepped State
 whole skips rom sched log₀ n s = onwards upd546 rom sched skips n (length log₀) n s
 
 -- Where the loop stands, after `done` cycles of the run from s, at the state t. `w` is what has been written.
@@ -139,12 +142,12 @@ module _ {skips : Bool} {rom sched log₀ : List ℕ} {n : ℕ} {s : State} {log
 
   -- what is answered, where the run came to so much
   tells : (o : Option ℕ) → whole skips rom sched log₀ n s ≡ record { ran = sofar t (h .w) done begun o; steps = done - spared }
-      → record { end = endOf o; state = t; cycles = done; clocks = 4 * done; begun = begun; written = at; steps = done - spared; log = log }
+      → record { end = endWith o; state = t; cycles = done; clocks = 4 * done; begun = begun; written = at; steps = done - spared; log = log }
       ≡ runBy skips rom sched s log₀ n
   tells o e = rw (run-by skips rom sched log₀ n s, h .number, e, h .place, h .log-is)
 
   pub finishes : n ≤ done
-      → record { end = endOf none; state = t; cycles = done; clocks = 4 * done; begun = begun; written = at; steps = done - spared; log = log }
+      → record { end = endWith none; state = t; cycles = done; clocks = 4 * done; begun = begun; written = at; steps = done - spared; log = log }
       ≡ runBy skips rom sched s log₀ n
   finishes g =
       let z : n - done ≡ 0 = omega (arith, h .not-past) in
@@ -203,7 +206,7 @@ module _ {skips : Bool} {rom sched log₀ : List ℕ} {n : ℕ} {s : State} {log
     pub some-ahead : j ≡ 0 → ⊥
 
   -- THE NEXT STEP is one cycle, which answers r and leaves RAM, latches and the part of the log that it was lent
-  pub record OneCycle (r : Stepped) (ram ports part : List ℕ) : Type 0 where
+  pub record OneCycle (r : CycleResult) (ram ports part : List ℕ) : Type 0 where
     pub more : done < n
     pub none-ahead : 0 ≡ jumpBy skips rom sched t (n - done)
     pub answers : cycleOf r ram ports part ≡ cycleAnswer (onAccepts (accepts (t .core)) rom (cursor .lines) t) t (midOf at (length log - at) log)
@@ -245,15 +248,15 @@ module _ {skips : Bool} {rom sched log₀ : List ℕ} {n : ℕ} {s : State} {log
       (stands-last rom sched t (n - done) j cursor (taken h .schedule) (h .stands) (omega (arith, h .rises, limit h)) length-is (k .some-ahead))
 
   pub jumps-on : (next : Cursor) → Stands sched (t .cycle .0 + (j - 1) + 1) next
-      → {t′ : State} → t′ ≡ stateOf (jumpedCore j (t .core)) (t .ram) (t .ports) (s .cycle .0 + (done + j))
+      → {t′ : State} → t′ ≡ stateOf (coreAfterJump j (t .core)) (t .ram) (t .ports) (s .cycle .0 + (done + j))
       → At skips rom sched log₀ n s log t′ next at (done + j) (begun + j) (spared + (j - 1))
   jumps-on next stands q =
-      let panel : Panel upd546 rom sched = record { rom-bytes = h .rom-bytes; sched-bytes = h .sched-bytes; accepted = taken h .panel } in
+      let panel : Panel upd546 rom sched = record { rom-bytes = h .rom-bytes; sched-bytes = h .sched-bytes; not-refused = taken h .panel } in
       let up : t .cycle .0 + j ≡ s .cycle .0 + (done + j) = omega (arith, h .rises) in
-      let to-is = q ∙ ap (λ (c : ℕ). stateOf (jumpedCore j (t .core)) (t .ram) (t .ports) c) (sym up) in
+      let to-is = q ∙ ap (λ (c : ℕ). stateOf (coreAfterJump j (t .core)) (t .ram) (t .ports) c) (sym up) in
       let steps = steps-after done spared j (h .less) (k .some-ahead) in
       let left = left-after n done j (k .more) in
-      let half = loop-goes upd546 rom sched skips _ (length log₀) t (h .w) done begun (done - spared) (n - (done + 1)) (on h (k .more)) (jumped j t) [] j j
+      let half = loop-goes upd546 rom sched skips _ (length log₀) t (h .w) done begun (done - spared) (n - (done + 1)) (on h (k .more)) (stateAfterJump j t) [] j j
       (jump-span skips (k .ahead)) (some-one j (k .some-ahead)) (jump-in-room rom sched t (n - done) j length-is (k .some-ahead) (h .valid) (length log₀ - length (h .w))) in
       rw to-is
       (record {
@@ -276,14 +279,14 @@ module _ {skips : Bool} {rom sched log₀ : List ℕ} {n : ℕ} {s : State} {log
       })
 
   pub jumps-forward : {log′ ram′ ports′ : List ℕ} {core′ : Core} {at′ begun′ spared′ span : ℕ} → log′ ≡ log
-      → core′ ≡ jumpedCore j (t .core) → ram′ ≡ t .ram → ports′ ≡ t .ports → at′ ≡ at → begun′ ≡ begun + j → spared′ ≡ spared + (j - 1) → span ≡ j
+      → core′ ≡ coreAfterJump j (t .core) → ram′ ≡ t .ram → ports′ ≡ t .ports → at′ ≡ at → begun′ ≡ begun + j → spared′ ≡ spared + (j - 1) → span ≡ j
       → Forward skips rom sched log₀ n s t cursor done log′ core′ ram′ ports′ at′ begun′ spared′ span
   jumps-forward e₁ e₂ e₃ e₄ e₅ e₆ e₇ e₈ =
       rw (e₁, e₂, e₃, e₄, e₅, e₆, e₇, e₈)
       (record { some-cycles = some-one j (k .some-ahead); within-run = within-run; stands = stands-before; on = λ next stands. jumps-on next stands refl })
 
 module _ {skips : Bool} {rom sched log₀ : List ℕ} {n : ℕ} {s : State} {log : List ℕ} {t : State} {cursor : Cursor} {at done begun spared : ℕ}
-    {h : At skips rom sched log₀ n s log t cursor at done begun spared} {r : Stepped} {ram ports part : List ℕ} (k : OneCycle h r ram ports part) where
+    {h : At skips rom sched log₀ n s log t cursor at done begun spared} {r : CycleResult} {ram ports part : List ℕ} (k : OneCycle h r ram ports part) where
   one-cycle-span : (b : Bool) → 0 ≡ jumpBy b rom sched t (n - done) → spanOf upd546 rom sched b t (suc (n - (done + 1))) ≡ 1
   one-cycle-span false e = refl
   one-cycle-span true e = ap strideOf (sym (rw (one-more h (k .more)) at e))
@@ -294,7 +297,7 @@ module _ {skips : Bool} {rom sched log₀ : List ℕ} {n : ℕ} {s : State} {log
   answer-is : cycleOf r ram ports part ≡ cycleAnswer (cycle rom sched t) t (midOf at (length log - at) log)
   answer-is = k .answers ∙ ap (λ (o : Out State). cycleAnswer o t (midOf at (length log - at) log)) (cycle-lines h (k .more))
 
-  stopped-at : ℕ → Steps State
+  stopped-at : ℕ → Stepped State
   stopped-at i = record { ran = sofar t (h .w) done begun (some i); steps = done - spared }
 
   stopped : (i : ℕ) → within upd546 rom sched (length log₀ - length (h .w)) 1 t ≡ still t (some i) → whole skips rom sched log₀ n s ≡ stopped-at i
@@ -347,7 +350,7 @@ module _ {skips : Bool} {rom sched log₀ : List ℕ} {n : ℕ} {s : State} {log
   -- the answer of a run that stops here
   pub stops : (g : r .stop ≡ 0 → ⊥) → {state : State} → state ≡ stateOf (t .core) ram ports (t .cycle .0)
       → record {
-        end = endOf (some (r .stop));
+        end = endWith (some (r .stop));
         state = state;
         cycles = done;
         clocks = 4 * done;

@@ -29,7 +29,7 @@ pub record Ahead (skips : Bool) (rom sched : List ℕ) (pc owed : ℕ) (interrup
 
 -- what the loop starts with: a run that isn't refused, the tables, and a cursor that stands at the state's cycle
 pub record Set (rom sched table positions registers : List ℕ) (s : State) (first : Cursor) (n : ℕ) : Type 0 where
-  pub taken : runNumber upd546 rom sched s n ≡ 0
+  pub not-refused : runNumber upd546 rom sched s n ≡ 0
   pub instructions : table ≡ instructionTable
   pub position-table : positions ≡ positionTable
   pub register-table : registers ≡ registerTable

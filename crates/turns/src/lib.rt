@@ -19,11 +19,11 @@ use upd546::Timer;
 ghost use mathlib.Core.Path.{_≡_};
 ghost use Prim.Native.Nat.{_-_, _*_, _≤_};
 ghost use Rattle.runs.specs.Numbers.{stopNumber};
-ghost use Rattle.runs.specs.TwoRunners.{cycleLimit};
+ghost use Rattle.runs.specs.Refusals.{cycleLimit};
 ghost use Rattle.upd546.specs.TwoRunners.{answerOf};
 ghost use Rattle.cycle.specs.Answer.{stateOf};
 ghost use Rattle.jump.specs.Boundary.{Boundary};
-ghost use Rattle.laws.proofs.Stops.{StopNumber};
+ghost use Rattle.laws.specs.Stops.{StopNumber};
 ghost use Rattle.turns.specs.Either.{Ahead, Set, runBy};
 
 // The stop of a number.
@@ -108,7 +108,7 @@ fn jump_ahead(
 
 // The loop of both runners, from the state s on with its cursor and the tables. `spared` counts the cycles that took no step of
 // their own.
-pub fn take(
+pub fn run_loop(
     rom: &[u8],
     sched: &[u8],
     table: &InstructionTable,
@@ -149,7 +149,7 @@ pub fn take(
         );
         let mut span: u64 = 1;
         if j != 0 {
-            core = jump::jumped(positions, registers, core, j);
+            core = jump::core_after_jump(positions, registers, core, j);
             begun = begun + j;
             spared = spared + (j - 1);
             span = j;

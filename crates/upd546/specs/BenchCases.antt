@@ -3,13 +3,14 @@ use Prim.Native.Nat.{ℕ, _+_, _-_}
 use mathlib.Core.Bool.{Bool, true, _&&_}
 use mathlib.Core.List.{List, [], _∷_, _++_}
 use lib.ListN.{length, replicate}
-use Rattle.runs.specs.TwoRunners.{RunAnswer, cycleLimit, unbroken, runNumber, skipping}
+use Rattle.runs.specs.TwoRunners.{RunAnswer, unbroken, runNumber, skipping}
+use Rattle.runs.specs.Refusals.{cycleLimit}
 use Rattle.upd546.specs.declared.Core.{Core}
 use Rattle.upd546.specs.declared.State.{State}
 use Rattle.upd546.specs.TheMachine.{romLength, fresh, wordAt, withWord, wordX}
 use Rattle.upd546.specs.Parts.{setAcc, setCarry, setDph, setPc, setInt, setOwed}
 use Rattle.upd546.specs.StateImage.{imageOf, ofImage}
-use Rattle.upd546.specs.Tests.{sameNumbers}
+use Rattle.upd546.specs.Checks.{sameNumbers}
 use Rattle.upd546.specs.TwoRunners.{upd546}
 use Rattle.upd546.specs.Reports.{heading, newline, traceText}
 
@@ -38,8 +39,8 @@ abbrev pub fromWord : (Core → Core) → ℕ → ℕ → State
 fromWord f a v = record { core = f (fresh .core); ports = fresh .ports; ram = withWord (fresh .ram) a v; cycle = fresh .cycle }
 
 -- the state after n cycles of a ROM with no schedule
-abbrev pub after : ℕ → List ℕ → State → State
-after n rom s = unbroken upd546 rom [] n s .state
+abbrev pub stateAfter : ℕ → List ℕ → State → State
+stateAfter n rom s = unbroken upd546 rom [] n s .state
 
 -- what is looked at, of a state and of an answer
 abbrev pub see : (State → List ℕ) → State → List ℕ
@@ -60,47 +61,47 @@ carryOf s = s .core .registers .carry
 abbrev pub cases : List Case
 cases =
     -- P: STM 80 at cycle 0: TTM at 64 doesn't skip
-    record { given = pcOf (after 65 (romAt 0 (0x14 ∷ 0x80 ∷ replicate 70 0x05)) fresh) ∷ []; wanted = 65 ∷ [] }
+    record { given = pcOf (stateAfter 65 (romAt 0 (0x14 ∷ 0x80 ∷ replicate 70 0x05)) fresh) ∷ []; wanted = 65 ∷ [] }
     -- P: at 65 skips
-    ∷ record { given = pcOf (after 66 (romAt 0 (0x14 ∷ 0x80 ∷ replicate 70 0x05)) fresh) ∷ []; wanted = 67 ∷ [] }
+    ∷ record { given = pcOf (stateAfter 66 (romAt 0 (0x14 ∷ 0x80 ∷ replicate 70 0x05)) fresh) ∷ []; wanted = 67 ∷ [] }
     -- P: STM BF: TTM at 4,033 doesn't skip (NOP, and then TTM in the odd cycles)
-    ∷ record { given = pcOf (after 4034 (romAt 0 (0x14 ∷ 0xBF ∷ 0x00 ∷ 0x05 ∷ 0xC3 ∷ [])) fresh) ∷ []; wanted = 4 ∷ [] }
+    ∷ record { given = pcOf (stateAfter 4034 (romAt 0 (0x14 ∷ 0xBF ∷ 0x00 ∷ 0x05 ∷ 0xC3 ∷ [])) fresh) ∷ []; wanted = 4 ∷ [] }
     -- P: and at 4,034 skips (TTM in the even cycles)
-    ∷ record { given = pcOf (after 4035 (romAt 0 (0x14 ∷ 0xBF ∷ 0x05 ∷ 0xC2 ∷ [])) fresh) ∷ []; wanted = 4 ∷ [] }
+    ∷ record { given = pcOf (stateAfter 4035 (romAt 0 (0x14 ∷ 0xBF ∷ 0x05 ∷ 0xC2 ∷ [])) fresh) ∷ []; wanted = 4 ∷ [] }
     -- P: TC with C=1 before CI costs 3: 2 are owed after its first cycle
-    ∷ record { given = see (λ t. pcOf t ∷ t .core .owed ∷ []) (after 1 (romAt 0 (0x04 ∷ 0x17 ∷ [])) (from (setCarry 1))); wanted = 3 ∷ 2 ∷ [] }
+    ∷ record { given = see (λ t. pcOf t ∷ t .core .owed ∷ []) (stateAfter 1 (romAt 0 (0x04 ∷ 0x17 ∷ [])) (from (setCarry 1))); wanted = 3 ∷ 2 ∷ [] }
     -- P: before NOP 2
-    ∷ record { given = see (λ t. pcOf t ∷ t .core .owed ∷ []) (after 1 (romAt 0 (0x04 ∷ 0x00 ∷ [])) (from (setCarry 1))); wanted = 2 ∷ 1 ∷ [] }
+    ∷ record { given = see (λ t. pcOf t ∷ t .core .owed ∷ []) (stateAfter 1 (romAt 0 (0x04 ∷ 0x00 ∷ [])) (from (setCarry 1))); wanted = 2 ∷ 1 ∷ [] }
     -- P: NOP at 1FF leads to 100
-    ∷ record { given = pcOf (after 1 (romAt 0 []) (from (setPc 0x1FF))) ∷ []; wanted = 0x100 ∷ [] }
+    ∷ record { given = pcOf (stateAfter 1 (romAt 0 []) (from (setPc 0x1FF))) ∷ []; wanted = 0x100 ∷ [] }
     -- P: BF calls 03C
-    ∷ record { given = see (λ t. pcOf t ∷ t .core .flow .stack) (after 1 (romAt 0 (0xBF ∷ [])) fresh); wanted = 0x03C ∷ 1 ∷ 0 ∷ 0 ∷ [] }
+    ∷ record { given = see (λ t. pcOf t ∷ t .core .flow .stack) (stateAfter 1 (romAt 0 (0xBF ∷ [])) fresh); wanted = 0x03C ∷ 1 ∷ 0 ∷ 0 ∷ [] }
     -- P: DEM in row 5 skips, stores nothing
-    ∷ record { given = see (λ t. pcOf t ∷ t .ram) (after 1 (romAt 0 (0x1F ∷ [])) (from (setDph 5))); wanted = 2 ∷ fresh .ram }
+    ∷ record { given = see (λ t. pcOf t ∷ t .ram) (stateAfter 1 (romAt 0 (0x1F ∷ [])) (from (setDph 5))); wanted = 2 ∷ fresh .ram }
     -- P: XHX with DPH 5, X 9: DPH 1, X 5
     ∷ record {
-      given = see (λ t. t .core .registers .dph ∷ wordAt (t .ram) wordX ∷ []) (after 1 (romAt 0 (0x4F ∷ [])) (fromWord (setDph 5) wordX 9));
+      given = see (λ t. t .core .registers .dph ∷ wordAt (t .ram) wordX ∷ []) (stateAfter 1 (romAt 0 (0x4F ∷ [])) (fromWord (setDph 5) wordX 9));
       wanted = 1 ∷ 5 ∷ [];
     }
     -- P: RAR of 1, C=0: Acc 0, C 1
-    ∷ record { given = see (λ t. accOf t ∷ carryOf t ∷ []) (after 1 (romAt 0 (0x30 ∷ [])) (from (setAcc 1))); wanted = 0 ∷ 1 ∷ [] }
+    ∷ record { given = see (λ t. accOf t ∷ carryOf t ∷ []) (stateAfter 1 (romAt 0 (0x30 ∷ [])) (from (setAcc 1))); wanted = 0 ∷ 1 ∷ [] }
     -- P: ADS 9+8+1: Acc 2, C 1, skip
     ∷ record {
-      given = see (λ t. accOf t ∷ carryOf t ∷ pcOf t ∷ []) (after 1 (romAt 0 (0x09 ∷ [])) (fromWord (λ c. setCarry 1 (setAcc 9 c)) 0 8));
+      given = see (λ t. accOf t ∷ carryOf t ∷ pcOf t ∷ []) (stateAfter 1 (romAt 0 (0x09 ∷ [])) (fromWord (λ c. setCarry 1 (setAcc 9 c)) 0 8));
       wanted = 2 ∷ 1 ∷ 2 ∷ [];
     }
     -- P: JCP C5 at 03F goes to 005
-    ∷ record { given = pcOf (after 1 (romAt 0x03F (0xC5 ∷ [])) (from (setPc 0x03F))) ∷ []; wanted = 0x005 ∷ [] }
+    ∷ record { given = pcOf (stateAfter 1 (romAt 0x03F (0xC5 ∷ [])) (from (setPc 0x03F))) ∷ []; wanted = 0x005 ∷ [] }
     -- P: with INT set, EI then NOP: no acceptance before NOP
-    ∷ record { given = pcOf (after 2 (romAt 0 (0x31 ∷ [])) (from (setInt 1))) ∷ []; wanted = 2 ∷ [] }
+    ∷ record { given = pcOf (stateAfter 2 (romAt 0 (0x31 ∷ [])) (from (setInt 1))) ∷ []; wanted = 2 ∷ [] }
     -- P: acceptance follows NOP
     ∷ record {
-      given = see (λ t. pcOf t ∷ t .core .flow .stack ++ (t .core .interrupt .int ∷ t .core .interrupt .inte ∷ [])) (after 3 (romAt 0 (0x31 ∷ [])) (from (setInt 1)));
+      given = see (λ t. pcOf t ∷ t .core .flow .stack ++ (t .core .interrupt .int ∷ t .core .interrupt .inte ∷ [])) (stateAfter 3 (romAt 0 (0x31 ∷ [])) (from (setInt 1)));
       wanted = 0x03C ∷ 2 ∷ 0 ∷ 0 ∷ 0 ∷ 0 ∷ [];
     }
     -- P: a fourth call loses the first return (calls at 000, 004, 008 and 00C)
     ∷ record {
-      given = after 4 (romAt 0 (0xB1 ∷ 0 ∷ 0 ∷ 0 ∷ 0xB2 ∷ 0 ∷ 0 ∷ 0 ∷ 0xB3 ∷ 0 ∷ 0 ∷ 0 ∷ 0xB4 ∷ [])) fresh .core .flow .stack;
+      given = stateAfter 4 (romAt 0 (0xB1 ∷ 0 ∷ 0 ∷ 0 ∷ 0xB2 ∷ 0 ∷ 0 ∷ 0 ∷ 0xB3 ∷ 0 ∷ 0 ∷ 0 ∷ 0xB4 ∷ [])) fresh .core .flow .stack;
       wanted = 0x00D ∷ 0x009 ∷ 0x005 ∷ [];
     }
     -- cycle limit reached exactly is taken, one more is 2
@@ -110,7 +111,7 @@ cases =
     }
     -- misleading: AD setting C (9+8: Acc 1, C as it was, skip)
     ∷ record {
-      given = see (λ t. accOf t ∷ carryOf t ∷ pcOf t ∷ []) (after 1 (romAt 0 (0x08 ∷ [])) (fromWord (setAcc 9) 0 8));
+      given = see (λ t. accOf t ∷ carryOf t ∷ pcOf t ∷ []) (stateAfter 1 (romAt 0 (0x08 ∷ [])) (fromWord (setAcc 9) 0 8));
       wanted = 1 ∷ 0 ∷ 2 ∷ [];
     }
     -- misleading: dropping owed cycles on save

@@ -126,8 +126,8 @@ abbrev pub di : Instruction
 di = oneCycle λ g. leaves g (setInte 0 (next g))
 
 -- "02 S (M=Acc)"
-abbrev pub s : Instruction
-s = oneCycle λ g. stores (acc g) (leaves g (next g))
+abbrev pub sM : Instruction
+sM = oneCycle λ g. stores (acc g) (leaves g (next g))
 
 -- "03 TIT skip if INT, INT=0"
 abbrev pub tit : Instruction
@@ -450,7 +450,7 @@ fours a b c d = replicate 4 a ++ replicate 4 b ++ replicate 4 c ++ replicate 4 d
 
 abbrev pub codes : List (List Instruction)
 codes =
-    (nop ∷ di ∷ s ∷ tit ∷ tc ∷ ttm ∷ daa ∷ tal ∷ ad ∷ ads ∷ das ∷ clc ∷ cm ∷ inc ∷ op ∷ dec ∷ [])
+    (nop ∷ di ∷ sM ∷ tit ∷ tc ∷ ttm ∷ daa ∷ tal ∷ ad ∷ ads ∷ das ∷ clc ∷ cm ∷ inc ∷ op ∷ dec ∷ [])
     ∷ (cma ∷ cia ∷ tla ∷ ded ∷ stm ∷ ldi ∷ cli ∷ ci ∷ exl ∷ adc ∷ xc ∷ stc ∷ none ∷ inm ∷ ocd ∷ dem ∷ [])
     ∷ fours fbf tab xm xmd
     ∷ ((rar ∷ ei ∷ ip ∷ ind ∷ []) ++ replicate 4 cmb ++ replicate 4 lm ++ replicate 4 xmi)

@@ -1,5 +1,5 @@
 pub mod Bytes
-pub mod Tests
+pub mod Checks
 pub mod TheMachine
 pub mod Parts
 pub mod TheLineSchedule

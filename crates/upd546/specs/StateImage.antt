@@ -4,7 +4,7 @@ use mathlib.Core.Bool.{Bool, _&&_, _||_}
 use mathlib.Core.List.{List, [], _∷_, _++_}
 use lib.Dec.{eqb, leb, ltb}
 use lib.ListN.{length, getD}
-use Rattle.runs.specs.TwoRunners.{cycleLimit, firstOf, unless}
+use Rattle.runs.specs.Refusals.{cycleLimit, firstOf, unless}
 use Rattle.upd546.specs.declared.Registers.{Registers}
 use Rattle.upd546.specs.declared.Flow.{Flow}
 use Rattle.upd546.specs.declared.Interrupt.{Interrupt}
@@ -13,7 +13,7 @@ use Rattle.upd546.specs.declared.Core.{Core}
 use Rattle.upd546.specs.declared.State.{State}
 use Rattle.upd546.specs.TheMachine.{addresses, stackDepth, latches, ramLength, dpOf, markStm, entries}
 use Rattle.upd546.specs.Bytes.{bitAt, part, numberAt, bytesOf}
-use Rattle.upd546.specs.Tests.{allOf, allBelow, sameNumbers}
+use Rattle.upd546.specs.Checks.{allOf, allBelow, sameNumbers}
 
 -- "State image, 81 bytes"
 abbrev pub imageLength : ℕ

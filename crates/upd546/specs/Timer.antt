@@ -1,5 +1,5 @@
 -- Document 01, "Timer". Assumes nothing: these are definitions.
-use Prim.Native.Nat.{ℕ, zero, suc, _+_, _-_, _*_, _/_, _%_}
+use Prim.Native.Nat.{ℕ, zero, suc, _+_, _-_, _*_, _%_}
 use mathlib.Core.Bool.{true, false, cond}
 use lib.Dec.{eqb}
 use Rattle.upd546.specs.declared.Timer.{Timer}
@@ -32,11 +32,6 @@ tick t =
     (cond (eqb (stepRegister (t .register)) 1) (returnedTimer t)
     (record { tm = t .tm; register = stepRegister (t .register); counter = t .counter }))
 
--- j steps
-unfoldable pub ticks : ℕ → Timer → Timer
-ticks zero t = t
-ticks (suc j) t = ticks j (tick t)
-
 -- the register p steps after 1
 unfoldable pub registerAfter : ℕ → ℕ
 registerAfter zero = 1
@@ -54,8 +49,3 @@ positionOf r = stepsTo (period - 1) 0 1 r
 -- "r, the ticks left: 63 minus position plus 63 times counter"
 unfoldable pub ticksLeft : Timer → ℕ
 ticksLeft t = period - positionOf (t .register) + period * t .counter
-
--- The closed form: the timer that has q ticks left. With none left it has ended.
-unfoldable pub timerLeft : ℕ → ℕ → Timer
-timerLeft tm zero = endedTimer
-timerLeft tm (suc k) = record { tm = tm; register = registerAfter (period - 1 - k % period); counter = k / period }

@@ -6,19 +6,17 @@ use mathlib.Core.List.{List, [], _∷_}
 use lib.Dec.{eqb, leb, ltb}
 use lib.ListN.{length}
 use Rattle.runs.specs.Machine.{Machine}
-use Rattle.runs.specs.TwoRunners.{firstOf, unless}
+use Rattle.runs.specs.Refusals.{firstOf, unless}
 use Rattle.runs.specs.TwoRunners as runners
 use Rattle.runs.specs.Numbers.{endOf, outcomeNumber}
 use Rattle.runs.specs.declared.Outcome.{Outcome}
-use Rattle.upd546.specs.declared.Core.{Core}
 use Rattle.upd546.specs.declared.State.{State}
 use Rattle.upd546.specs.declared.RunAnswer.{RunAnswer}
 use Rattle.upd546.specs.declared.RestoreAnswer.{RestoreAnswer}
-use Rattle.upd546.specs.TheMachine.{romLength, inRom, byteAt, follows, pageOf, markOther, fresh}
-use Rattle.upd546.specs.Tests.{allOf}
-use Rattle.upd546.specs.Parts.{withTimer, setMark}
+use Rattle.upd546.specs.TheMachine.{romLength, inRom, byteAt, follows, pageOf, fresh}
+use Rattle.upd546.specs.Checks.{allOf}
 use Rattle.upd546.specs.TheLineSchedule.{scheduleNumber, linesAt, noRecord}
-use Rattle.upd546.specs.Timer.{ticksLeft, timerLeft}
+use Rattle.upd546.specs.Timer.{ticksLeft}
 use Rattle.upd546.specs.OneMachineCycle.{cycle}
 use Rattle.upd546.specs.StateImage.{imageLength, imageOf, ofImage, stateNumber, imageNumber}
 
@@ -64,22 +62,13 @@ onJump false sched s left = 0
 unfoldable pub jumpLength : List ℕ → List ℕ → State → ℕ → ℕ
 jumpLength rom sched s left = onJump (mayJump rom sched s) sched s left
 
--- What one jump says: j cycles of the loop leave the core as it was, but for mark other and j ticks fewer left.
-unfoldable pub jumpedCore : ℕ → Core → Core
-jumpedCore j c = setMark markOther (withTimer c (timerLeft (c .timer .tm) (ticksLeft (c .timer) - j)))
-
--- that core, RAM and latches as they were, and the cycle number j higher
-abbrev pub jumped : ℕ → State → State
-jumped j s = record { core = jumpedCore j (s .core); ports = s .ports; ram = s .ram; cycle = record { 0 = s .cycle .0 + j } }
-
 -- "21 not 2,000 bytes", before the schedule's numbers
 unfoldable pub panelNumber : List ℕ → List ℕ → ℕ
 panelNumber rom sched = firstOf (unless (eqb (length rom) romLength) 21 ∷ scheduleNumber sched ∷ [])
 
 -- The uPD546 as the runners, save and restore take it.
-abbrev pub upd546 : Machine
+abbrev pub upd546 : Machine State
 upd546 = record {
-  State = State;
   cycle = cycle;
   at = λ s. s .cycle .0;
   jump = jumpLength;

@@ -155,7 +155,7 @@ pub fn fresh_state() -> State
 }
 
 // A core, field by field: the compiler packs the fields of a struct that is copied whole.
-pub fn same(c: Core) -> Core
+pub fn copy_core(c: Core) -> Core
     ensures { λ r. ⌜ r ≡ c ⌝ }
 {
     let stack = c.flow.stack;

@@ -7,18 +7,18 @@ use borrow.Author.Needs.{needs}
 use Rattle.cycle.proofs.finished.Statement.{statement}
 use Rattle.cycle.proofs.finished.Tie as tie
 
-same-requires : tie.Need-same-requires
-same-requires c κs = search needs
+copy-core-requires : tie.Need-copy-core-requires
+copy-core-requires c κs = search needs
 
 ticked-requires : tie.Need-ticked-requires
-ticked-requires c κs = rw (c .before .same .ensures) (c .before .before .pre)
+ticked-requires c κs = rw (c .before .copy-core .ensures) (c .before .before .pre)
 
 returns : tie.Need-returns
 returns c =
-    let at-same = c .before .before in
-    let at-entry = at-same .before in
+    let at-copy-core = c .before .before in
+    let at-entry = at-copy-core .before in
     c .ticked .ensures ∙ ap
-    (λ (x : Core). ticked (setOwed (at-entry .args .owed) (setPc (at-entry .args .pc) x))) (at-same .same .ensures)
+    (λ (x : Core). ticked (setOwed (at-entry .args .owed) (setPc (at-entry .args .pc) x))) (at-copy-core .copy-core .ensures)
 
 pub finished-spec : {M : Type 1} → statement M
-finished-spec = tie.close (tie.spec same-requires ticked-requires returns)
+finished-spec = tie.close (tie.spec copy-core-requires ticked-requires returns)

@@ -45,13 +45,13 @@ use Rattle.runs.proofs.MachineCycles as Y
 use Rattle.runs.proofs.MachineCycles.Laws as Y′
 use Rattle.upd546.specs.TwoRunners.{upd546}
 use Rattle.driver.specs.Lending.{kindOf, broughtTo}
-use Rattle.driver.specs.declared.Machine.{Machine}
+use Rattle.driver.specs.declared.KeptMachine.{KeptMachine}
 use Rattle.driver.specs.declared.Runner.{Runner}
 use Rattle.driver.specs.declared.Report.{Report}
 use Rattle.driver.specs.declared.DriveAnswer.{DriveAnswer}
 use Rattle.driver.proofs.Lent.{Fits, Answers, walk as lent}
-use Rattle.driver.proofs.Machine as T
-use Rattle.driver.proofs.Machine.Laws as T′
+use Rattle.driver.proofs.KeptMachine as T
+use Rattle.driver.proofs.KeptMachine.Laws as T′
 use Rattle.driver.proofs.Runner as K
 use Rattle.driver.proofs.Runner.Laws as K′
 use Rattle.driver.proofs.Report as P
@@ -68,7 +68,7 @@ use Rattle.driver.proofs.drive.Statement as stated
 use Rattle.driver.proofs.drive.Code as code
 
 -- the machine values of a machine, a runner, a count and a report, as the laws of each type spell them
-abbrev mach : Machine → Val
+abbrev mach : KeptMachine → Val
 mach = LL.val T.the-type T′.the-laws
 
 abbrev kinds : Runner → Val
@@ -117,12 +117,12 @@ Forward 𝓤 H A at-mem runs = tripleOf 𝓤 H A forward.signature (forward.spec
 
 module _ {M : Type 1} (𝓤 : URA M) (H : Heap 𝓤) (A : Atoms 𝓤) (W : Given 𝓤 H A) (at-mem : Memory → SProp 𝓤) (runs : Routine → Fun 𝓤)
     (κ κ₁ κ₂ κ₃ : Lft) (bounds : AllOutlive 4 (drive.signature .outlives) (κ, (κ₁, (κ₂, (κ₃, tt))))) (q q₁ q₂ q₃ : Share)
-    (b o : ℕ) (γ : GName) (h : Machine) (k : Runner) (x₁ x₂ x₃ : RefT (List ℕ)) (n : MachineCycles) where
+    (b o : ℕ) (γ : GName) (h : KeptMachine) (k : Runner) (x₁ x₂ x₃ : RefT (List ℕ)) (n : MachineCycles) where
   abbrev R : RattleType
   R = T.the-row
 
   abbrev Arg : Type 0
-  Arg = RefT Machine × (Runner × (RefT (List ℕ) × (RefT (List ℕ) × (RefT (List ℕ) × (MachineCycles × Unit {0})))))
+  Arg = RefT KeptMachine × (Runner × (RefT (List ℕ) × (RefT (List ℕ) × (RefT (List ℕ) × (MachineCycles × Unit {0})))))
 
   abbrev a : Arg
   a = (record { ptr = (b, o); name = γ; now = h }, (k, (x₁, (x₂, (x₃, (n, tt))))))
@@ -153,7 +153,7 @@ module _ {M : Type 1} (𝓤 : URA M) (H : Heap 𝓤) (A : Atoms 𝓤) (W : Given
 
   -- what `forward` is passed, and what its triple binds outside
   abbrev Passed : Type 0
-  Passed = Machine × (Runner × (RefT (List ℕ) × (RefT (List ℕ) × (RefT (List ℕ) × (MachineCycles × Unit {0})))))
+  Passed = KeptMachine × (Runner × (RefT (List ℕ) × (RefT (List ℕ) × (RefT (List ℕ) × (MachineCycles × Unit {0})))))
 
   abbrev passed : Passed
   passed = (h, (k, (x₁, (x₂, (x₃, (n, tt))))))
@@ -201,13 +201,13 @@ module _ {M : Type 1} (𝓤 : URA M) (H : Heap 𝓤) (A : Atoms 𝓤) (W : Given
       owned ! P.the-row (Is P.the-row) (LL.makes P.the-type P′.the-plain 𝓤 H A) (z .0 .report) _ (e .is-report) $ done !
 
   -- the types of the walk
-  abbrev typed : (d : Machine) → Is R d (mach d ∷ []) → Fits T′.mir (mach d)
+  abbrev typed : (d : KeptMachine) → Is R d (mach d ∷ []) → Fits T′.mir (mach d)
   typed d g = LL.lawful T.the-type T′.the-laws 𝓤 H A W .typed d _ g .0
 
   abbrev Answer : Val → Z → Type 0
   Answer w z =
       Answers 𝓤 H A W T′.mir P′.mir K′.mir Y′.mir (pointee (R .written)) (N.struct .name) #driver·forward
-      Machine (R .written) (R .reaches) (R .own) (R .exit) (R .coded)
+      KeptMachine (R .written) (R .reaches) (R .own) (R .exit) (R .coded)
       mach (LL.tells T.the-type T′.the-laws) (LL.makes T.the-type T′.the-plain 𝓤 H A) typed w (z .0 .machine) (shown (z .0 .report))
 
   answers : (w : Val) (Γ : List (Item 𝓤)) (G : Goal 𝓤 H) → Soaks G → ((z : Z) → Answer w z → Known z → Sq W (Left z ∷ Γ) G)
@@ -245,7 +245,7 @@ module _ {M : Type 1} (𝓤 : URA M) (H : Heap 𝓤) (A : Atoms 𝓤) (W : Given
         ∷ []) ∵
         split ! $ move ! (2 ∷ []) $ fsplit ! $ fsplit3 ! $ drop ! $ move ! (0 ∷ 1 ∷ 3 ∷ 4 ∷ 2 ∷ []) $
         by ! (lent 𝓤 H A W T′.mir P′.mir K′.mir Y′.mir (pointee (R .written)) (N.struct .name) #driver·forward
-        Machine (R .written) (R .reaches) (R .own) (R .exit) (R .coded)
+        KeptMachine (R .written) (R .reaches) (R .own) (R .exit) (R .coded)
         mach (LL.tells T.the-type T′.the-laws) (LL.makes T.the-type T′.the-plain 𝓤 H A) typed
         κ q b o γ h (kinds k) (s x₁) (s x₂) (counts n) (x₃ .ptr) (length (x₃ .now))
         Tokens (‵ Rest) (Forward 𝓤 H A at-mem runs .pre to-forward) (Forward 𝓤 H A at-mem runs .post to-forward) Post

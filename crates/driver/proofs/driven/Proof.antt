@@ -44,14 +44,14 @@ use Rattle.runs.proofs.MachineCycles as Y
 use Rattle.runs.proofs.MachineCycles.Laws as Y′
 use Rattle.upd546.specs.TwoRunners.{upd546}
 use Rattle.driver.specs.Lending.{kindOf, broughtTo}
-use Rattle.driver.specs.declared.Machine.{Machine}
+use Rattle.driver.specs.declared.KeptMachine.{KeptMachine}
 use Rattle.driver.specs.declared.Runner.{Runner}
 use Rattle.driver.specs.declared.Report.{Report}
 use Rattle.driver.specs.declared.DriveAnswer.{DriveAnswer}
 use Rattle.driver.proofs.Lent.{Fits}
 use Rattle.driver.proofs.Kept.{walk as kept}
-use Rattle.driver.proofs.Machine as T
-use Rattle.driver.proofs.Machine.Laws as T′
+use Rattle.driver.proofs.KeptMachine as T
+use Rattle.driver.proofs.KeptMachine.Laws as T′
 use Rattle.driver.proofs.Runner as K
 use Rattle.driver.proofs.Runner.Laws as K′
 use Rattle.driver.proofs.Report as P
@@ -68,7 +68,7 @@ use Rattle.driver.proofs.driven.Statement as stated
 use Rattle.driver.proofs.driven.Code as code
 
 -- the machine values of a machine, a runner, a count, a report and an answer, as the laws of each type spell them
-abbrev mach : Machine → Val
+abbrev mach : KeptMachine → Val
 mach = LL.val T.the-type T′.the-laws
 
 abbrev kinds : Runner → Val
@@ -120,12 +120,12 @@ Drive 𝓤 H A at-mem runs = tripleOf 𝓤 H A drive.signature (drive.spec 𝓤 
 
 module _ {M : Type 1} (𝓤 : URA M) (H : Heap 𝓤) (A : Atoms 𝓤) (W : Given 𝓤 H A) (at-mem : Memory → SProp 𝓤) (runs : Routine → Fun 𝓤)
     (κ₁ κ₂ κ₃ : Lft) (bounds : AllOutlive 3 (driven.signature .outlives) (κ₁, (κ₂, (κ₃, tt)))) (q₁ q₂ q₃ : Share)
-    (h : Machine) (k : Runner) (x₁ x₂ x₃ : RefT (List ℕ)) (n : MachineCycles) where
+    (h : KeptMachine) (k : Runner) (x₁ x₂ x₃ : RefT (List ℕ)) (n : MachineCycles) where
   abbrev R : RattleType
   R = T.the-row
 
   abbrev Arg : Type 0
-  Arg = Machine × (Runner × (RefT (List ℕ) × (RefT (List ℕ) × (RefT (List ℕ) × (MachineCycles × Unit {0})))))
+  Arg = KeptMachine × (Runner × (RefT (List ℕ) × (RefT (List ℕ) × (RefT (List ℕ) × (MachineCycles × Unit {0})))))
 
   abbrev a : Arg
   a = (h, (k, (x₁, (x₂, (x₃, (n, tt))))))
@@ -155,7 +155,7 @@ module _ {M : Type 1} (𝓤 : URA M) (H : Heap 𝓤) (A : Atoms 𝓤) (W : Given
       (kinds k ∷ [], (slice-vals x₁, (slice-vals x₂, (slice-vals x₃, (counts n ∷ [], tt)))))
 
   -- the machine's reference: it stands in the block b, and is lent for ν under γ
-  abbrev ref : ℕ → GName → RefT Machine
+  abbrev ref : ℕ → GName → RefT KeptMachine
   ref b γ = record { ptr = (b, 0); name = γ; now = h }
 
   abbrev Lent : ℕ → ℕ → GName → Fml
@@ -163,7 +163,7 @@ module _ {M : Type 1} (𝓤 : URA M) (H : Heap 𝓤) (A : Atoms 𝓤) (W : Given
 
   -- what `drive` is passed, and what its triple binds outside
   abbrev Passed : Type 0
-  Passed = RefT Machine × (Runner × (RefT (List ℕ) × (RefT (List ℕ) × (RefT (List ℕ) × (MachineCycles × Unit {0})))))
+  Passed = RefT KeptMachine × (Runner × (RefT (List ℕ) × (RefT (List ℕ) × (RefT (List ℕ) × (MachineCycles × Unit {0})))))
 
   abbrev passed : ℕ → GName → Passed
   passed b γ = (ref b γ, (k, (x₁, (x₂, (x₃, (n, tt))))))
@@ -181,12 +181,12 @@ module _ {M : Type 1} (𝓤 : URA M) (H : Heap 𝓤) (A : Atoms 𝓤) (W : Given
       move ! (1 ∷ 2 ∷ []) $ fjoin ! $ move ! (1 ∷ 0 ∷ []) $ join ! $ frame ! $ done !
 
   -- what `drive` says of its report, the machine and the log
-  abbrev Said : Report → Machine → List ℕ → Type 0
+  abbrev Said : Report → KeptMachine → List ℕ → Type 0
   Said r m zs = broughtTo r m zs ≡ runAnswer upd546 (kindOf k) (now x₁) (now x₂) (h .state) (now x₃) (n .0)
 
   -- a report of `drive` with the machine at exit and the log's last list: what is known of them, and what is left
   abbrev Z : Type 0
-  Z = Report × (Machine × List ℕ)
+  Z = Report × (KeptMachine × List ℕ)
 
   record Known (z : Z) : Type 0 where
     said : Said (z .0) (z .1 .0) (z .1 .1)
@@ -222,7 +222,7 @@ module _ {M : Type 1} (𝓤 : URA M) (H : Heap 𝓤) (A : Atoms 𝓤) (W : Given
       ((‵ (flft (ν ∷ []) fullShare) ⊛ Tokens) ⊛ ‵ (P.the-row .own r (w ∷ [])))
       ⊛ raw (ensured 𝓤 H A drive.ended (drive.clauses 𝓤 H A at-mem runs) (ν ∷ [], (κ₁, (κ₂, (κ₃, tt)))) (passed b γ) tt r)))) (id⊢ 𝓤 _) $
       await ! soaks $ pick ! (λ r. split ! $ move ! (1 ∷ []) $
-      use1 W (some (λ (zs : Machine × (Unit {0} × (Unit {0} × (Unit {0} × (List ℕ × (Unit {0} × Unit {0})))))).
+      use1 W (some (λ (zs : KeptMachine × (Unit {0} × (Unit {0} × (Unit {0} × (List ℕ × (Unit {0} × Unit {0})))))).
       ‵ (lasts drive.ended (ν ∷ [], (κ₁, (κ₂, (κ₃, tt)))) (passed b γ) zs) ⊛ raw (fact 𝓤 (Said r (zs .0) (zs .1 .1 .1 .1 .0))))) (id⊢ 𝓤 _) $ pick ! (λ zs.
       split ! $ move ! (1 ∷ []) $ heard ! (Said r (zs .0) (zs .1 .1 .1 .1 .0)) (λ e.
       fsplit ! $ move ! (1 ∷ []) $ fsplit ! $ drop ! $ fsplit ! $ drop ! $ fsplit ! $ drop ! $ fsplit ! $ fsplit ! $ move ! (1 ∷ []) $ feqL ! (λ l.
@@ -247,7 +247,7 @@ module _ {M : Type 1} (𝓤 : URA M) (H : Heap 𝓤) (A : Atoms 𝓤) (W : Given
         ∷ []) ∵
         move ! (1 ∷ []) $ fsplit ! $ drop ! $ move ! (1 ∷ 0 ∷ []) $
         by ! (kept 𝓤 H A W T′.mir P′.mir K′.mir Y′.mir (pointee (R .written)) (N.struct .name) #driver·drive
-        Machine (R .written) (R .reaches) (R .own) (R .exit) (R .coded)
+        KeptMachine (R .written) (R .reaches) (R .own) (R .exit) (R .coded)
         mach (LL.tells T.the-type T′.the-laws) (LL.makes T.the-type T′.the-plain 𝓤 H A)
         (λ d g. LL.lawful T.the-type T′.the-laws 𝓤 H A W .typed d _ g .0)
         h (kinds k) (s x₁) (s x₂) (counts n) (x₃ .ptr) (length (x₃ .now))

@@ -5,7 +5,7 @@ use lib.ListN.{getD}
 use denote.Ref.{now}
 use Rattle.upd546.specs.TheMachine.{dpOf, flagWord}
 use Rattle.decode.specs.Named.{named, namedSum, namedBit, namedPointer, namedWorking, namedFlag}
-use Rattle.instructions.specs.Groups.{chipGiven}
+use Rattle.instructions.specs.Groups.{givenOf}
 use Rattle.effect.proofs.Joins.{sum-at-dp, bit-at-dp, pointer-at-dp, flag-at-flags, flags-place, does-word, does-plain}
 use borrow.Author.Needs.{needs}
 use Rattle.effect.proofs.effect_of.Statement.{statement}
@@ -137,7 +137,7 @@ returns c =
     (c .after-sum .ensures .0 ∙ at-dp-place .dp-place .ensures)
     (e .1 (at-load .load .result) (now (at-entry .args .ports))
     ∙ sym (at-sum-group .sum-group .ensures (now (at-entry .args .ports)))
-    ∙ ap (λ (x : ℕ). namedSum (at-decoded .decoded .given .0 .0) .effect (chipGiven (at-entry .args .g) x (now (at-entry .args .ports)))) w)
+    ∙ ap (λ (x : ℕ). namedSum (at-decoded .decoded .given .0 .0) .effect (givenOf (at-entry .args .g) x (now (at-entry .args .ports)))) w)
 
 returns-2 : tie.Need-returns-2
 returns-2 c =
@@ -155,7 +155,7 @@ returns-2 c =
     (c .after-sum2 .ensures .0 ∙ at-dp-place2 .dp-place2 .ensures)
     (e .1 (at-load2 .load2 .result) (now (at-entry .args .ports))
     ∙ sym (at-bit-group .bit-group .ensures (now (at-entry .args .ports)))
-    ∙ ap (λ (x : ℕ). namedBit (at-decoded2 .decoded2 .given .0 .0) .effect (chipGiven (at-entry .args .g) x (now (at-entry .args .ports)))) w)
+    ∙ ap (λ (x : ℕ). namedBit (at-decoded2 .decoded2 .given .0 .0) .effect (givenOf (at-entry .args .g) x (now (at-entry .args .ports)))) w)
 
 returns-3 : tie.Need-returns-3
 returns-3 c =
@@ -173,7 +173,7 @@ returns-3 c =
     (c .after-pointer .ensures .0 ∙ at-dp-place3 .dp-place3 .ensures)
     (e .1 (at-load3 .load3 .result) (now (at-entry .args .ports))
     ∙ sym (at-pointer-group .pointer-group .ensures (now (at-entry .args .ports)))
-    ∙ ap (λ (x : ℕ). namedPointer (at-decoded3 .decoded3 .given .0 .0) .effect (chipGiven (at-entry .args .g) x (now (at-entry .args .ports)))) w)
+    ∙ ap (λ (x : ℕ). namedPointer (at-decoded3 .decoded3 .given .0 .0) .effect (givenOf (at-entry .args .g) x (now (at-entry .args .ports)))) w)
 
 returns-4 : tie.Need-returns-4
 returns-4 c =
@@ -190,7 +190,7 @@ returns-4 c =
     (c .after-working .ensures .0 ∙ at-working-place .working-place .ensures (at-entry .args .g .core))
     (e .1 (at-load4 .load4 .result) (now (at-entry .args .ports))
     ∙ sym (at-working-group .working-group .ensures (now (at-entry .args .ports)))
-    ∙ ap (λ (x : ℕ). namedWorking (at-decoded4 .decoded4 .given .0 .0) .effect (chipGiven (at-entry .args .g) x (now (at-entry .args .ports)))) w)
+    ∙ ap (λ (x : ℕ). namedWorking (at-decoded4 .decoded4 .given .0 .0) .effect (givenOf (at-entry .args .g) x (now (at-entry .args .ports)))) w)
 
 returns-5 : tie.Need-returns-5
 returns-5 c =
@@ -207,7 +207,7 @@ returns-5 c =
     (c .after-flag .ensures .0 ∙ sym flags-place)
     (e .1 (at-load5 .load5 .result) (now (at-entry .args .ports))
     ∙ sym (at-flag-group .flag-group .ensures (now (at-entry .args .ports)))
-    ∙ ap (λ (x : ℕ). namedFlag (at-decoded5 .decoded5 .given .0 .0) .effect (chipGiven (at-entry .args .g) x (now (at-entry .args .ports)))) w)
+    ∙ ap (λ (x : ℕ). namedFlag (at-decoded5 .decoded5 .given .0 .0) .effect (givenOf (at-entry .args .g) x (now (at-entry .args .ports)))) w)
 
 returns-6 : tie.Need-returns-6
 returns-6 c =

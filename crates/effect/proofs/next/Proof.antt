@@ -4,12 +4,12 @@ use borrow.Author.Needs.{needs}
 use Rattle.effect.proofs.next.Statement.{statement}
 use Rattle.effect.proofs.next.Tie as tie
 
-same-requires : tie.Need-same-requires
-same-requires c κs = search needs
+copy-core-requires : tie.Need-copy-core-requires
+copy-core-requires c κs = search needs
 
 returns : tie.Need-returns
 unfolding nextOf
-returns c = rw (c .before .same .ensures)
+returns c = rw (c .before .copy-core .ensures)
 
 pub next-spec : {M : Type 1} → statement M
-next-spec = tie.close (tie.spec same-requires returns)
+next-spec = tie.close (tie.spec copy-core-requires returns)

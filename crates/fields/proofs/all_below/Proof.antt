@@ -6,7 +6,7 @@ use native.Mathlib.Numerals.{add-one}
 use borrow.Author.Needs.{needs}
 use lib.ListN.{length, drop, drop-of-length-le}
 use lib.Seq.{drop-cons}
-use Rattle.upd546.specs.Tests.{allBelow}
+use Rattle.upd546.specs.Checks.{allBelow}
 use Rattle.fields.proofs.all_below.Statement.{statement}
 use Rattle.fields.proofs.all_below.Tie as tie
 

@@ -19,8 +19,8 @@ start-requires c κs =
     let at-entry = c .before .before .before .before .before .before in
     run-taken (now (at-entry .args .rom)) (now (at-entry .args .sched)) (at-entry .args .s) (at-entry .args .n) (at-entry .pre) .schedule
 
-take-requires : tie.Need-take-requires
-take-requires c κs = search needs
+run-loop-requires : tie.Need-run-loop-requires
+run-loop-requires c κs = search needs
 
 same-length : tie.Need-same-length
 same-length c = search needs
@@ -36,6 +36,6 @@ run-accepted-spec =
     position-table-requires
     register-table-requires
     start-requires
-    take-requires
+    run-loop-requires
     same-length
     returns)

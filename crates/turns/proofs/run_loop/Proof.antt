@@ -9,8 +9,8 @@ use Rattle.cycle.specs.Answer.{stateOf}
 use Rattle.turns.specs.Either.{jumpBy}
 use Rattle.turns.proofs.Turning.{At, Forward, Jumps, OneCycle, starts, limit, schedule-taken, finishes, boundary, ready, jumpable, within-run, jumps-forward, stops, stop-length, stop-known, counts, cycle-forward}
 use borrow.Author.Needs.{needs}
-use Rattle.turns.proofs.take.Statement.{statement}
-use Rattle.turns.proofs.take.Tie as tie
+use Rattle.turns.proofs.run_loop.Statement.{statement}
+use Rattle.turns.proofs.run_loop.Tie as tie
 
 abbrev Inv-loop : tie.InvT-loop
 Inv-loop rom sched table positions registers log₀ n skips start core₀ ram₀ ports₀ cursor₀ at₀ done₀ begun₀ spared₀ log core ram ports cursor at done begun spared =
@@ -70,7 +70,7 @@ loop-holds c =
     let at-entry = at-rom .before in
     let a = at-entry .args in
     rw (add-zero (a .s .cycle .0))
-    (starts (a .skips) (now (a .rom)) (now (a .sched)) (now (a .log)) (a .n) (a .s) (a .first) (at-entry .pre .taken)
+    (starts (a .skips) (now (a .rom)) (now (a .sched)) (now (a .log)) (a .n) (a .s) (a .first) (at-entry .pre .not-refused)
     (λ i. omega (arith, at-rom .shared-slice-known .given i)) (λ i. omega (arith, at-sched .shared-slice-known2 .given i)) (at-entry .pre .stands))
 
 add-number : tie.Need-add-number Inv-loop μ-loop
@@ -87,8 +87,8 @@ jump-ahead-requires c κs =
     let at-entry = at-loop .before .before .before .before .before .before .before in
     boundary (at-loop .loop .inv) (c .loop-test .taken) (now (at-entry .args .positions)) (at-entry .pre .position-table)
 
-jumped-requires : tie.Need-jumped-requires Inv-loop μ-loop
-jumped-requires c κs =
+core-after-jump-requires : tie.Need-core-after-jump-requires Inv-loop μ-loop
+core-after-jump-requires c κs =
     let at-loop = c .before .before .before in
     let at-entry = at-loop .before .before .before .before .before .before .before in
     jumpable (jumps c) (now (at-entry .args .positions)) (now (at-entry .args .registers)) (at-entry .pre .position-table) (at-entry .pre .register-table)
@@ -213,8 +213,8 @@ returns-2 c =
     let at-loop-test = at-state-of2 .before in
     rw (c .answer2 .ensures, at-state-of2 .state-of2 .ensures) (finishes (at-loop-test .before .loop .inv) (at-loop-test .loop-test .left))
 
-pub take-spec : {M : Type 1} → statement M
-take-spec =
+pub run-loop-spec : {M : Type 1} → statement M
+run-loop-spec =
     tie.close
     (tie.spec
     Inv-loop
@@ -223,7 +223,7 @@ take-spec =
     add-number
     sub-jump-ahead
     jump-ahead-requires
-    jumped-requires
+    core-after-jump-requires
     add-begun
     sub-spared
     add-spared

@@ -1,4 +1,4 @@
--- Tests on lists. Assumes nothing: these are definitions.
+-- Checks of lists, as tests that compute. Assumes nothing: these are definitions.
 use Prim.Native.Nat.{ℕ}
 use mathlib.Core.Bool.{Bool, true, false, _&&_}
 use mathlib.Core.List.{List, [], _∷_}

@@ -1,14 +1,14 @@
--- `ram` tests all words. Assumes nothing.
+-- `ram_sound` tests all words. Assumes nothing.
 use mathlib.Core.Path.{_≡_}
 use mathlib.Core.Bool.{and-true}
 use lib.ListN.{length}
 use borrow.Author.Needs.{needs}
 use borrow.Author.Tests.{eq-eqb}
 use Rattle.upd546.specs.TheMachine.{ramLength}
-use Rattle.upd546.specs.Tests.{allOf}
+use Rattle.upd546.specs.Checks.{allOf}
 use Rattle.upd546.specs.StateImage.{ramSound}
-use Rattle.fields.proofs.ram.Statement.{statement}
-use Rattle.fields.proofs.ram.Tie as tie
+use Rattle.fields.proofs.ram_sound.Statement.{statement}
+use Rattle.fields.proofs.ram_sound.Tie as tie
 
 slice-aggregate-all-below : tie.Need-slice-aggregate-all-below
 slice-aggregate-all-below c = search needs
@@ -22,5 +22,5 @@ returns c =
     let count : length (c .before .before .args .t1) ≡ ramLength = search needs in
     rw (eq-eqb _ _ count, c .all-below .ensures, and-true)
 
-pub ram-spec : {M : Type 1} → statement M
-ram-spec = tie.close (tie.spec slice-aggregate-all-below all-below-requires returns)
+pub ram-sound-spec : {M : Type 1} → statement M
+ram-sound-spec = tie.close (tie.spec slice-aggregate-all-below all-below-requires returns)
