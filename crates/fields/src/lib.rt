@@ -18,7 +18,7 @@ ghost use Prim.Native.Nat.{_+_};
 ghost use lib.Dec.{leb};
 ghost use Rattle.runs.specs.Refusals.{cycleLimit};
 ghost use Rattle.runs.specs.Numbers.{outcomeNumber};
-ghost use Rattle.upd546.specs.Checks.{allBelow};
+ghost use Rattle.upd546.specs.Sequences.{allBelow};
 ghost use Rattle.upd546.specs.StateImage.{registersSound, flowSound, interruptSound, timerSound, coreSound, portsSound, ramSound, stateSound, stateNumber};
 
 // A PC has 11 bits.

@@ -13,7 +13,7 @@ use Rattle.runs.specs.TwoRunners.{restoreAnswer}
 use Rattle.runs.specs.Refusals.{firstOf, unless}
 use Rattle.runs.proofs.Refusals.{first-at, passes}
 use Rattle.upd546.specs.TheMachine.{fresh}
-use Rattle.upd546.specs.Checks.{sameNumbers}
+use Rattle.upd546.specs.Sequences.{sameNumbers}
 use Rattle.upd546.specs.Bytes.{part}
 use Rattle.upd546.specs.StateImage.{imageLength, imageMark, imageVersion, byte, ofImage, stateSound, stateNumber, fieldsNumber, imageNumber}
 use Rattle.upd546.specs.TwoRunners.{upd546}

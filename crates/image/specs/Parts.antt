@@ -6,7 +6,7 @@ use lib.ListN.{length}
 use Rattle.runs.specs.Refusals.{firstOf, unless}
 use Rattle.upd546.specs.declared.Core.{Core}
 use Rattle.upd546.specs.Bytes.{bytesOf, part}
-use Rattle.upd546.specs.Checks.{sameNumbers}
+use Rattle.upd546.specs.Sequences.{sameNumbers}
 use Rattle.upd546.specs.StateImage.{imageLength, imageMark, imageVersion, wordsBytes, coreBytes, byte, ofImage}
 
 -- bytes 0 to 19

@@ -22,7 +22,7 @@ ghost use Rattle.runs.specs.Numbers.{outcomeNumber};
 ghost use Rattle.runs.specs.TwoRunners.{saveAnswer, restoreAnswer};
 ghost use Rattle.upd546.specs.TheMachine.{latches, ramLength, fresh};
 ghost use Rattle.upd546.specs.Bytes.{bytesOf, numberAt, part};
-ghost use Rattle.upd546.specs.Checks.{sameNumbers};
+ghost use Rattle.upd546.specs.Sequences.{sameNumbers};
 ghost use Rattle.upd546.specs.StateImage.{imageLength, wordsBytes, coreBytes, packed, imageOf, unpacked, ofImage};
 ghost use Rattle.upd546.specs.TwoRunners.{upd546, saveOf, restoreOf};
 ghost use Rattle.laws.specs.Valid.{Scalars, ValidCore, ValidRam, Valid};

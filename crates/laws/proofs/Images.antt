@@ -14,9 +14,10 @@ use Rattle.runs.specs.Laws.{Bytes}
 use Rattle.runs.proofs.Refusals.{first-at, passes}
 use Rattle.upd546.specs.declared.Core.{Core}
 use Rattle.upd546.specs.declared.State.{State}
-use Rattle.upd546.specs.TheMachine.{addresses, stackDepth, dpOf, entries}
+use Rattle.upd546.specs.TheMachine.{addresses, stackDepth, dpOf}
+use Rattle.upd546.specs.Sequences.{entries}
 use Rattle.upd546.specs.Bytes.{bitAt, numberOf, bytesOf, part}
-use Rattle.upd546.specs.Checks.{sameNumbers}
+use Rattle.upd546.specs.Sequences.{sameNumbers}
 use Rattle.upd546.specs.StateImage.{imageLength, imageMark, imageVersion, wordsBytes, flagsByte, coreBytes, packed, imageOf, byte, unpacked, ofImage, stateSound, stateNumber, fieldsNumber, imageNumber}
 use Rattle.upd546.specs.TwoRunners.{upd546}
 use Rattle.upd546.proofs.Computed.{every-at, entries-of}

@@ -17,7 +17,7 @@ use Rattle.upd546.specs.Bytes.{withBit}
 use Rattle.upd546.specs.Ports.{Write, written, fitted, latchOf, readPort, outputs, bitWritten, bitOutputs, portC, portD, portE, portI}
 use Rattle.upd546.specs.Instructions as chip
 use Rattle.upd546.specs.Instructions.{Given, Effect, Instruction, codes, instruction}
-use Rattle.upd546.proofs.Computed.{everyFrom, every-at}
+use Rattle.upd546.proofs.Computed.{everyFrom, every-at, pushed-entries, popped-entries}
 use Rattle.laws.specs.Valid.{Below, Scalars, ValidStack, ValidCore, ValidPorts, ValidLines}
 use Rattle.laws.specs.Writes.{All, none, _▹_, ValidWrite}
 use Rattle.laws.proofs.Lists.{and-left, and-right}
@@ -85,23 +85,20 @@ unfolding readPort
 read-small l p v = all-getD (λ (x : ℕ). x < 16) 0 (v .a ▹ v .b ▹ v .c ▹ v .d ▹ none) (omega arith) p
 
 -- the stack after a call and after a return
-pub pushed-valid : (a : ℕ) (stack : List ℕ) → a < addresses → ValidStack stack → ValidStack (pushed a stack)
-pushed-valid a stack h v = record { depth = refl; below = below }
+three-valid : (a b c : ℕ) → a < addresses → b < addresses → c < addresses → ValidStack (a ∷ b ∷ c ∷ [])
+three-valid a b c p q r = record { depth = refl; below = below }
   where
-    below : Below addresses (pushed a stack)
-    below zero = h
-    below (suc zero) = v .below 0
-    below (suc (suc zero)) = v .below 1
+    below : Below addresses (a ∷ b ∷ c ∷ [])
+    below zero = p
+    below (suc zero) = q
+    below (suc (suc zero)) = r
     below (suc (suc (suc i))) = omega arith
 
+pub pushed-valid : (a : ℕ) (stack : List ℕ) → a < addresses → ValidStack stack → ValidStack (pushed a stack)
+pushed-valid a stack h v = rw (pushed-entries a stack (v .depth)) (three-valid a _ _ h (v .below 0) (v .below 1))
+
 pub popped-valid : (stack : List ℕ) → ValidStack stack → ValidStack (popped stack)
-popped-valid stack v = record { depth = refl; below = below }
-  where
-    below : Below addresses (popped stack)
-    below zero = v .below 1
-    below (suc zero) = v .below 2
-    below (suc (suc zero)) = v .below 2
-    below (suc (suc (suc i))) = omega arith
+popped-valid stack v = rw (popped-entries stack (v .depth)) (three-valid _ _ _ (v .below 1) (v .below 2) (v .below 2))
 
 -- bytes and base cycles
 record Sizes (i : Instruction) : Type 0 where

@@ -22,7 +22,7 @@ use Rattle.upd546.specs.declared.Timer.{Timer}
 use Rattle.upd546.specs.declared.Lines.{Lines}
 use Rattle.upd546.specs.declared.State.{State}
 use Rattle.upd546.specs.TheMachine.{inRom, byteAt, follows, past, pageOf, markOther}
-use Rattle.upd546.specs.Checks.{allOf}
+use Rattle.upd546.specs.Sequences.{allOf}
 use Rattle.upd546.specs.TheLineSchedule.{recordCount, recordCycle, linesAt, noneAmong, noRecord}
 use Rattle.upd546.specs.Timer.{tick, ticksLeft}
 use Rattle.laws.specs.Timer.{timerLeft}

@@ -10,7 +10,7 @@ use Rattle.runs.proofs.Refusals.{passes}
 use Rattle.upd546.specs.declared.Core.{Core}
 use Rattle.upd546.specs.declared.State.{State}
 use Rattle.upd546.specs.TheMachine.{addresses}
-use Rattle.upd546.specs.Checks.{allOf}
+use Rattle.upd546.specs.Sequences.{allOf}
 use Rattle.upd546.specs.StateImage.{registersSound, flowSound, interruptSound, timerSound, coreSound, portsSound, ramSound, stateSound, stateNumber}
 use Rattle.laws.specs.Valid.{Scalars, ValidStack, ValidPorts, ValidRam, Valid}
 use Rattle.laws.proofs.Lists.{all-at, below-all, all-below}

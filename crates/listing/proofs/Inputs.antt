@@ -12,7 +12,7 @@ use Rattle.runs.specs.TwoRunners.{runNumber, plain}
 use Rattle.runs.specs.Refusals.{cycleLimit, firstOf}
 use Rattle.upd546.specs.TheMachine.{romLength, fresh}
 use Rattle.upd546.specs.Bytes.{numberAt}
-use Rattle.upd546.specs.Checks.{allOf}
+use Rattle.upd546.specs.Sequences.{allOf}
 use Rattle.upd546.specs.TheLineSchedule.{recordLength, maxRecords, scheduleNumber}
 use Rattle.upd546.specs.StateImage.{registersSound, flowSound, interruptSound, timerSound, coreSound, portsSound, ramSound, stateSound, stateNumber}
 use Rattle.upd546.specs.TwoRunners.{upd546, panelNumber}

@@ -2,7 +2,7 @@
 -- positions gives r"; and the inverse of that one. Assumes nothing: these are definitions.
 use Prim.Native.Nat.{ℕ, suc, _+_, _*_}
 use mathlib.Core.List.{List}
-use Rattle.upd546.specs.TheMachine.{entries}
+use Rattle.upd546.specs.Sequences.{entries}
 use Rattle.upd546.specs.Instructions.{instruction}
 use Rattle.upd546.specs.Timer.{period, positionOf, registerAfter}
 use Rattle.tables.specs.declared.Size.{Size}

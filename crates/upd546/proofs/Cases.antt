@@ -2,7 +2,7 @@
 use lib.Dec.{T}
 use Rattle.runs.specs.TwoRunners.{unbroken, within, strides, runNumber, plain, skipping}
 use Rattle.runs.specs.Refusals.{firstOf}
-use Rattle.upd546.specs.Checks.{allOf}
+use Rattle.upd546.specs.Sequences.{allOf}
 use Rattle.upd546.specs.TheMachine.{follows, past, placeOf}
 use Rattle.upd546.specs.TheLineSchedule.{recordCycle, recordLines, linesAmong, linesAt, bytesNumber, orderNumber, recordsNumber, scheduleNumber, noneAmong, noRecord}
 use Rattle.upd546.specs.Timer.{stepRegister, tick, stepsTo, positionOf, ticksLeft}

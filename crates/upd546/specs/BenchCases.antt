@@ -10,7 +10,7 @@ use Rattle.upd546.specs.declared.State.{State}
 use Rattle.upd546.specs.TheMachine.{romLength, fresh, wordAt, withWord, wordX}
 use Rattle.upd546.specs.Parts.{setAcc, setCarry, setDph, setPc, setInt, setOwed}
 use Rattle.upd546.specs.StateImage.{imageOf, ofImage}
-use Rattle.upd546.specs.Checks.{sameNumbers}
+use Rattle.upd546.specs.Sequences.{sameNumbers}
 use Rattle.upd546.specs.TwoRunners.{upd546}
 use Rattle.upd546.specs.Reports.{heading, newline, traceText}
 

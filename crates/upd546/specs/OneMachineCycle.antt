@@ -9,7 +9,7 @@ use Rattle.upd546.specs.declared.Core.{Core}
 use Rattle.upd546.specs.declared.Lines.{Lines}
 use Rattle.upd546.specs.declared.State.{State}
 use Rattle.upd546.specs.TheMachine.{inRom, byteAt, follows, past, wordAt, withWord, markOther, markEi, markStm}
-use Rattle.upd546.specs.Checks.{allOf}
+use Rattle.upd546.specs.Sequences.{allOf}
 use Rattle.upd546.specs.Parts.{withTimer, setMark, setOwed, setPc, setInt, setInte, setLevel, called}
 use Rattle.upd546.specs.TheLineSchedule.{linesAt}
 use Rattle.upd546.specs.Timer.{tick}

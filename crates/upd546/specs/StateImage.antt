@@ -11,9 +11,10 @@ use Rattle.upd546.specs.declared.Interrupt.{Interrupt}
 use Rattle.upd546.specs.declared.Timer.{Timer}
 use Rattle.upd546.specs.declared.Core.{Core}
 use Rattle.upd546.specs.declared.State.{State}
-use Rattle.upd546.specs.TheMachine.{addresses, stackDepth, latches, ramLength, dpOf, markStm, entries}
+use Rattle.upd546.specs.TheMachine.{addresses, stackDepth, latches, ramLength, dpOf, markStm}
+use Rattle.upd546.specs.Sequences.{entries}
 use Rattle.upd546.specs.Bytes.{bitAt, part, numberAt, bytesOf}
-use Rattle.upd546.specs.Checks.{allOf, allBelow, sameNumbers}
+use Rattle.upd546.specs.Sequences.{allOf, allBelow, sameNumbers}
 
 -- "State image, 81 bytes"
 abbrev pub imageLength : ℕ

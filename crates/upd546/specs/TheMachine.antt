@@ -1,9 +1,9 @@
 -- Document 01, "The machine". Assumes nothing: these are definitions.
 use Prim.Native.Nat.{ℕ, zero, suc, _+_, _-_, _*_, _/_, _%_, _^_}
 use mathlib.Core.Bool.{Bool, cond}
-use mathlib.Core.List.{List, [], _∷_}
+use mathlib.Core.List.{List, [], _∷_, _++_}
 use lib.Dec.{eqb, leb}
-use lib.ListN.{length, getD, set, replicate}
+use lib.ListN.{length, getD, set, take, drop, replicate}
 use Rattle.upd546.specs.declared.Core.{Core}
 use Rattle.upd546.specs.declared.State.{State}
 
@@ -42,25 +42,13 @@ past (suc n) a = past n (follows a)
 abbrev pub stackDepth : ℕ
 stackDepth = 3
 
--- the list f 0, f 1, .. of n entries
-abbrev pub entries : ℕ → (ℕ → ℕ) → List ℕ
-entries zero f = []
-entries (suc n) f = f 0 ∷ entries n (λ i. f (suc i))
-
 -- "A push shifts down and loses the oldest"
-abbrev pub under : ℕ → List ℕ → ℕ → ℕ
-under a stack zero = a
-under a stack (suc i) = getD stack i 0
-
 abbrev pub pushed : ℕ → List ℕ → List ℕ
-pushed a stack = entries stackDepth (under a stack)
+pushed a stack = take stackDepth (a ∷ stack)
 
 -- "a pop shifts up and the lowest keeps its value (house)"
-abbrev pub over : List ℕ → ℕ → ℕ
-over stack i = cond (eqb (suc i) stackDepth) (getD stack i 0) (getD stack (suc i) 0)
-
 abbrev pub popped : List ℕ → List ℕ
-popped stack = entries stackDepth (over stack)
+popped stack = drop 1 stack ++ drop (stackDepth - 1) stack
 
 -- the PC that a pop gives
 abbrev pub newest : List ℕ → ℕ

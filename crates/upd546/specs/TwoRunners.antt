@@ -14,7 +14,7 @@ use Rattle.upd546.specs.declared.State.{State}
 use Rattle.upd546.specs.declared.RunAnswer.{RunAnswer}
 use Rattle.upd546.specs.declared.RestoreAnswer.{RestoreAnswer}
 use Rattle.upd546.specs.TheMachine.{romLength, inRom, byteAt, follows, pageOf, fresh}
-use Rattle.upd546.specs.Checks.{allOf}
+use Rattle.upd546.specs.Sequences.{allOf}
 use Rattle.upd546.specs.TheLineSchedule.{scheduleNumber, linesAt, noRecord}
 use Rattle.upd546.specs.Timer.{ticksLeft}
 use Rattle.upd546.specs.OneMachineCycle.{cycle}

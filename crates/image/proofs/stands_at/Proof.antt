@@ -4,7 +4,7 @@ use Prim.Native.Nat.{_+_, _-_, _≤_}
 use native.Mathlib.Nat.{add-zero, sub-zero}
 use lib.ListN.{length, drop}
 use denote.Ref.{now}
-use Rattle.upd546.specs.Checks.{sameNumbers}
+use Rattle.upd546.specs.Sequences.{sameNumbers}
 use Rattle.upd546.specs.Bytes.{part}
 use Rattle.image.proofs.Reading.{compared-more, compared-other, compared-all}
 use borrow.Author.Needs.{needs}

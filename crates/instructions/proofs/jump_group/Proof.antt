@@ -1,7 +1,15 @@
 -- Each instruction of the group leaves what its definition says. Assumes nothing.
+use mathlib.Core.Path.{_≡_}
+use lib.ListN.{length}
 use borrow.Author.Needs.{needs}
+use Rattle.upd546.specs.TheMachine.{stackDepth}
+use Rattle.upd546.proofs.Computed.{pushed-entries, popped-entries}
 use Rattle.instructions.proofs.jump_group.Statement.{statement}
 use Rattle.instructions.proofs.jump_group.Tie as tie
+
+-- the stack has its entries
+depth : (c : tie.After-stack) → length (c .before .args .g .core .flow .stack) ≡ stackDepth
+depth c = search needs
 
 array-read-s0 : tie.Need-array-read-s0
 array-read-s0 c = search needs
@@ -94,19 +102,27 @@ returns : tie.Need-returns
 returns c word ports = rw (c .before .before .enum-told .given .1, c .jump-left .ensures)
 
 returns-2 : tie.Need-returns-2
-returns-2 c word ports = rw (c .before .enum-told2 .given .1, c .jump-left2 .ensures)
+returns-2 c word ports =
+    let at-stack = c .before .before .before .before .before .before in
+    rw (c .before .enum-told2 .given .1, c .jump-left2 .ensures, popped-entries _ (depth at-stack))
 
 returns-3 : tie.Need-returns-3
-returns-3 c word ports = rw (c .before .enum-told3 .given .1, c .jump-left3 .ensures)
+returns-3 c word ports =
+    let at-stack = c .before .before .before .before .before .before in
+    rw (c .before .enum-told3 .given .1, c .jump-left3 .ensures, popped-entries _ (depth at-stack))
 
 returns-4 : tie.Need-returns-4
 returns-4 c word ports = rw (c .before .enum-told4 .given .1, c .jump-left4 .ensures)
 
 returns-5 : tie.Need-returns-5
-returns-5 c word ports = rw (c .before .enum-told5 .given .1, c .jump-left5 .ensures)
+returns-5 c word ports =
+    let at-stack = c .before .before .before .before .before .before in
+    rw (c .before .enum-told5 .given .1, c .jump-left5 .ensures, pushed-entries _ _ (depth at-stack))
 
 returns-6 : tie.Need-returns-6
-returns-6 c word ports = rw (c .before .before .enum-told6 .given .1, c .jump-left6 .ensures)
+returns-6 c word ports =
+    let at-stack = c .before .before .before .before .before .before .before in
+    rw (c .before .before .enum-told6 .given .1, c .jump-left6 .ensures, pushed-entries _ _ (depth at-stack))
 
 returns-7 : tie.Need-returns-7
 returns-7 c word ports = rw (c .before .before .enum-told7 .given .1, c .jump-left7 .ensures)

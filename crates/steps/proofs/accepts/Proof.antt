@@ -1,6 +1,6 @@
 -- The four conditions of an acceptance. Assumes nothing.
 use mathlib.Core.Bool.{and-assoc, and-true}
-use Rattle.upd546.specs.Checks.{allOf}
+use Rattle.upd546.specs.Sequences.{allOf}
 use Rattle.upd546.specs.OneMachineCycle.{accepts as acceptsOf}
 use Rattle.steps.proofs.accepts.Statement.{statement}
 use Rattle.steps.proofs.accepts.Tie as tie
