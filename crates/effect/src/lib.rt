@@ -25,7 +25,7 @@ ghost use Rattle.laws.specs.Valid.{Scalars, ValidPorts, ValidRam};
 ghost use Rattle.instructions.specs.Groups.{givenOf, sumEffect, pointerEffect, workingEffect, flagEffect, jumpEffect, controlEffect, portEffect};
 ghost use Rattle.effect.specs.Effects.{effectOf, nextOf, Does};
 
-// The core, the RAM word that is stored back and its place (96: none), whether the next instruction is skipped, and the port
+// The core, the RAM word that is stored back and its place (`RAM_WORDS`: none), whether the next instruction is skipped, and the port
 // that is written with its value, as `Ported` has them.
 pub struct Effect {
     pub core: Core,
@@ -124,7 +124,7 @@ fn after_flag(g: Inputs, at: usize, r: Flagged) -> Effect
 }
 
 fn after_jump(g: Inputs, r: Jumped) -> Effect
-    ensures { λ e. ⌜ (e .at ≡ 96) × ((word : ℕ) (ports : List ℕ) → stores word (effectOf e) ≡ jumpEffect (givenOf g word ports) r) ⌝ }
+    ensures { λ e. ⌜ (e .at ≡ ramLength) × ((word : ℕ) (ports : List ℕ) → stores word (effectOf e) ≡ jumpEffect (givenOf g word ports) r) ⌝ }
 {
     let mut c = next(g);
     let flow = r.flow;
@@ -140,7 +140,7 @@ fn after_jump(g: Inputs, r: Jumped) -> Effect
 }
 
 fn after_control(g: Inputs, r: Controlled) -> Effect
-    ensures { λ e. ⌜ (e .at ≡ 96) × ((word : ℕ) (ports : List ℕ) → stores word (effectOf e) ≡ controlEffect (givenOf g word ports) r) ⌝ }
+    ensures { λ e. ⌜ (e .at ≡ ramLength) × ((word : ℕ) (ports : List ℕ) → stores word (effectOf e) ≡ controlEffect (givenOf g word ports) r) ⌝ }
 {
     let mut c = next(g);
     c.registers.carry = r.carry;
@@ -161,7 +161,7 @@ fn after_control(g: Inputs, r: Controlled) -> Effect
 }
 
 fn after_port(g: Inputs, r: Ported) -> Effect
-    ensures { λ e. ⌜ (e .at ≡ 96) × ((word : ℕ) (ports : List ℕ) → stores word (effectOf e) ≡ portEffect (givenOf g word ports) r) ⌝ }
+    ensures { λ e. ⌜ (e .at ≡ ramLength) × ((word : ℕ) (ports : List ℕ) → stores word (effectOf e) ≡ portEffect (givenOf g word ports) r) ⌝ }
 {
     let mut c = next(g);
     c.registers.acc = r.acc;

@@ -4,10 +4,10 @@ use libc::STDOUT_FILENO;
 use runs::MachineCycles;
 use runs::Outcome;
 use upd546::CYCLE_BYTES;
-use upd546::IMAGE_LENGTH;
 use upd546::LOG_RECORD;
 use upd546::ROM_LENGTH;
 use upd546::RunAnswer;
+use upd546::layout::IMAGE_LENGTH;
 
 // A run of n cycles that isn't refused is lent 8n + 8 bytes.
 const LOG_LENGTH: usize = 8 * 7 + 8;
@@ -34,12 +34,12 @@ fn evening(rom: &[u8], image: &mut [u8]) {
     let answer = runner::run_plain(rom, &schedule, state, &mut log, MachineCycles(3));
     show(answer, &log);
     let next = answer.state;
-    tell(b"saved", image::save(next, image));
+    tell(b"saved", save::save(next, image));
 }
 
 // The bytes are restored, and the panel goes on by the timer-skipping runner. It stops at the code that is none, with number 23.
 fn morning(rom: &[u8], image: &[u8]) {
-    let kept = image::restore(image);
+    let kept = restore::restore(image);
     let outcome = kept.outcome;
     tell(b"restored", outcome);
     let schedule = [0u8; 0];
@@ -51,7 +51,7 @@ fn morning(rom: &[u8], image: &[u8]) {
 
 // DP has 7 bits, so the image is refused with 34. The answer's state is the fresh one.
 fn damaged(image: &[u8]) {
-    let kept = image::restore(image);
+    let kept = restore::restore(image);
     let outcome = kept.outcome;
     tell(b"damaged", outcome);
 }

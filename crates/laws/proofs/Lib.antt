@@ -12,3 +12,4 @@ pub mod Tails
 pub mod Images
 pub mod Jump
 pub mod Demand3
+pub mod Records

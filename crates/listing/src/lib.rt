@@ -13,7 +13,7 @@ ghost use lib.ListN.{length, replicate};
 ghost use Rattle.runs.specs.Numbers.{endOf};
 ghost use Rattle.runs.specs.TwoRunners.{plain};
 ghost use Rattle.upd546.specs.TheMachine.{fresh};
-ghost use Rattle.upd546.specs.Ports.{portI};
+ghost use Rattle.upd546.specs.Ports.{portI, logRecordLength};
 ghost use Rattle.upd546.specs.TwoRunners.{upd546, answerOf};
 ghost use Rattle.upd546.specs.Reports.{decimal, portLetter, hexDigit, recordText, recordsText, refusedText, reportText, onEnd, traceLog, runText};
 ghost use Rattle.listing.specs.Writing.{Appended, numberLength, lineLength, refusedLength, endLength, textLength, endLine};
@@ -89,7 +89,7 @@ fn put_number(out: &mut [u8], at: usize, n: u64, after: u8) -> usize
 
 // The line of record i of a log.
 fn put_line(out: &mut [u8], at: usize, log: &[u8], i: usize) -> usize
-    requires { ⌜ (at + lineLength ≤ length (now out)) × (8 * i + 8 ≤ length (now log)) × Legible (now log) (i + 1) ⌝ }
+    requires { ⌜ (at + lineLength ≤ length (now out)) × (logRecordLength * (i + 1) ≤ length (now log)) × Legible (now log) (i + 1) ⌝ }
     ensures { λ r. ⌜ Appended (now (out .entry)) at (recordText (now (log .entry)) i) (now (out .exit)) r × (r ≤ at + lineLength) ⌝ }
 {
     let from = LOG_RECORD * i;
@@ -101,7 +101,7 @@ fn put_line(out: &mut [u8], at: usize, log: &[u8], i: usize) -> usize
 
 // The lines of the first records of a log.
 fn put_lines(out: &mut [u8], at: usize, log: &[u8], count: usize) -> usize
-    requires { ⌜ (at + lineLength * count ≤ length (now out)) × (8 * count ≤ length (now log)) × Legible (now log) count ⌝ }
+    requires { ⌜ (at + lineLength * count ≤ length (now out)) × (logRecordLength * count ≤ length (now log)) × Legible (now log) count ⌝ }
     ensures { λ r. ⌜ Appended (now (out .entry)) at (recordsText (now (log .entry)) count) (now (out .exit)) r × (r ≤ at + lineLength * count) ⌝ }
 {
     let mut to = at;

@@ -8,7 +8,7 @@ ghost use mathlib.Core.Path.{_≡_};
 ghost use mathlib.Core.List.{_++_};
 ghost use Prim.Native.Nat.{ℕ, _-_, _*_, _≤_};
 ghost use lib.ListN.{length, drop, set};
-ghost use Rattle.upd546.specs.Ports.{logRecord};
+ghost use Rattle.upd546.specs.Ports.{portC, portI, logRecord, logRecordLength};
 ghost use Rattle.laws.specs.Writes.{All, ValidWrite};
 ghost use Rattle.portlog.specs.Appending.{writesOf, Written};
 
@@ -22,8 +22,8 @@ const OCD_LENGTH: usize = 2 * LOG_RECORD;
 
 // One record, at the front of the part of the log that is still empty.
 fn put_record(log: &mut [u8], n: u64, port: u8, value: u8)
-    requires { ⌜ 8 ≤ length (now log) ⌝ }
-    ensures { λ _. ⌜ now (log .exit) ≡ logRecord n (record { port = port; value = value }) ++ drop 8 (now (log .entry)) ⌝ }
+    requires { ⌜ logRecordLength ≤ length (now log) ⌝ }
+    ensures { λ _. ⌜ now (log .exit) ≡ logRecord n (record { port = port; value = value }) ++ drop logRecordLength (now (log .entry)) ⌝ }
 {
     big_endian::put_six(log, n);
     log[6] = port;
@@ -32,7 +32,7 @@ fn put_record(log: &mut [u8], n: u64, port: u8, value: u8)
 
 // The bytes that the writes append.
 pub fn room(port: u8) -> usize
-    ensures { λ r. ⌜ ((value : ℕ) → r ≡ 8 * length (writesOf port value)) ⌝ }
+    ensures { λ r. ⌜ ((value : ℕ) → r ≡ logRecordLength * length (writesOf port value)) ⌝ }
 {
     if port == NO_PORT {
         return 0;
@@ -45,8 +45,8 @@ pub fn room(port: u8) -> usize
 
 // The latch of a port becomes a value.
 fn latch(ports: &mut [u8; LATCHES], port: u8, value: u8)
-    requires { ⌜ (2 ≤ port) × (port ≤ 8) ⌝ }
-    ensures { λ _. ⌜ now (ports .exit) ≡ set (now (ports .entry)) (port - 2) value ⌝ }
+    requires { ⌜ (portC ≤ port) × (port ≤ portI) ⌝ }
+    ensures { λ _. ⌜ now (ports .exit) ≡ set (now (ports .entry)) (port - portC) value ⌝ }
 {
     let i = (port - PORT_C) as usize;
     ports[i] = value;
@@ -54,7 +54,7 @@ fn latch(ports: &mut [u8; LATCHES], port: u8, value: u8)
 
 // Appends the writes that `port` and `value` stand for, in cycle n, and answers their bytes.
 pub fn output(log: &mut [u8], ports: &mut [u8; LATCHES], n: u64, port: u8, value: u8) -> usize
-    requires { ⌜ (8 * length (writesOf port value) ≤ length (now log)) × All ValidWrite (writesOf port value) ⌝ }
+    requires { ⌜ (logRecordLength * length (writesOf port value) ≤ length (now log)) × All ValidWrite (writesOf port value) ⌝ }
     ensures { λ r. ⌜ Written (now (log .entry)) (now (ports .entry)) n (writesOf port value) (now (log .exit)) (now (ports .exit)) r ⌝ }
 {
     if port == NO_PORT {

@@ -58,7 +58,7 @@ fn counts_nothing(answer: RunAnswer) -> bool {
 fn save(state: State) -> bool {
     let mut buffer = [0u8; 80];
     test_cases::make_log(&mut buffer);
-    let outcome = image::save(state, &mut buffer);
+    let outcome = save::save(state, &mut buffer);
     if runs::outcome_number(outcome) != 1 {
         return false;
     }
@@ -66,7 +66,7 @@ fn save(state: State) -> bool {
 }
 
 fn restore() -> bool {
-    let answer = image::restore(&[0u8; 80]);
+    let answer = restore::restore(&[0u8; 80]);
     let outcome = answer.outcome;
     let state = answer.state;
     if runs::outcome_number(outcome) != 31 {

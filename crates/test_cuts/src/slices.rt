@@ -3,9 +3,9 @@ use crate::lent;
 use crate::refused;
 use crate::unbroken::Unbroken;
 use runs::MachineCycles;
-use upd546::IMAGE_LENGTH;
 use upd546::RunAnswer;
 use upd546::State;
+use upd546::layout::IMAGE_LENGTH;
 
 // The runner, the call that is refused after the run, and the cycles of the run.
 pub struct Slice {
@@ -66,7 +66,7 @@ pub fn ends_same(p: Progress, u: Unbroken) -> bool {
 fn saves_as(state: State, image: [u8; IMAGE_LENGTH]) -> bool {
     let mut again = [0u8; IMAGE_LENGTH];
     test_cases::make_log(&mut again);
-    let outcome = image::save(state, &mut again);
+    let outcome = save::save(state, &mut again);
     if runs::outcome_number(outcome) != 0 {
         return false;
     }
@@ -171,8 +171,8 @@ fn kept(p: Progress) -> Progress {
     let state = p.state;
     let mut bytes = [0u8; IMAGE_LENGTH];
     test_cases::make_log(&mut bytes);
-    let saved = image::save(state, &mut bytes);
-    let answer = image::restore(&bytes);
+    let saved = save::save(state, &mut bytes);
+    let answer = restore::restore(&bytes);
     let restored = answer.outcome;
     let again = answer.state;
     let done = (runs::outcome_number(saved) == 0) & (runs::outcome_number(restored) == 0);

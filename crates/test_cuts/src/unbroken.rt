@@ -1,7 +1,7 @@
 // The unbroken run of a panel: all its cycles in one call.
 use crate::lent;
-use upd546::IMAGE_LENGTH;
 use upd546::State;
+use upd546::layout::IMAGE_LENGTH;
 
 // Where a panel starts, its cycles, and what its unbroken run on the plain runner ends with.
 pub struct Unbroken {
@@ -20,7 +20,7 @@ pub fn run(rom: &[u8], schedule: &[u8], start: State, n: u32, log: &mut [u8]) ->
     let state = answer.state;
     let mut image = [0u8; IMAGE_LENGTH];
     test_cases::make_log(&mut image);
-    image::save(state, &mut image);
+    save::save(state, &mut image);
     Unbroken {
         start,
         n,

@@ -27,7 +27,7 @@ fn prepare(t: Tally, file: &[u8], g: Group, i: u32, s: u32, bytes: &mut [u8]) ->
 }
 
 fn restored(t: Tally, bytes: &[u8]) -> Tally {
-    let answer = image::restore(bytes);
+    let answer = restore::restore(bytes);
     let outcome = answer.outcome;
     let state = answer.state;
     let number = runs::outcome_number(outcome);
@@ -41,7 +41,7 @@ fn restored(t: Tally, bytes: &[u8]) -> Tally {
 // Whether a save of the state writes these bytes.
 fn saves_as(state: State, bytes: &[u8]) -> bool {
     let mut again = [0u8; 81];
-    let outcome = image::save(state, &mut again);
+    let outcome = save::save(state, &mut again);
     if runs::outcome_number(outcome) != 0 {
         return false;
     }
@@ -58,7 +58,7 @@ fn lend(t: Tally, state: State, room: usize) -> Tally
 
 fn saved(t: Tally, state: State, buffer: &mut [u8]) -> Tally {
     test_cases::make_log(buffer);
-    let outcome = image::save(state, buffer);
+    let outcome = save::save(state, buffer);
     let number = runs::outcome_number(outcome);
     let u = counted(t, number, test_cases::log_digest(buffer));
     if number != 0 {
@@ -72,7 +72,7 @@ fn restores_as(buffer: &[u8], state: State) -> bool {
     if buffer.len() < 81 {
         return false;
     }
-    let answer = image::restore(&buffer[..81]);
+    let answer = restore::restore(&buffer[..81]);
     let outcome = answer.outcome;
     let again = answer.state;
     if runs::outcome_number(outcome) != 0 {

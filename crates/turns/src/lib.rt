@@ -20,6 +20,7 @@ ghost use mathlib.Core.Path.{_≡_};
 ghost use Prim.Native.Nat.{_-_, _*_, _≤_};
 ghost use Rattle.runs.specs.Numbers.{stopNumber};
 ghost use Rattle.runs.specs.Refusals.{cycleLimit};
+ghost use Rattle.runs.specs.Reports.{clocksPerCycle};
 ghost use Rattle.upd546.specs.TwoRunners.{answerOf};
 ghost use Rattle.cycle.specs.Answer.{stateOf};
 ghost use Rattle.jump.specs.Boundary.{Boundary};
@@ -59,7 +60,7 @@ fn answer(
     spared: u64,
 ) -> RunAnswer
     requires { ⌜ (done ≤ cycleLimit) × (spared ≤ done) ⌝ }
-    ensures { λ r. ⌜ r ≡ record { end = end; state = state; cycles = record { 0 = done }; clocks = record { 0 = 4 * done }; begun = begun; written = written; steps = done - spared } ⌝ }
+    ensures { λ r. ⌜ r ≡ record { end = end; state = state; cycles = record { 0 = done }; clocks = record { 0 = clocksPerCycle * done }; begun = begun; written = written; steps = done - spared } ⌝ }
 {
     RunAnswer {
         end,

@@ -58,7 +58,11 @@ abbrev pub latched : List Write → List ℕ → List ℕ
 latched [] ports = ports
 latched (w ∷ ws) ports = latched ws (set ports (w .port - portC) (w .value))
 
--- "appends 8 bytes: cycle (6, big-endian), port (2 to 8), value"
+-- "appends 8 bytes"
+abbrev pub logRecordLength : ℕ
+logRecordLength = 8
+
+-- "cycle (6, big-endian), port (2 to 8), value"
 abbrev pub logRecord : ℕ → Write → List ℕ
 logRecord n w = bytesOf 6 n ++ (w .port ∷ w .value ∷ [])
 

@@ -20,6 +20,55 @@ use Rattle.upd546.specs.Sequences.{allOf, allBelow, sameNumbers}
 abbrev pub imageLength : ℕ
 imageLength = 81
 
+-- Where each part begins: "0-2 the mark `U43`; 3-4 version 1; 5-6 PC; 7-12 stack, newest first"
+abbrev pub imageMarkAt : ℕ
+imageMarkAt = 0
+
+abbrev pub versionAt : ℕ
+versionAt = 3
+
+abbrev pub pcAt : ℕ
+pcAt = 5
+
+abbrev pub stackAt : ℕ
+stackAt = 7
+
+-- "13 DP; 14 Acc; 15 bits 0 to 5: C, C', INT, INTE, TM, level; 16 mark 0 to 3 in the order above; 17 owed"
+abbrev pub dpAt : ℕ
+dpAt = 13
+
+abbrev pub accAt : ℕ
+accAt = 14
+
+abbrev pub flagsAt : ℕ
+flagsAt = 15
+
+abbrev pub markAt : ℕ
+markAt = 16
+
+abbrev pub owedAt : ℕ
+owedAt = 17
+
+-- "18 register, 0 when stopped; 19 counter, 0 when stopped"
+abbrev pub registerAt : ℕ
+registerAt = 18
+
+abbrev pub counterAt : ℕ
+counterAt = 19
+
+-- "20-26 ports C to I; 27-74 RAM rows 0 to 4 and 7, even column in the high half; 75-80 cycle"
+abbrev pub portsAt : ℕ
+portsAt = 20
+
+abbrev pub ramAt : ℕ
+ramAt = 27
+
+abbrev pub ramBytes : ℕ
+ramBytes = ramLength / 2
+
+abbrev pub cycleAt : ℕ
+cycleAt = 75
+
 -- "0-2 the mark `U43`"
 abbrev pub imageMark : List ℕ
 imageMark = 0x55 ∷ 0x34 ∷ 0x33 ∷ []
@@ -72,21 +121,21 @@ unfoldable pub ofImage : List ℕ → State
 ofImage image = record {
   core = record {
     registers = record {
-      acc = byte image 14;
-      carry = bitAt (byte image 15) 0;
-      saved = bitAt (byte image 15) 1;
-      dph = byte image 13 / 16;
-      dpl = byte image 13 % 16;
+      acc = byte image accAt;
+      carry = bitAt (byte image flagsAt) 0;
+      saved = bitAt (byte image flagsAt) 1;
+      dph = byte image dpAt / 16;
+      dpl = byte image dpAt % 16;
     };
-    flow = record { pc = numberAt image 5 2; stack = entries stackDepth (λ i. numberAt image (7 + 2 * i) 2) };
-    interrupt = record { int = bitAt (byte image 15) 2; inte = bitAt (byte image 15) 3; level = bitAt (byte image 15) 5 };
-    timer = record { tm = bitAt (byte image 15) 4; register = byte image 18; counter = byte image 19 };
-    mark = byte image 16;
-    owed = byte image 17;
+    flow = record { pc = numberAt image pcAt 2; stack = entries stackDepth (λ i. numberAt image (stackAt + 2 * i) 2) };
+    interrupt = record { int = bitAt (byte image flagsAt) 2; inte = bitAt (byte image flagsAt) 3; level = bitAt (byte image flagsAt) 5 };
+    timer = record { tm = bitAt (byte image flagsAt) 4; register = byte image registerAt; counter = byte image counterAt };
+    mark = byte image markAt;
+    owed = byte image owedAt;
   };
-  ports = part image 20 latches;
-  ram = unpacked (part image 27 (ramLength / 2));
-  cycle = record { 0 = numberAt image 75 6 };
+  ports = part image portsAt latches;
+  ram = unpacked (part image ramAt ramBytes);
+  cycle = record { 0 = numberAt image cycleAt 6 };
 }
 
 -- "A field above its width or rule is refused", part by part of a state.
@@ -129,14 +178,14 @@ stateNumber s = unless (stateSound s) 34
 
 -- of an image the flags byte has a width of its own: 6 bits
 unfoldable pub fieldsNumber : List ℕ → ℕ
-fieldsNumber image = unless (ltb (byte image 15) 64 && stateSound (ofImage image)) 34
+fieldsNumber image = unless (ltb (byte image flagsAt) 64 && stateSound (ofImage image)) 34
 
 -- "31 length not 81; 32 bytes 0 to 2; 33 version; 34 a field"
 unfoldable pub imageNumber : List ℕ → ℕ
 imageNumber image =
     firstOf
     (unless (eqb (length image) imageLength) 31
-    ∷ unless (sameNumbers (part image 0 3) imageMark) 32
-    ∷ unless (sameNumbers (part image 3 2) imageVersion) 33
+    ∷ unless (sameNumbers (part image imageMarkAt 3) imageMark) 32
+    ∷ unless (sameNumbers (part image versionAt 2) imageVersion) 33
     ∷ fieldsNumber image
     ∷ [])

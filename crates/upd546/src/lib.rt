@@ -1,5 +1,7 @@
 // The uPD546 of document 01: the types that definitions and functions share, the fresh state, and in specs/ every sentence
 // of the document as a definition, a file for each section. It may not know how a runner, a save or a restore is written.
+pub mod layout;
+
 use runs::ClockCycles;
 use runs::MachineCycles;
 use runs::Outcome;
@@ -7,8 +9,8 @@ use runs::RunEnd;
 ghost use mathlib.Core.Path.{_≡_};
 ghost use Rattle.upd546.specs.TheMachine.{fresh};
 
-// The sizes of the chip and its image. `romLength`, `lastAddress`, `ramLength`, `stackDepth`, `latches` and `imageLength` are
-// the same numbers.
+// The sizes of the chip. `romLength`, `lastAddress`, `ramLength`, `stackDepth` and `latches` are the same numbers;
+// the image's are in `layout`.
 pub const ROM_LENGTH: usize = 2000;
 
 pub const LAST_ADDRESS: u16 = 1999;
@@ -18,8 +20,6 @@ pub const RAM_WORDS: usize = 96;
 pub const STACK_DEPTH: usize = 3;
 
 pub const LATCHES: usize = 7;
-
-pub const IMAGE_LENGTH: usize = 81;
 
 // The bytes of a cycle number in schedules, images and logs.
 pub const CYCLE_BYTES: usize = 6;

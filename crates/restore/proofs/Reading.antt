@@ -1,0 +1,100 @@
+-- The numbers that refuse an image, in their order. Assumes nothing.
+use mathlib.Core.Path.{_≡_, _∙_, refl, sym}
+use mathlib.Core.Bool.{Bool, true, false, _&&_}
+use mathlib.Core.List.{List, [], _∷_}
+use Prim.Native.Nat.{ℕ, zero, suc, _+_, _-_, _≤_, _<_}
+use native.Mathlib.Numerals.{add-one}
+use native.Mathlib.Omega.{arith}
+use lib.Dec.{eqb, ltb}
+use lib.ListN.{length, getD, drop, drop-of-length-le}
+use lib.Seq.{drop-cons}
+use borrow.Author.Tests.{eq-eqb, ne-eqb, eqb-true, lt-ltb, le-ltb}
+use Rattle.runs.specs.TwoRunners.{restoreAnswer}
+use Rattle.runs.specs.Refusals.{firstOf, unless}
+use Rattle.runs.proofs.Refusals.{first-at, passes}
+use Rattle.upd546.specs.TheMachine.{fresh}
+use Rattle.upd546.specs.Sequences.{sameNumbers}
+use Rattle.upd546.specs.Bytes.{part}
+use Rattle.upd546.specs.StateImage.{imageLength, imageMark, imageVersion, byte, ofImage, stateSound, stateNumber, fieldsNumber, imageNumber}
+use Rattle.upd546.specs.TwoRunners.{upd546}
+use Rattle.laws.proofs.Parts.{part-cons}
+use Rattle.restore.specs.Head.{headNumber}
+
+module _ (image : List ℕ) where
+  pub by-length : (length image ≡ imageLength → ⊥) → 31 ≡ headNumber image
+  unfolding headNumber firstOf
+  by-length h = rw (ne-eqb (length image) imageLength h)
+
+  module _ (l : length image ≡ imageLength) where
+    pub by-mark : sameNumbers (part image 0 3) imageMark ≡ false → 32 ≡ headNumber image
+    unfolding headNumber firstOf
+    by-mark h = rw (eq-eqb (length image) imageLength l, h)
+
+    module _ (m : sameNumbers (part image 0 3) imageMark ≡ true) where
+      pub by-version : sameNumbers (part image 3 2) imageVersion ≡ false → 33 ≡ headNumber image
+      unfolding headNumber firstOf
+      by-version h = rw (eq-eqb (length image) imageLength l, m, h)
+
+      module _ (v : sameNumbers (part image 3 2) imageVersion ≡ true) where
+        pub by-flags : 64 ≤ byte image 15 → 34 ≡ headNumber image
+        unfolding headNumber firstOf
+        by-flags h = rw (eq-eqb (length image) imageLength l, m, v, le-ltb (byte image 15) 64 h)
+
+        pub by-none : byte image 15 < 64 → 0 ≡ headNumber image
+        unfolding headNumber firstOf
+        by-none h = rw (eq-eqb (length image) imageLength l, m, v, lt-ltb (byte image 15) 64 h)
+
+  -- an image whose head passes
+  pub head-length : headNumber image ≡ 0 → length image ≡ imageLength
+  unfolding headNumber
+  head-length e = eqb-true (length image) imageLength (passes (eqb (length image) imageLength) 30 (first-at _ e 0))
+
+-- THE LOOP that compares bytes with those expected, at the byte i
+module _ (bytes expected : List ℕ) (at i : ℕ) (fits : at + length expected ≤ length bytes) (more : i < length expected) where
+  one-step : sameNumbers (part bytes (at + i) (length expected - i)) (drop i expected)
+      ≡ (eqb (byte bytes (at + i)) (getD expected i 0) && sameNumbers (part bytes (at + (i + 1)) (length expected - (i + 1))) (drop (i + 1) expected))
+  one-step =
+      let left : length expected - i ≡ suc (length expected - (i + 1)) = omega arith in
+      let place : at + i + 1 ≡ at + (i + 1) = omega arith in
+      rw (left, part-cons bytes (at + i) (length expected - (i + 1)) (omega arith), drop-cons expected i 0 more, place, add-one i)
+
+  pub compared-more : byte bytes (at + i) ≡ getD expected i 0
+      → sameNumbers (part bytes (at + (i + 1)) (length expected - (i + 1))) (drop (i + 1) expected) ≡ sameNumbers (part bytes (at + i) (length expected - i)) (drop i expected)
+  compared-more e = sym (one-step ∙ rw (eq-eqb (byte bytes (at + i)) (getD expected i 0) e))
+
+  pub compared-other : (byte bytes (at + i) ≡ getD expected i 0 → ⊥) → sameNumbers (part bytes (at + i) (length expected - i)) (drop i expected) ≡ false
+  compared-other e = one-step ∙ rw (ne-eqb (byte bytes (at + i)) (getD expected i 0) e)
+
+pub compared-all : (bytes expected : List ℕ) (at i : ℕ) → length expected ≤ i → sameNumbers (part bytes (at + i) (length expected - i)) (drop i expected) ≡ true
+compared-all bytes expected at i h =
+    let none : length expected - i ≡ 0 = omega arith in
+    rw (none, drop-of-length-le expected h)
+
+-- WHAT A RESTORE ANSWERS
+module _ (image : List ℕ) where
+  -- what refuses an image is what refuses its head, or its fields
+  all-number : imageNumber image ≡ firstOf (headNumber image ∷ stateNumber (ofImage image) ∷ [])
+  unfolding imageNumber headNumber fieldsNumber stateNumber firstOf
+  all-number = go (eqb (length image) imageLength) (sameNumbers (part image 0 3) imageMark) (sameNumbers (part image 3 2) imageVersion) (ltb (byte image 15) 64) (stateSound (ofImage image))
+    where
+      go : (a b c d e : Bool) → firstOf (unless a 31 ∷ unless b 32 ∷ unless c 33 ∷ unless (d && e) 34 ∷ []) ≡ firstOf (firstOf (unless a 31 ∷ unless b 32 ∷ unless c 33 ∷ unless d 34 ∷ []) ∷ unless e 34 ∷ [])
+      go false b c d e = refl
+      go true false c d e = refl
+      go true true false d e = refl
+      go true true true false e = refl
+      go true true true true e = refl
+
+  pub restore-head : (k : ℕ) → k ≡ headNumber image → (k ≡ 0 → ⊥) → record { number = k; state = fresh } ≡ restoreAnswer upd546 image
+  unfolding restoreAnswer firstOf
+  restore-head zero e h = absurd (h refl)
+  restore-head (suc k) e h = rw (all-number, ← e)
+
+  module _ (head : headNumber image ≡ 0) where
+    pub restore-fields : (k : ℕ) → k ≡ stateNumber (ofImage image) → (k ≡ 0 → ⊥) → record { number = k; state = fresh } ≡ restoreAnswer upd546 image
+    unfolding restoreAnswer firstOf
+    restore-fields zero e h = absurd (h refl)
+    restore-fields (suc k) e h = rw (all-number, head, ← e)
+
+    pub restore-done : stateNumber (ofImage image) ≡ 0 → record { number = 0; state = ofImage image } ≡ restoreAnswer upd546 image
+    unfolding restoreAnswer firstOf
+    restore-done e = rw (all-number, head, e)

@@ -1,0 +1,125 @@
+// SAVE: a state written to a buffer as the bytes of its image. It may not know how an image is read, nor how a run goes.
+use runs::Outcome;
+use runs::Refusal;
+use upd546::Core;
+use upd546::RAM_WORDS;
+use upd546::STACK_DEPTH;
+use upd546::State;
+use upd546::layout::CORE_AT;
+use upd546::layout::CYCLE_AT;
+use upd546::layout::IMAGE_LENGTH;
+use upd546::layout::IMAGE_MARK;
+use upd546::layout::IMAGE_MARK_AT;
+use upd546::layout::IMAGE_VERSION;
+use upd546::layout::PC_AT;
+use upd546::layout::PORTS_AT;
+use upd546::layout::RAM_AT;
+use upd546::layout::RAM_BYTES;
+use upd546::layout::STACK_AT;
+use upd546::layout::VERSION_AT;
+ghost use mathlib.Core.Path.{_≡_};
+ghost use mathlib.Core.List.{_++_};
+ghost use Prim.Native.Nat.{_+_, _≤_};
+ghost use lib.ListN.{length, take, drop};
+ghost use Rattle.runs.specs.TwoRunners.{saveAnswer};
+ghost use Rattle.upd546.specs.Bytes.{bytesOf};
+ghost use Rattle.upd546.specs.StateImage.{imageLength, portsAt, wordsBytes, coreBytes, packed, imageOf};
+ghost use Rattle.upd546.specs.TwoRunners.{upd546, saveOf};
+ghost use Rattle.laws.specs.Valid.{Scalars, ValidCore, ValidRam, Valid};
+ghost use Rattle.save.specs.Front.{frontBytes};
+
+// Copies a part into a buffer, from a place on.
+fn put(buffer: &mut [u8], at: usize, bytes: &[u8])
+    requires { ⌜ at + length (now bytes) ≤ length (now buffer) ⌝ }
+    ensures { λ _. ⌜ now (buffer .exit) ≡ take at (now (buffer .entry)) ++ now (bytes .entry) ++ drop (at + length (now (bytes .entry))) (now (buffer .entry)) ⌝ }
+{
+    bytes::copy(bytes, &mut buffer[at..]);
+}
+
+fn word_bytes(w: u16) -> [u8; 2]
+    ensures { λ r. ⌜ r ≡ bytesOf 2 w ⌝ }
+{
+    [(w / 256) as u8, (w % 256) as u8]
+}
+
+fn stack_bytes(stack: [u16; STACK_DEPTH]) -> [u8; 6]
+    ensures { λ r. ⌜ r ≡ wordsBytes stack ⌝ }
+{
+    let first = word_bytes(stack[0]);
+    let second = word_bytes(stack[1]);
+    let third = word_bytes(stack[2]);
+    [first[0], first[1], second[0], second[1], third[0], third[1]]
+}
+
+// DP, Acc, flags, mark, owed and the timer.
+fn core_bytes(c: Core) -> [u8; 7]
+    requires { ⌜ Scalars c ⌝ }
+    ensures { λ r. ⌜ r ≡ coreBytes c ⌝ }
+{
+    let low = c.registers.carry + 2 * c.registers.saved + 4 * c.interrupt.int;
+    let flags = low + 8 * c.interrupt.inte + 16 * c.timer.tm + 32 * c.interrupt.level;
+    [
+        16 * c.registers.dph + c.registers.dpl,
+        c.registers.acc,
+        flags,
+        c.mark,
+        c.owed,
+        c.timer.register,
+        c.timer.counter,
+    ]
+}
+
+// Even columns in the high half.
+fn ram_bytes(words: [u8; RAM_WORDS]) -> [u8; RAM_BYTES]
+    requires { ⌜ ValidRam words ⌝ }
+    ensures { λ r. ⌜ r ≡ packed words ⌝ }
+{
+    let mut bytes = [0; RAM_BYTES];
+    let mut i = 0;
+    while i < RAM_BYTES {
+        bytes[i] = 16 * words[2 * i] + words[2 * i + 1];
+        i += 1;
+    }
+    bytes
+}
+
+// What stands before the ports.
+fn write_core(c: Core, buffer: &mut [u8])
+    requires { ⌜ ValidCore c × (imageLength ≤ length (now buffer)) ⌝ }
+    ensures { λ _. ⌜ now (buffer .exit) ≡ frontBytes c ++ drop portsAt (now (buffer .entry)) ⌝ }
+{
+    let stack = c.flow.stack;
+    put(buffer, IMAGE_MARK_AT, &IMAGE_MARK);
+    put(buffer, VERSION_AT, &IMAGE_VERSION);
+    put(buffer, PC_AT, &word_bytes(c.flow.pc));
+    put(buffer, STACK_AT, &stack_bytes(stack));
+    put(buffer, CORE_AT, &core_bytes(c));
+}
+
+// The image of a state that isn't refused, at the front of a buffer.
+fn write(s: State, buffer: &mut [u8])
+    requires { ⌜ Valid s × (imageLength ≤ length (now buffer)) ⌝ }
+    ensures { λ _. ⌜ now (buffer .exit) ≡ imageOf s ++ drop imageLength (now (buffer .entry)) ⌝ }
+{
+    let ports = s.ports;
+    let words = s.ram;
+    write_core(s.core, buffer);
+    put(buffer, PORTS_AT, &ports);
+    put(buffer, RAM_AT, &ram_bytes(words));
+    big_endian::put_six(&mut buffer[CYCLE_AT..], s.cycle.0);
+}
+
+// SAVE: 34, then 1, and then the bytes of the image only.
+pub fn save(s: State, buffer: &mut [u8]) -> Outcome
+    ensures { λ r. ⌜ saveOf r (now (buffer .exit)) ≡ saveAnswer upd546 s (now (buffer .entry)) ⌝ }
+{
+    let by_fields = fields::check(s);
+    if runs::outcome_number(by_fields) != 0 {
+        return by_fields;
+    }
+    if buffer.len() < IMAGE_LENGTH {
+        return Outcome::Refused(Refusal::BufferShort);
+    }
+    write(s, buffer);
+    Outcome::Done
+}
