@@ -1,3 +1,3 @@
 pub mod Lent
-pub mod Kept
+pub mod Tail
 pub mod Refused

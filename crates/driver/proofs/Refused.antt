@@ -1,34 +1,20 @@
--- What `drive` and `driven` ensure, where the run is refused: the machine and the log are as they were. Assumes nothing.
-use mathlib.Core.Path.{_≡_, _∙_, refl, sym, ap, subst}
+-- What `drive` and `advance` ensure, where the run is refused: the machine and the log are as they were. Assumes nothing.
+use mathlib.Core.Path.{_≡_, _∙_, sym, ap, subst}
 use mathlib.Core.List.{List}
 use Prim.Native.Nat.{ℕ, suc}
 use Rattle.runs.specs.declared.Refusal.{Refusal}
-use Rattle.runs.specs.declared.Refusal.the-variants as why
 use Rattle.runs.specs.declared.RunEnd.{RunEnd}
 use Rattle.runs.specs.declared.RunEnd.the-variants.{Refused}
 use Rattle.runs.specs.Numbers.{refusalNumber, endOf}
 use Rattle.runs.specs.TwoRunners.{RunAnswer, refused, runNumber}
 use Rattle.runs.specs.Lists.{Kind, run, runAnswer, refusal, refusalOf, ChangesNothing}
 use Rattle.runs.proofs.Calls.{by-number, changes-nothing}
+use Rattle.runs.proofs.Refusals.{numbered}
 use Rattle.upd546.specs.declared.State.{State}
 use Rattle.upd546.specs.TwoRunners.{upd546}
 use Rattle.driver.specs.declared.KeptMachine.{KeptMachine}
 use Rattle.driver.specs.declared.Report.{Report}
 use Rattle.driver.specs.Lending.{broughtTo, AsItWas}
-
--- a refusal's number isn't 0
-numbered : (y : Refusal) → (k : ℕ) × (refusalNumber y ≡ suc k)
-numbered why.BufferShort = (0, refl)
-numbered why.CycleLimit = (1, refl)
-numbered why.ScheduleLength = (10, refl)
-numbered why.ScheduleLong = (11, refl)
-numbered why.RecordBytes = (12, refl)
-numbered why.RecordOrder = (13, refl)
-numbered why.RomLength = (20, refl)
-numbered why.ImageLength = (30, refl)
-numbered why.ImageMark = (31, refl)
-numbered why.ImageVersion = (32, refl)
-numbered why.Field = (33, refl)
 
 module _ (kind : Kind) (rom sched : List ℕ) (m : KeptMachine) (log : List ℕ) (n : ℕ) where
   -- what a refused run answers, with this number

@@ -2,7 +2,8 @@
 -- Assumes nothing: these are definitions.
 use Prim.Native.Nat.{ℕ}
 use mathlib.Core.Path.{_≡_}
-use mathlib.Core.List.{List}
+use mathlib.Core.List.{List, _++_}
+use lib.ListN.{take}
 use Rattle.runs.specs.TwoRunners.{RunAnswer}
 use Rattle.runs.specs.Numbers.{endOf}
 use Rattle.runs.specs.Lists.{Kind, plainOne, skippingOne}
@@ -28,6 +29,20 @@ broughtTo r m log = record {
   written = r .written;
   steps = r .steps;
   log = log;
+}
+
+-- "the mutable log from its write place on is lent to the output instruction and to later slices": what a run answers that was
+-- lent a log from a place on, with the whole log. What stands before that place is as it was.
+abbrev pub keptBefore : ℕ → List ℕ → RunAnswer State → RunAnswer State
+keptBefore at log a = record {
+  end = a .end;
+  state = a .state;
+  cycles = a .cycles;
+  clocks = a .clocks;
+  begun = a .begun;
+  written = a .written;
+  steps = a .steps;
+  log = take at log ++ a .log;
 }
 
 -- "These change nothing, with all counts 0": the machine and the log after a refused run, and its report.

@@ -1,4 +1,4 @@
-// The board's driver: the board keeps one machine and lends it for a run, which brings it forward.
+// The board's driver: the board keeps one machine, and lends it for a run, which brings it forward; and a day's log in one buffer.
 // It may not know how a run goes, only what its runner answers.
 use runner::run_plain;
 use runner::run_skipping;
@@ -10,9 +10,10 @@ use upd546::State;
 ghost use mathlib.Core.Path.{_≡_};
 ghost use mathlib.Core.List.{List};
 ghost use Prim.Native.Nat.{ℕ};
+ghost use lib.ListN.{drop};
 ghost use Rattle.runs.specs.Lists.{runAnswer};
 ghost use Rattle.upd546.specs.TwoRunners.{upd546, answerOf};
-ghost use Rattle.driver.specs.Lending.{kindOf, broughtTo};
+ghost use Rattle.driver.specs.Lending.{kindOf, broughtTo, keptBefore};
 
 // The machine that the board keeps.
 pub struct KeptMachine {
@@ -62,8 +63,9 @@ fn told(a: RunAnswer) -> DriveAnswer
     }
 }
 
-// A run of n cycles by this runner, with the machine by value and back.
-fn forward(
+// A run of n cycles by this runner brings the machine forward; a refused one leaves it as it was. The machine goes in by value and
+// comes back by value, so whoever calls it needs no walk.
+pub fn advance(
     machine: KeptMachine,
     kind: Runner,
     rom: &[u8],
@@ -80,6 +82,26 @@ fn forward(
     }
 }
 
+// The same on the part of a log that is still empty, from the place `at` on: a day's log is one buffer. Behind the log's end that part
+// is empty.
+pub fn advance_from(
+    machine: KeptMachine,
+    kind: Runner,
+    rom: &[u8],
+    sched: &[u8],
+    log: &mut [u8],
+    at: usize,
+    n: MachineCycles,
+) -> DriveAnswer
+    ensures { λ r. ⌜ broughtTo (r .report) (r .machine) (now (log .exit)) ≡ keptBefore at (now (log .entry)) (runAnswer upd546 (kindOf kind) (now (rom .entry)) (now (sched .entry)) (machine .state) (drop at (now (log .entry))) (n .0)) ⌝ }
+{
+    let end = log.len();
+    if end < at {
+        return advance(machine, kind, rom, sched, &mut log[end..], n);
+    }
+    advance(machine, kind, rom, sched, &mut log[at..], n)
+}
+
 // A run of n cycles by this runner brings the lent machine forward; a refused one leaves it as it was.
 pub fn drive(
     machine: &mut KeptMachine,
@@ -92,27 +114,7 @@ pub fn drive(
     ensures { λ r. ⌜ broughtTo r (now (machine .exit)) (now (log .exit)) ≡ runAnswer upd546 (kindOf kind) (now (rom .entry)) (now (sched .entry)) (now (machine .entry) .state) (now (log .entry)) (n .0) ⌝ }
 {
     let m = *machine;
-    let a = forward(m, kind, rom, sched, log, n);
+    let a = advance(m, kind, rom, sched, log, n);
     *machine = a.machine;
     a.report
-}
-
-// A machine that is kept in a local and lent for the run. Its parameters are plain, so whoever calls it needs no walk.
-pub fn driven(
-    start: KeptMachine,
-    kind: Runner,
-    rom: &[u8],
-    sched: &[u8],
-    log: &mut [u8],
-    n: MachineCycles,
-) -> DriveAnswer
-    ensures { λ r. ⌜ broughtTo (r .report) (r .machine) (now (log .exit)) ≡ runAnswer upd546 (kindOf kind) (now (rom .entry)) (now (sched .entry)) (start .state) (now (log .entry)) (n .0) ⌝ }
-{
-    let mut kept = start;
-    let report = drive(&mut kept, kind, rom, sched, log, n);
-    let machine = kept;
-    DriveAnswer {
-        machine: machine,
-        report: report,
-    }
 }

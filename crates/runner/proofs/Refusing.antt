@@ -6,12 +6,11 @@ use Prim.Native.Nat.{ℕ, zero, suc, _+_}
 use lib.Dec.{leb}
 use lib.ListN.{length}
 use borrow.Author.Tests.{eq-eqb, ne-eqb}
-use native.Mathlib.Omega.{arith}
 use Rattle.runs.specs.declared.Refusal.{Refusal}
-use Rattle.runs.specs.declared.Refusal.the-variants as why
 use Rattle.runs.specs.Numbers.{refusalNumber}
 use Rattle.runs.specs.TwoRunners.{refused, runNumber, plain, skipping}
 use Rattle.runs.specs.Refusals.{cycleLimit, firstOf}
+use Rattle.runs.proofs.Refusals.{refusal-some}
 use Rattle.upd546.specs.declared.State.{State}
 use Rattle.upd546.specs.TheMachine.{romLength}
 use Rattle.upd546.specs.TheLineSchedule.{scheduleNumber}
@@ -44,20 +43,6 @@ module _ (rom sched : List ℕ) (s : State) (n : ℕ) where
         pub by-none : leb (s .cycle .0 + n) cycleLimit ≡ true → 0 ≡ runNumber upd546 rom sched s n
         unfolding runNumber panelNumber firstOf
         by-none h = rw (eq-eqb (length rom) romLength r, c, v, h)
-
--- every refusal has a number
-refusal-some : (w : Refusal) → refusalNumber w ≡ 0 → ⊥
-refusal-some why.BufferShort e = omega arith
-refusal-some why.CycleLimit e = omega arith
-refusal-some why.ScheduleLength e = omega arith
-refusal-some why.ScheduleLong e = omega arith
-refusal-some why.RecordBytes e = omega arith
-refusal-some why.RecordOrder e = omega arith
-refusal-some why.RomLength e = omega arith
-refusal-some why.ImageLength e = omega arith
-refusal-some why.ImageMark e = omega arith
-refusal-some why.ImageVersion e = omega arith
-refusal-some why.Field e = omega arith
 
 refused-by : (skips : Bool) (rom sched log : List ℕ) (s : State) (n k : ℕ) → k ≡ runNumber upd546 rom sched s n → (k ≡ 0 → ⊥)
     → record { end = refused k; state = s; cycles = 0; clocks = 0; begun = 0; written = 0; steps = 0; log = log } ≡ runBy skips rom sched s log n

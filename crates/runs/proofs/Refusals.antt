@@ -1,10 +1,13 @@
--- The first number of a list that refuses. Assumes nothing.
+-- The first number of a list that refuses; every refusal has a number. Assumes nothing.
 use mathlib.Core.Path.{_≡_, refl}
 use mathlib.Core.Bool.{Bool, true, false}
 use mathlib.Core.List.{List, [], _∷_, _++_}
 use Prim.Native.Nat.{ℕ, zero, suc, _<_}
 use native.Mathlib.Omega.{arith}
 use lib.ListN.{getD}
+use Rattle.runs.specs.declared.Refusal.{Refusal}
+use Rattle.runs.specs.declared.Refusal.the-variants as why
+use Rattle.runs.specs.Numbers.{refusalNumber}
 use Rattle.runs.specs.Refusals.{firstOf, unless}
 
 -- where none refuses, none of them does
@@ -42,3 +45,20 @@ first-append (suc k ∷ ks) js = refl
 pub passes : (b : Bool) (k : ℕ) → unless b (suc k) ≡ 0 → b ≡ true
 passes true k e = refl
 passes false k e = absurd (omega arith)
+
+-- every refusal has a number
+pub numbered : (w : Refusal) → (k : ℕ) × (refusalNumber w ≡ suc k)
+numbered why.BufferShort = (0, refl)
+numbered why.CycleLimit = (1, refl)
+numbered why.ScheduleLength = (10, refl)
+numbered why.ScheduleLong = (11, refl)
+numbered why.RecordBytes = (12, refl)
+numbered why.RecordOrder = (13, refl)
+numbered why.RomLength = (20, refl)
+numbered why.ImageLength = (30, refl)
+numbered why.ImageMark = (31, refl)
+numbered why.ImageVersion = (32, refl)
+numbered why.Field = (33, refl)
+
+pub refusal-some : (w : Refusal) → refusalNumber w ≡ 0 → ⊥
+refusal-some w e = omega (arith, numbered w .1)

@@ -25,32 +25,32 @@ fn empty(seed: u32) -> Tally {
 }
 
 // One list more.
-fn counted(t: Tally, p: Progress, u: Unbroken, drawn: u32) -> Tally {
+fn counted(t: Tally, p: Progress, same: bool, drawn: u32) -> Tally {
     let mut v = t;
     v.drawn = drawn;
     v.lists = std::num::wrapping_add_u32(t.lists, 1);
     v.slices = std::num::wrapping_add_u32(t.slices, p.slices);
     v.refused = std::num::wrapping_add_u32(t.refused, p.refused);
-    if slices::ends_same(p, u) {
+    if same {
         v.same = std::num::wrapping_add_u32(t.same, 1);
     }
     v
 }
 
 // The cuts at each cycle from 0 up to the last.
-pub fn cuts(
+pub(crate) fn cuts(
     u: Unbroken,
     last: u16,
     rom: &[u8],
     schedule: &[u8],
     whole: &[u8],
-    space: &mut [u8],
+    log: &mut [u8],
 ) -> Tally {
     let mut t = empty(0);
     let end = last as u32;
     let mut k: u32 = 0;
     while k <= end {
-        t = cut(t, u, k, rom, schedule, whole, space);
+        t = cut(t, u, k, rom, schedule, whole, log);
         k += 1;
     }
     t
@@ -63,13 +63,26 @@ fn cut(
     rom: &[u8],
     schedule: &[u8],
     whole: &[u8],
-    space: &mut [u8],
+    log: &mut [u8],
+) -> Tally {
+    test_cases::make_log(log);
+    two_slices(t, u, k, rom, schedule, whole, log)
+}
+
+fn two_slices(
+    t: Tally,
+    u: Unbroken,
+    k: u32,
+    rom: &[u8],
+    schedule: &[u8],
+    whole: &[u8],
+    log: &mut [u8],
 ) -> Tally {
     let start = u.start;
     let p = slices::begin(start);
-    let p = slices::one(p, before_cut(k), rom, schedule, whole, space);
-    let p = slices::one(p, after_cut(u.n, k), rom, schedule, whole, space);
-    counted(t, p, u, 0)
+    let p = slices::one(p, before_cut(k), rom, schedule, whole, log);
+    let p = slices::one(p, after_cut(u.n, k), rom, schedule, whole, log);
+    counted(t, p, slices::ends_same(p, u, whole, log), 0)
 }
 
 fn before_cut(k: u32) -> Slice {
@@ -96,19 +109,19 @@ fn left_of(n: u32, k: u32) -> u32 {
 }
 
 // So many lists of the generator.
-pub fn drawn(
+pub(crate) fn drawn(
     u: Unbroken,
     count: u16,
     seed: u32,
     rom: &[u8],
     schedule: &[u8],
     whole: &[u8],
-    space: &mut [u8],
+    log: &mut [u8],
 ) -> Tally {
     let mut t = empty(seed);
     let mut i: u16 = 0;
     while i < count {
-        t = drawn_list(t, u, rom, schedule, whole, space);
+        t = drawn_list(t, u, rom, schedule, whole, log);
         i += 1;
     }
     t
@@ -121,7 +134,19 @@ fn drawn_list(
     rom: &[u8],
     schedule: &[u8],
     whole: &[u8],
-    space: &mut [u8],
+    log: &mut [u8],
+) -> Tally {
+    test_cases::make_log(log);
+    drawn_slices(t, u, rom, schedule, whole, log)
+}
+
+fn drawn_slices(
+    t: Tally,
+    u: Unbroken,
+    rom: &[u8],
+    schedule: &[u8],
+    whole: &[u8],
+    log: &mut [u8],
 ) -> Tally {
     let start = u.start;
     let mut p = slices::begin(start);
@@ -133,11 +158,11 @@ fn drawn_list(
         let kind = test_cases::top(test_cases::next(s));
         s = test_cases::next(test_cases::next(s));
         let cycles = drawn_cycles(s, u.n, count, place, left);
-        p = slices::one(p, drawn_slice(kind, cycles), rom, schedule, whole, space);
+        p = slices::one(p, drawn_slice(kind, cycles), rom, schedule, whole, log);
         left -= cycles;
         place += 1;
     }
-    counted(t, p, u, s)
+    counted(t, p, slices::ends_same(p, u, whole, log), s)
 }
 
 fn drawn_slice(kind: u8, cycles: u32) -> Slice {

@@ -1,7 +1,7 @@
 // Cuts the runs of the panels of standard input. Each panel runs unbroken, and then in lists of slices, with a save and a restore
-// after each slice and refused calls between. A line says how the unbroken run ended and how many lists ended the same; the other
-// interpreter writes this text of its unbroken runs alone. It may not know how a run, a save or a restore goes, nor how a case is
-// laid out. The file, the lists and the text are told at the top of tests/reference/src/bin/cuts/main.rs.
+// after each slice and refused calls between; the runs of a list write to one log, each from its write place on. A line says how
+// the unbroken run ended and how many lists ended the same; the other interpreter writes this text of its unbroken runs alone. It
+// may not know how a run, a save or a restore goes, nor how a case is laid out. The file, the lists and the text are told at the top of tests/reference/src/bin/cuts/main.rs.
 mod lent;
 mod lists;
 mod refused;
@@ -105,15 +105,30 @@ fn whole(k: u16, head: &[u8], rom: &[u8], schedule: &[u8], start: State, n: u32,
     cut(k, u, head, rom, schedule, &log[..written]);
 }
 
-// The lists.
+// Lends the lists their log.
 fn cut(k: u16, u: Unbroken, head: &[u8], rom: &[u8], schedule: &[u8], log: &[u8]) {
+    let mut space = io::large_buffer();
+    let steps = unbroken::steps(u, rom, schedule, &mut space);
+    let room = lent::list_room(u.n, 65536);
+    all_lists(k, u, steps, head, rom, schedule, log, &mut space[..room]);
+}
+
+// The lists.
+fn all_lists(
+    k: u16,
+    u: Unbroken,
+    steps: u64,
+    head: &[u8],
+    rom: &[u8],
+    schedule: &[u8],
+    log: &[u8],
+    space: &mut [u8],
+) {
     let last = test_cases::word(head, 0);
     let count = test_cases::word(head, 2);
     let seed = test_cases::long(head, 4);
-    let mut space = io::large_buffer();
-    let steps = unbroken::steps(u, rom, schedule, &mut space);
-    let cuts = lists::cuts(u, last, rom, schedule, log, &mut space);
-    let drawn = lists::drawn(u, count, seed, rom, schedule, log, &mut space);
+    let cuts = lists::cuts(u, last, rom, schedule, log, space);
+    let drawn = lists::drawn(u, count, seed, rom, schedule, log, space);
     line(k, u, test_cases::log_digest(log), steps, cuts, drawn);
 }
 

@@ -1,10 +1,10 @@
 // Calls that are refused. Each has to answer its number and change nothing.
 use crate::lent;
-use upd546::RunAnswer;
+use driver::Report;
 use upd546::State;
 
 // Whether the call of a slice was refused as it has to be; false where there is none. A run is by the runner of the slice.
-pub fn refused(call: u8, runner: u8, rom: &[u8], schedule: &[u8], state: State) -> bool {
+pub(crate) fn refused(call: u8, runner: u8, rom: &[u8], schedule: &[u8], state: State) -> bool {
     match call {
         1 => short_rom(runner, rom, schedule, state),
         2 => run(runner, rom, &[0u8; 7], state, 9, 11),
@@ -25,12 +25,13 @@ fn short_rom(runner: u8, rom: &[u8], schedule: &[u8], state: State) -> bool {
 fn run(runner: u8, rom: &[u8], schedule: &[u8], state: State, n: u64, number: u8) -> bool {
     let mut log = [0u8; 80];
     let answer = lent::run(runner, rom, schedule, state, &mut log, n);
-    let end = answer.end;
-    let left = answer.state;
+    let report = answer.report;
+    let end = report.end;
+    let left = answer.machine.state;
     if runs::end_number(end) != number {
         return false;
     }
-    if !counts_nothing(answer) {
+    if !counts_nothing(report) {
         return false;
     }
     if test_cases::state_digest(left) != test_cases::state_digest(state) {
@@ -39,20 +40,20 @@ fn run(runner: u8, rom: &[u8], schedule: &[u8], state: State, n: u64, number: u8
     lent::untouched(&log, 0)
 }
 
-fn counts_nothing(answer: RunAnswer) -> bool {
-    if answer.cycles.0 != 0 {
+fn counts_nothing(report: Report) -> bool {
+    if report.cycles.0 != 0 {
         return false;
     }
-    if answer.clocks.0 != 0 {
+    if report.clocks.0 != 0 {
         return false;
     }
-    if answer.begun != 0 {
+    if report.begun != 0 {
         return false;
     }
-    if answer.written != 0 {
+    if report.written != 0 {
         return false;
     }
-    answer.steps == 0
+    report.steps == 0
 }
 
 fn save(state: State) -> bool {

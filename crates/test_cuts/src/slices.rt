@@ -1,9 +1,11 @@
-// One slice of a list: a run, a call that is refused or none, a save and a restore.
+// One slice of a list: a run, a call that is refused or none, a save and a restore. The runs of a list write to one log, each to the part
+// that is still empty.
 use crate::lent;
 use crate::refused;
 use crate::unbroken::Unbroken;
+use driver::DriveAnswer;
+use driver::KeptMachine;
 use runs::MachineCycles;
-use upd546::RunAnswer;
 use upd546::State;
 use upd546::layout::IMAGE_LENGTH;
 
@@ -27,7 +29,7 @@ pub struct Progress {
     pub refused: u32,
 }
 
-pub fn begin(state: State) -> Progress {
+pub(crate) fn begin(state: State) -> Progress {
     Progress {
         state,
         number: 0,
@@ -40,9 +42,12 @@ pub fn begin(state: State) -> Progress {
     }
 }
 
-// Whether a list that has come to its end ended as the unbroken run did.
-pub fn ends_same(p: Progress, u: Unbroken) -> bool {
+// Whether a list that has come to its end ended as the unbroken run did, with its joined log.
+pub(crate) fn ends_same(p: Progress, u: Unbroken, whole: &[u8], log: &[u8]) -> bool {
     if !p.right {
+        return false;
+    }
+    if !joins_to(log, whole) {
         return false;
     }
     if p.number != u.number {
@@ -62,6 +67,18 @@ pub fn ends_same(p: Progress, u: Unbroken) -> bool {
     saves_as(state, image)
 }
 
+// Whether the log begins with the log of the unbroken run, and the rest of it is as it was before the list.
+fn joins_to(log: &[u8], whole: &[u8]) -> bool {
+    let end = whole.len();
+    if log.len() < end {
+        return false;
+    }
+    if !test_cases::equal(&log[..end], whole) {
+        return false;
+    }
+    lent::untouched(log, end)
+}
+
 // Whether a save of the state writes these bytes.
 fn saves_as(state: State, image: [u8; IMAGE_LENGTH]) -> bool {
     let mut again = [0u8; IMAGE_LENGTH];
@@ -73,17 +90,16 @@ fn saves_as(state: State, image: [u8; IMAGE_LENGTH]) -> bool {
     test_cases::equal(&again, &image)
 }
 
-// One slice. `whole` is the log of the unbroken run.
-pub fn one(
+// One slice. `whole` is the log of the unbroken run, `log` that of the list.
+pub(crate) fn one(
     p: Progress,
     s: Slice,
     rom: &[u8],
     schedule: &[u8],
     whole: &[u8],
-    space: &mut [u8],
+    log: &mut [u8],
 ) -> Progress {
-    let room = lent::room(s.cycles, space.len());
-    let q = ran(p, s, rom, schedule, whole, &mut space[..room]);
+    let q = ran(p, s, rom, schedule, whole, log);
     let q = called(q, s, rom, schedule);
     kept(q)
 }
@@ -97,16 +113,21 @@ fn ran(
     log: &mut [u8],
 ) -> Progress {
     let given = p.state;
-    let answer = lent::run(s.runner, rom, schedule, given, log, s.cycles as u64);
-    let wrote = logged(log, answer.written, whole, p.written);
+    let answer = driver::advance_from(
+        KeptMachine { state: given },
+        lent::kind(s.runner),
+        rom,
+        schedule,
+        log,
+        p.written,
+        MachineCycles(s.cycles as u64),
+    );
+    let wrote = logged(log, answer.report.written, whole, p.written);
     added(p, answer, s.cycles as u64, wrote)
 }
 
-// Whether the run wrote what the unbroken run wrote from a place of its log on, and left the rest of its own log as it was.
+// Whether so many bytes from a place of the log on are what the unbroken run wrote there.
 fn logged(log: &[u8], written: usize, whole: &[u8], at: usize) -> bool {
-    if log.len() < written {
-        return false;
-    }
     if whole.len() < at {
         return false;
     }
@@ -114,24 +135,26 @@ fn logged(log: &[u8], written: usize, whole: &[u8], at: usize) -> bool {
         return false;
     }
     let end = at + written;
-    if !test_cases::equal(&log[..written], &whole[at..end]) {
+    if log.len() < end {
         return false;
     }
-    lent::untouched(log, written)
+    test_cases::equal(&log[at..end], &whole[at..end])
 }
 
 // The sums with one answer more.
-fn added(p: Progress, answer: RunAnswer, asked: u64, wrote: bool) -> Progress {
-    let state = answer.state;
-    let end = answer.end;
+fn added(p: Progress, answer: DriveAnswer, asked: u64, wrote: bool) -> Progress {
+    let state = answer.machine.state;
+    let report = answer.report;
+    let end = report.end;
+    let done = report.cycles;
     let number = runs::end_number(end);
     Progress {
         state,
         number: first(p.number, number),
-        cycles: std::num::wrapping_add_u64(p.cycles, answer.cycles.0),
-        begun: std::num::wrapping_add_u64(p.begun, answer.begun),
-        written: std::num::wrapping_add_usize(p.written, answer.written),
-        right: p.right & wrote & fits(p.number, number, asked, answer.cycles),
+        cycles: std::num::wrapping_add_u64(p.cycles, report.cycles.0),
+        begun: std::num::wrapping_add_u64(p.begun, report.begun),
+        written: std::num::wrapping_add_usize(p.written, report.written),
+        right: p.right & wrote & fits(p.number, number, asked, done),
         slices: more(p.slices),
         refused: p.refused,
     }

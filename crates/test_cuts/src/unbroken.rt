@@ -14,10 +14,11 @@ pub struct Unbroken {
     pub image: [u8; IMAGE_LENGTH],
 }
 
-pub fn run(rom: &[u8], schedule: &[u8], start: State, n: u32, log: &mut [u8]) -> Unbroken {
+pub(crate) fn run(rom: &[u8], schedule: &[u8], start: State, n: u32, log: &mut [u8]) -> Unbroken {
     let answer = lent::run(0, rom, schedule, start, log, n as u64);
-    let end = answer.end;
-    let state = answer.state;
+    let report = answer.report;
+    let end = report.end;
+    let state = answer.machine.state;
     let mut image = [0u8; IMAGE_LENGTH];
     test_cases::make_log(&mut image);
     save::save(state, &mut image);
@@ -25,22 +26,22 @@ pub fn run(rom: &[u8], schedule: &[u8], start: State, n: u32, log: &mut [u8]) ->
         start,
         n,
         number: runs::end_number(end),
-        cycles: answer.cycles.0,
-        begun: answer.begun,
-        written: answer.written,
+        cycles: report.cycles.0,
+        begun: report.begun,
+        written: report.written,
         image,
     }
 }
 
-pub fn image_digest(u: Unbroken) -> u64 {
+pub(crate) fn image_digest(u: Unbroken) -> u64 {
     let image = u.image;
     test_cases::log_digest(&image)
 }
 
 // The steps of the timer-skipping runner for the same cycles.
-pub fn steps(u: Unbroken, rom: &[u8], schedule: &[u8], space: &mut [u8]) -> u64 {
+pub(crate) fn steps(u: Unbroken, rom: &[u8], schedule: &[u8], space: &mut [u8]) -> u64 {
     let start = u.start;
     let room = lent::room(u.n, space.len());
     let answer = lent::run(1, rom, schedule, start, &mut space[..room], u.n as u64);
-    answer.steps
+    answer.report.steps
 }

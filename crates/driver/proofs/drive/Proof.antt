@@ -1,5 +1,5 @@
--- `driver::drive` meets its contract: the walk of `proofs/Lent` at its types, and what `forward` says put into the terms of the walk.
--- All that the proof knows of `forward` is that it meets its contract.
+-- `driver::drive` meets its contract: the walk of `proofs/Lent` at its types, and what `advance` says put into the terms of the walk.
+-- All that the proof knows of `advance` is that it meets its contract.
 -- Assumes nothing.
 use mathlib.Core.Path.{_≡_, refl, ap}
 use Prim.Native.Nat.{ℕ}
@@ -58,10 +58,10 @@ use Rattle.driver.proofs.Report as P
 use Rattle.driver.proofs.Report.Laws as P′
 use Rattle.driver.proofs.DriveAnswer as N
 use Rattle.driver.proofs.DriveAnswer.Laws as N′
-use Rattle.driver.proofs.forward as forward
-use Rattle.driver.proofs.forward.Symbol as forward-def
-use Rattle.driver.proofs.forward.Symbol.{name as #driver·forward}
-use Rattle.driver.proofs.forward.Met as forward-thm
+use Rattle.driver.proofs.advance as advance
+use Rattle.driver.proofs.advance.Symbol as advance-def
+use Rattle.driver.proofs.advance.Symbol.{name as #driver·advance}
+use Rattle.driver.proofs.advance.Met as advance-thm
 use Rattle.driver.proofs.drive.Key.{name as #driver·drive}
 use Rattle.driver.proofs.drive as drive
 use Rattle.driver.proofs.drive.Statement as stated
@@ -92,7 +92,7 @@ countS = plain (λ _. Y.the-row)
 abbrev MachineS : Slot 4
 MachineS = plain (λ _. T.the-row)
 
--- at exit the machine's borrow is still owned, the log went to `forward` for good, and nothing is kept of the rest
+-- at exit the machine's borrow is still owned, the log went to `advance` for good, and nothing is kept of the rest
 abbrev stayed : Stays (drive.ended .signature .params) (drive.ended .kept)
 stayed = (
   stay-ref (0 ∷ []) tt MachineS,
@@ -113,7 +113,7 @@ stayed = (
 
 -- the contract that the proof cites
 abbrev Forward : {M : Type 1} (𝓤 : URA M) (H : Heap 𝓤) (A : Atoms 𝓤) (at-mem : Memory → SProp 𝓤) (runs : Routine → Fun 𝓤) → Contract 𝓤
-Forward 𝓤 H A at-mem runs = tripleOf 𝓤 H A forward.signature (forward.spec 𝓤 H A at-mem runs)
+Forward 𝓤 H A at-mem runs = tripleOf 𝓤 H A advance.signature (advance.spec 𝓤 H A at-mem runs)
 
 module _ {M : Type 1} (𝓤 : URA M) (H : Heap 𝓤) (A : Atoms 𝓤) (W : Given 𝓤 H A) (at-mem : Memory → SProp 𝓤) (runs : Routine → Fun 𝓤)
     (κ κ₁ κ₂ κ₃ : Lft) (bounds : AllOutlive 4 (drive.signature .outlives) (κ, (κ₁, (κ₂, (κ₃, tt))))) (q q₁ q₂ q₃ : Share)
@@ -151,7 +151,7 @@ module _ {M : Type 1} (𝓤 : URA M) (H : Heap 𝓤) (A : Atoms 𝓤) (W : Given
       (k, (x₁, (x₂, (x₃, (n, tt)))))
       (kinds k ∷ [], (slice-vals x₁, (slice-vals x₂, (slice-vals x₃, (counts n ∷ [], tt)))))
 
-  -- what `forward` is passed, and what its triple binds outside
+  -- what `advance` is passed, and what its triple binds outside
   abbrev Passed : Type 0
   Passed = KeptMachine × (Runner × (RefT (List ℕ) × (RefT (List ℕ) × (RefT (List ℕ) × (MachineCycles × Unit {0})))))
 
@@ -161,19 +161,19 @@ module _ {M : Type 1} (𝓤 : URA M) (H : Heap 𝓤) (A : Atoms 𝓤) (W : Given
   abbrev passed-vals : Vals
   passed-vals = (mach h ∷ [], (kinds k ∷ [], (slice-vals x₁, (slice-vals x₂, (slice-vals x₃, (counts n ∷ [], tt))))))
 
-  abbrev to-forward : Forward 𝓤 H A at-mem runs .Ghost
-  to-forward = (((κ₁, (κ₂, (κ₃, tt))), (q₁, (q₂, (q₃, tt))), tt, passed, passed-vals), tt)
+  abbrev to-advance : Forward 𝓤 H A at-mem runs .Ghost
+  to-advance = (((κ₁, (κ₂, (κ₃, tt))), (q₁, (q₂, (q₃, tt))), tt, passed, passed-vals), tt)
 
-  goes : Is R h (mach h ∷ []) → ent 𝓤 (⋆ 𝓤 H A (Tokens ∷ ‵ Rest ∷ [])) (Forward 𝓤 H A at-mem runs .pre to-forward)
+  goes : Is R h (mach h ∷ []) → ent 𝓤 (⋆ 𝓤 H A (Tokens ∷ ‵ Rest ∷ [])) (Forward 𝓤 H A at-mem runs .pre to-advance)
   goes g =
       qed W (Tokens ∷ ‵ Rest ∷ []) ∵ owned ! R (Is R) (LL.makes T.the-type T′.the-plain 𝓤 H A) h _ g $
       move ! (0 ∷ 2 ∷ []) $ fjoin ! $ move ! (1 ∷ 0 ∷ []) $ join ! $ frame ! $ done !
 
-  -- what `forward` says of its answer and of the log
+  -- what `advance` says of its answer and of the log
   abbrev Said : DriveAnswer → List ℕ → Type 0
   Said r zs = broughtTo (r .report) (r .machine) zs ≡ runAnswer upd546 (kindOf k) (now x₁) (now x₂) (h .state) (now x₃) (n .0)
 
-  -- an answer of `forward` with the log's last list: what is known of them, and what is left
+  -- an answer of `advance` with the log's last list: what is known of them, and what is left
   abbrev Z : Type 0
   Z = DriveAnswer × List ℕ
 
@@ -206,19 +206,19 @@ module _ {M : Type 1} (𝓤 : URA M) (H : Heap 𝓤) (A : Atoms 𝓤) (W : Given
 
   abbrev Answer : Val → Z → Type 0
   Answer w z =
-      Answers 𝓤 H A W T′.mir P′.mir K′.mir Y′.mir (pointee (R .written)) (N.struct .name) #driver·forward
+      Answers 𝓤 H A W T′.mir P′.mir K′.mir Y′.mir (pointee (R .written)) (N.struct .name) #driver·advance
       KeptMachine (R .written) (R .reaches) (R .own) (R .exit) (R .coded)
       mach (LL.tells T.the-type T′.the-laws) (LL.makes T.the-type T′.the-plain 𝓤 H A) typed w (z .0 .machine) (shown (z .0 .report))
 
   answers : (w : Val) (Γ : List (Item 𝓤)) (G : Goal 𝓤 H) → Soaks G → ((z : Z) → Answer w z → Known z → Sq W (Left z ∷ Γ) G)
-      → Sq W (raw (Forward 𝓤 H A at-mem runs .post to-forward w) ∷ Γ) G
+      → Sq W (raw (Forward 𝓤 H A at-mem runs .post to-advance w) ∷ Γ) G
   answers w Γ G soaks go =
       use1 W (later (some (λ (r : DriveAnswer).
       (Tokens ⊛ ‵ (N.the-row .own r (w ∷ [])))
-      ⊛ raw (ensured 𝓤 H A forward.ended (forward.clauses 𝓤 H A at-mem runs) (κ₁, (κ₂, (κ₃, tt))) passed tt r)))) (id⊢ 𝓤 _) $
+      ⊛ raw (ensured 𝓤 H A advance.ended (advance.clauses 𝓤 H A at-mem runs) (κ₁, (κ₂, (κ₃, tt))) passed tt r)))) (id⊢ 𝓤 _) $
       await ! soaks $ pick ! (λ r. split ! $ move ! (1 ∷ []) $
       use1 W (some (λ (zs : Unit {0} × (Unit {0} × (Unit {0} × (Unit {0} × (List ℕ × (Unit {0} × Unit {0})))))).
-      ‵ (lasts forward.ended (κ₁, (κ₂, (κ₃, tt))) passed zs) ⊛ raw (fact 𝓤 (Said r (zs .1 .1 .1 .1 .0))))) (id⊢ 𝓤 _) $ pick ! (λ zs.
+      ‵ (lasts advance.ended (κ₁, (κ₂, (κ₃, tt))) passed zs) ⊛ raw (fact 𝓤 (Said r (zs .1 .1 .1 .1 .0))))) (id⊢ 𝓤 _) $ pick ! (λ zs.
       split ! $ move ! (1 ∷ []) $ heard ! (Said r (zs .1 .1 .1 .1 .0)) (λ e.
       fsplit ! $ drop ! $ fsplit ! $ drop ! $ fsplit ! $ drop ! $ fsplit ! $ drop ! $ fsplit ! $ fsplit ! $ move ! (1 ∷ []) $ feqL ! (λ l.
       -- [the log's last list; true; the tokens and the answer; …]
@@ -233,7 +233,7 @@ module _ {M : Type 1} (𝓤 : URA M) (H : Heap 𝓤) (A : Atoms 𝓤) (W : Given
       })
       (record { said = e; as-long = l; is-report = LL.owed N.the-type N′.the-laws r _ is .1 .0 }))))))
 
-  module _ (C : Calls 𝓤 H) (Λ : Loops 𝓤 H) (fm : FmC 𝓤 H (W .laws) C) (known : Triple 𝓤 (C #driver·forward) (Forward 𝓤 H A at-mem runs)) where
+  module _ (C : Calls 𝓤 H) (Λ : Loops 𝓤 H) (fm : FmC 𝓤 H (W .laws) C) (known : Triple 𝓤 (C #driver·advance) (Forward 𝓤 H A at-mem runs)) where
     walk : Is K.the-row k (kinds k ∷ []) → Room u8 (length (x₁ .now)) → Room u8 (length (x₂ .now)) → Room u8 (length (x₃ .now))
         → Is Y.the-row n (counts n ∷ [])
         → ent 𝓤 (onEntry 𝓤 H A drive.signature (κ, (κ₁, (κ₂, (κ₃, tt)))) (q, (q₁, (q₂, (q₃, tt)))) a vals)
@@ -244,18 +244,18 @@ module _ {M : Type 1} (𝓤 : URA M) (H : Heap 𝓤) (A : Atoms 𝓤) (W : Given
         ∷ ‵ (owns (MutRef (named 0) κ R ∷ K.the-row ∷ ShrSlice (named 1) κ₁ u8 ∷ ShrSlice (named 2) κ₂ u8 ∷ MutSlice (named 3) κ₃ u8 ∷ Y.the-row ∷ []) a vals)
         ∷ []) ∵
         split ! $ move ! (2 ∷ []) $ fsplit ! $ fsplit3 ! $ drop ! $ move ! (0 ∷ 1 ∷ 3 ∷ 4 ∷ 2 ∷ []) $
-        by ! (lent 𝓤 H A W T′.mir P′.mir K′.mir Y′.mir (pointee (R .written)) (N.struct .name) #driver·forward
+        by ! (lent 𝓤 H A W T′.mir P′.mir K′.mir Y′.mir (pointee (R .written)) (N.struct .name) #driver·advance
         KeptMachine (R .written) (R .reaches) (R .own) (R .exit) (R .coded)
         mach (LL.tells T.the-type T′.the-laws) (LL.makes T.the-type T′.the-plain 𝓤 H A) typed
         κ q b o γ h (kinds k) (s x₁) (s x₂) (counts n) (x₃ .ptr) (length (x₃ .now))
-        Tokens (‵ Rest) (Forward 𝓤 H A at-mem runs .pre to-forward) (Forward 𝓤 H A at-mem runs .post to-forward) Post
-        Z (λ z. z .0 .machine) (λ z. shown (z .0 .report)) Known Left goes answers exits C Λ fm (known to-forward)
+        Tokens (‵ Rest) (Forward 𝓤 H A at-mem runs .pre to-advance) (Forward 𝓤 H A at-mem runs .post to-advance) Post
+        Z (λ z. z .0 .machine) (λ z. shown (z .0 .report)) Known Left goes answers exits C Λ fm (known to-advance)
         (EL.lawful K.the-type K′.the-laws 𝓤 H A W tt .typed k _ is-kind .0)
         (tt, (tt, (record { fits = room₁ .0 }, tt))) (tt, (tt, (record { fits = room₂ .0 }, tt))) (room₃ .0)
         (LL.lawful Y.the-type Y′.the-laws 𝓤 H A W .typed n _ is-count .0))
 
 module _ {M : Type 1} (𝓤 : URA M) (H : Heap 𝓤) (A : Atoms 𝓤) (W : Given 𝓤 H A) (at-mem : Memory → SProp 𝓤) (runs : Routine → Fun 𝓤) where
-  drive-walks : (C : Calls 𝓤 H) (Λ : Loops 𝓤 H) → FmC 𝓤 H (W .laws) C → Triple 𝓤 (C #driver·forward) (Forward 𝓤 H A at-mem runs)
+  drive-walks : (C : Calls 𝓤 H) (Λ : Loops 𝓤 H) → FmC 𝓤 H (W .laws) C → Triple 𝓤 (C #driver·advance) (Forward 𝓤 H A at-mem runs)
       → Walks 𝓤 H A drive.ended stayed (WpFn 𝓤 H C Λ code.function) (drive.clauses 𝓤 H A at-mem runs)
   drive-walks C Λ fm known = walked 𝓤 H A drive.ended stayed (drive.clauses 𝓤 H A at-mem runs) (WpFn 𝓤 H C Λ code.function)
       (λ κs. (ptr-vals, (EL.vals K.the-type K′.the-laws, (slice-vals, (slice-vals, (slice-vals, (LL.vals Y.the-type Y′.the-laws, tt)))))))
@@ -282,7 +282,7 @@ module _ {M : Type 1} (𝓤 : URA M) (H : Heap 𝓤) (A : Atoms 𝓤) (W : Given
       (are .1 .0) (are .1 .1 .0 .0 .1) (are .1 .1 .1 .0 .0 .1) (are .1 .1 .1 .1 .0 .0 .1) (are .1 .1 .1 .1 .1 .0)))
 
 drive-meets : {M : Type 1} (𝓤 : URA M) (H : Heap 𝓤) (A : Atoms 𝓤) → Given 𝓤 H A → (at-mem : Memory → SProp 𝓤) (runs : Routine → Fun 𝓤) (𝓣 : Tables 𝓤 H)
-    → Triple 𝓤 (𝓣 .C #driver·forward) (Forward 𝓤 H A at-mem runs)
+    → Triple 𝓤 (𝓣 .C #driver·advance) (Forward 𝓤 H A at-mem runs)
     → Meets 𝓤 H A drive.signature (WpFn 𝓤 H (𝓣 .C) (𝓣 .Λ) code.function) (drive.spec 𝓤 H A at-mem runs)
 drive-meets 𝓤 H A W at-mem runs 𝓣 known =
     walk-meets 𝓤 H A drive.ended stayed W (
@@ -310,5 +310,5 @@ drive-spec 𝓤 H 𝓜 𝓖 𝓡 =
     entered 𝓤 H (tripleOf 𝓤 H (𝓖 .A) drive.signature (drive.spec 𝓤 H (𝓖 .A) (𝓜 .mem) (𝓡 .run)))
     (tables 𝓤 H 𝓜 𝓡 code.env .C) (tables 𝓤 H 𝓜 𝓡 code.env .Λ) #driver·drive code.function (code.unfolded 𝓤 H 𝓜 𝓡)
     (drive-meets 𝓤 H (𝓖 .A) (givenOf 𝓤 H 𝓜 𝓖) (𝓜 .mem) (𝓡 .run) (tablesOf 𝓤 H 𝓜 (tables 𝓤 H 𝓜 𝓡 code.env))
-    (cited 𝓤 H (Forward 𝓤 H (𝓖 .A) (𝓜 .mem) (𝓡 .run)) 𝓜 𝓡 code.env #driver·forward forward-def.routine code.calls-driver·forward
-    (forward-thm.met 𝓤 H 𝓜 𝓖 𝓡)))
+    (cited 𝓤 H (Forward 𝓤 H (𝓖 .A) (𝓜 .mem) (𝓡 .run)) 𝓜 𝓡 code.env #driver·advance advance-def.routine code.calls-driver·advance
+    (advance-thm.met 𝓤 H 𝓜 𝓖 𝓡)))

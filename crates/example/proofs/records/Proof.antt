@@ -1,24 +1,26 @@
--- The loop ends with the log. Assumes nothing.
-use Prim.Native.Nat.{_≤_, _-_}
-use lib.ListN.{length}
+-- Record after record, as far as so many bytes go. Assumes nothing.
+use Prim.Native.Nat.{_≤_}
 use borrow.Author.Needs.{needs}
 use Rattle.example.proofs.records.Statement.{statement}
 use Rattle.example.proofs.records.Tie as tie
 
 abbrev Inv-loop : tie.InvT-loop
-Inv-loop log written at₀ t4 at = at ≤ length log
+Inv-loop log from written at₀ left₀ t6 at left = 0 ≤ left
 
 abbrev μ-loop : tie.MeasureT-loop
-μ-loop log written at₀ t4 at = length log - at
+μ-loop log from written at₀ left₀ t6 at left = left
 
 loop-holds : tie.Need-loop-holds Inv-loop μ-loop
 loop-holds c = search needs
 
-add-loop : tie.Need-add-loop Inv-loop μ-loop
-add-loop c = search needs
-
 returns : tie.Need-returns Inv-loop μ-loop
 returns c = search needs
+
+sub-if2 : tie.Need-sub-if2 Inv-loop μ-loop
+sub-if2 c = search needs
+
+returns-2 : tie.Need-returns-2 Inv-loop μ-loop
+returns-2 c = search needs
 
 slice-aggregate-write-all : tie.Need-slice-aggregate-write-all Inv-loop μ-loop
 slice-aggregate-write-all c = search needs
@@ -62,8 +64,8 @@ loop-less c = search needs
 loop-again : tie.Need-loop-again Inv-loop μ-loop
 loop-again c = search needs
 
-returns-2 : tie.Need-returns-2 Inv-loop μ-loop
-returns-2 c = search needs
+returns-3 : tie.Need-returns-3 Inv-loop μ-loop
+returns-3 c = search needs
 
 pub records-spec : {M : Type 1} → statement M
 records-spec =
@@ -72,8 +74,9 @@ records-spec =
     Inv-loop
     μ-loop
     loop-holds
-    add-loop
     returns
+    sub-if2
+    returns-2
     slice-aggregate-write-all
     write-all-requires
     number-at-requires
@@ -88,4 +91,4 @@ records-spec =
     add-at
     loop-less
     loop-again
-    returns-2)
+    returns-3)

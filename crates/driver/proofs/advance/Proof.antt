@@ -6,8 +6,8 @@ use Rattle.runs.specs.Lists.{runAnswer}
 use Rattle.upd546.specs.TwoRunners.{upd546}
 use Rattle.driver.specs.Lending.{kindOf}
 use Rattle.driver.specs.declared.Runner.{Runner}
-use Rattle.driver.proofs.forward.Statement.{statement}
-use Rattle.driver.proofs.forward.Tie as tie
+use Rattle.driver.proofs.advance.Statement.{statement}
+use Rattle.driver.proofs.advance.Tie as tie
 
 enum-told : tie.Need-enum-told
 enum-told c = search needs
@@ -49,8 +49,8 @@ returns-2 c =
     ∙ ap (λ (k : Runner). runAnswer upd546 (kindOf k) (now (a .rom)) (now (a .sched)) (a .machine .state) (now (a .log)) (a .n .0))
     (sym (c .before .before .before .before .before .enum-told2 .given .1))
 
-pub forward-spec : {M : Type 1} → statement M
-forward-spec =
+pub advance-spec : {M : Type 1} → statement M
+advance-spec =
     tie.close
     (tie.spec
     enum-told

@@ -3,8 +3,8 @@ use borrow.Author.Needs.{needs}
 use Prim.Native.Nat.{_+_, _≤_, _-_}
 use mathlib.Core.Path.{_≡_}
 use lib.ListN.{length}
-use Rattle.test_cuts.proofs.lists.drawn_list.Statement.{statement}
-use Rattle.test_cuts.proofs.lists.drawn_list.Tie as tie
+use Rattle.test_cuts.proofs.lists.drawn_slices.Statement.{statement}
+use Rattle.test_cuts.proofs.lists.drawn_slices.Tie as tie
 
 abbrev Inv-loop : tie.InvT-loop
 Inv-loop t u rom schedule whole space₀ p₀ s₀ count left₀ place₀ space p s left place = (place ≤ count + 1) × (length space ≡ length space₀)
@@ -60,6 +60,9 @@ loop-less c = search needs
 loop-again : tie.Need-loop-again Inv-loop μ-loop
 loop-again c = search needs
 
+ends-same-requires : tie.Need-ends-same-requires Inv-loop μ-loop
+ends-same-requires c κs = search needs
+
 counted-requires : tie.Need-counted-requires Inv-loop μ-loop
 counted-requires c κs = search needs
 
@@ -69,8 +72,8 @@ same-length c = search needs
 returns : tie.Need-returns Inv-loop μ-loop
 returns c = search needs
 
-pub drawn-list-spec : {M : Type 1} → statement M
-drawn-list-spec =
+pub drawn-slices-spec : {M : Type 1} → statement M
+drawn-slices-spec =
     tie.close
     (tie.spec
     Inv-loop
@@ -91,6 +94,7 @@ drawn-list-spec =
     add-place
     loop-less
     loop-again
+    ends-same-requires
     counted-requires
     same-length
     returns)
