@@ -58,7 +58,7 @@ fn take(space: &mut [u8]) -> usize
     if space.len() < test_cases::HEAD {
         return 0;
     }
-    let got = io::read_full(STDIN_FILENO, &mut space[..cases::HEAD]);
+    let got = io::read_full(STDIN_FILENO, &mut space[..test_cases::HEAD]);
     if got < test_cases::HEAD {
         return 0;
     }
