@@ -1,8 +1,9 @@
 //! One case of the comparisons: how it is told, laid out in a file, and run; and the generator and
 //! the digests that their files share. `bin/cases/main.rs` tells the layout.
 
+use crate::lent::Lent;
 use crate::machine::State;
-use crate::runners::{run_observed, Answer, Coverage, Runner};
+use crate::runners::{Answer, Coverage, Runner};
 
 /// The filters of a ROM.
 pub const NO_STOPS: u8 = 1;
@@ -165,24 +166,23 @@ impl Case {
         self.n
     }
 
+    /// What its run is lent.
+    pub fn lent(&self) -> Lent {
+        Lent {
+            runner: self.runner,
+            rom: self.made_rom_bytes(),
+            schedule: self.made_schedule_bytes(),
+            state: self.start(),
+            log: (0..self.log_length)
+                .map(|place| (7 * place + 13) as u8)
+                .collect(),
+            n: self.n,
+        }
+    }
+
     /// Runs the case, and answers its log too.
     pub fn run(&self, coverage: &mut Coverage) -> (Answer, Vec<u8>) {
-        let rom = self.made_rom_bytes();
-        let schedule = self.made_schedule_bytes();
-        let state = self.start();
-        let mut log: Vec<u8> = (0..self.log_length)
-            .map(|place| (7 * place + 13) as u8)
-            .collect();
-        let answer = run_observed(
-            self.runner,
-            &rom,
-            &schedule,
-            &state,
-            &mut log,
-            self.n,
-            coverage,
-        );
-        (answer, log)
+        self.lent().run_observed(coverage)
     }
 
     /// The case as the file has it.

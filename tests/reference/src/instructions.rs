@@ -342,13 +342,13 @@ fn without_bit(value: u8, bit: u8) -> u8 {
 
 /// "JCP and JPA stay in the page that holds the instruction."
 #[inline]
-fn in_page(at: u16, address: u8) -> u16 {
+pub(crate) fn in_page(at: u16, address: u8) -> u16 {
     at & 0x7C0 | u16::from(address)
 }
 
 /// JMP and CAL: "3 bits and the second byte".
 #[inline]
-fn far(code: u8, second: u8) -> u16 {
+pub(crate) fn far(code: u8, second: u8) -> u16 {
     u16::from(code & 7) << 8 | u16::from(second)
 }
 

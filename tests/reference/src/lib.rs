@@ -1,18 +1,21 @@
 //! A reference interpreter of the uPD546 as document 01 defines it: one machine cycle after the
-//! other, on a state that is changed in place. `case`, `codes`, `draw` and `maker` are no part of it:
-//! what the programs that make trials share, and the tests.
+//! other, on a state that is changed in place. `case`, `codes`, `draw`, `maker`, `mnemonics` and `show`
+//! are no part of it: what the programs that make trials share, and the tests.
 
 pub mod case;
 pub mod codes;
 pub mod draw;
 mod image;
 mod instructions;
+pub mod lent;
 mod log;
 mod machine;
 pub mod maker;
+mod mnemonics;
 pub mod numbers;
 mod runners;
 mod schedule;
+mod show;
 mod timer;
 mod trace;
 

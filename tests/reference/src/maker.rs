@@ -1,5 +1,6 @@
 //! What the programs that make the files of a crate share: their words, and how they write.
 
+use std::io::Write;
 use std::path::Path;
 use std::process::ExitCode;
 use std::{env, fs, io};
@@ -12,28 +13,51 @@ pub struct Made {
 }
 
 /// `PROGRAM FOLDER` writes FOLDER/stdin and FOLDER/stdout and fails where there is a fault;
-/// `PROGRAM list` prints the names.
-pub fn make(program: &str, names: Vec<String>, made: impl FnOnce() -> Made) -> ExitCode {
+/// `PROGRAM list` prints the names; `PROGRAM show K` tells all of what has the place K among them.
+pub fn make(
+    program: &str,
+    names: Vec<String>,
+    show: impl Fn(usize) -> String,
+    made: impl FnOnce() -> Made,
+) -> ExitCode {
     let words: Vec<String> = env::args().skip(1).collect();
-    match words.as_slice() {
+    let done = match words.as_slice() {
         [word] if word == "list" => {
-            for (place, name) in names.iter().enumerate() {
-                println!("{place} {name}");
-            }
-            ExitCode::SUCCESS
+            let lines = names.iter().enumerate();
+            print(lines.map(|(k, name)| format!("{k} {name}\n")).collect());
+            Ok(true)
         }
-        [folder] => match write(folder, &made()) {
-            Ok(true) => ExitCode::SUCCESS,
-            Ok(false) => ExitCode::FAILURE,
-            Err(error) => {
-                eprintln!("{folder}: {error}");
-                ExitCode::FAILURE
-            }
-        },
-        _ => {
-            eprintln!("usage: {program} FOLDER | {program} list");
+        [word, place] if word == "show" => place_of(place, names.len()).map(|place| {
+            print(format!("{place} {}\n\n{}", names[place], show(place)));
+            true
+        }),
+        [folder] if folder != "show" => {
+            write(folder, &made()).map_err(|error| format!("{folder}: {error}"))
+        }
+        _ => Err(String::from("FOLDER, list or show K is wanted")),
+    };
+    match done {
+        Ok(true) => ExitCode::SUCCESS,
+        Ok(false) => ExitCode::FAILURE,
+        Err(error) => {
+            eprintln!("{program}: {error}");
             ExitCode::FAILURE
         }
+    }
+}
+
+/// A reader may close its end early.
+fn print(text: String) {
+    let _ = io::stdout().write_all(text.as_bytes());
+}
+
+fn place_of(word: &str, count: usize) -> Result<usize, String> {
+    match word.parse() {
+        Ok(place) if place < count => Ok(place),
+        _ => Err(format!(
+            "there is no {word}; `list` names those from 0 to {}",
+            count - 1
+        )),
     }
 }
 
@@ -44,4 +68,19 @@ fn write(folder: &str, made: &Made) -> io::Result<bool> {
     fs::write(Path::new(folder).join("stdin"), &made.stdin)?;
     fs::write(Path::new(folder).join("stdout"), &made.stdout)?;
     Ok(made.faults.is_empty())
+}
+
+#[cfg(test)]
+mod tests {
+    use super::*;
+
+    #[test]
+    fn a_place_that_is_none_is_told() {
+        assert_eq!(place_of("0", 18), Ok(0));
+        assert_eq!(place_of("17", 18), Ok(17));
+        for word in ["18", "-1", "lamp", ""] {
+            let told = format!("there is no {word}; `list` names those from 0 to 17");
+            assert_eq!(place_of(word, 18), Err(told));
+        }
+    }
 }

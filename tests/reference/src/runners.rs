@@ -60,22 +60,23 @@ impl Default for Coverage {
     }
 }
 
-/// Is told of each instruction begun.
+/// Is told of each instruction begun: its address, its code, the address of the one that it passed
+/// over, and how often it was begun so.
 pub trait Observer {
-    fn begun(&mut self, code: u8, skipped: bool, times: u64);
+    fn begun(&mut self, at: u16, code: u8, passed: Option<u16>, times: u64);
 }
 
 /// Counts nothing and costs nothing.
-struct Nobody;
+pub(crate) struct Nobody;
 
 impl Observer for Nobody {
     #[inline(always)]
-    fn begun(&mut self, _code: u8, _skipped: bool, _times: u64) {}
+    fn begun(&mut self, _at: u16, _code: u8, _passed: Option<u16>, _times: u64) {}
 }
 
 impl Observer for &mut Coverage {
-    fn begun(&mut self, code: u8, skipped: bool, times: u64) {
-        let counts = if skipped {
+    fn begun(&mut self, _at: u16, code: u8, passed: Option<u16>, times: u64) {
+        let counts = if passed.is_some() {
             &mut self.skipped
         } else {
             &mut self.plain
@@ -272,11 +273,12 @@ impl<O: Observer> Run<'_, O> {
             &mut self.log,
         )?;
         self.state.owed = form.cycles - 1;
+        let passed = skip.then_some(self.state.pc);
         if skip {
             self.skip();
         }
         self.begun += 1;
-        self.observer.begun(code, skip, 1);
+        self.observer.begun(at, code, passed, 1);
         Ok(())
     }
 
@@ -345,8 +347,9 @@ impl<O: Observer> Run<'_, O> {
     /// j cycles in one step: TTM and JCP in turn, a timer step in each.
     fn jump(&mut self, j: u64) {
         if let Some(back) = self.waiting_loop() {
-            self.observer.begun(TTM, false, j / 2);
-            self.observer.begun(back, false, j / 2);
+            let pc = self.state.pc;
+            self.observer.begun(pc, TTM, None, j / 2);
+            self.observer.begun(following(pc), back, None, j / 2);
         }
         self.state.step_timer_by(j);
         self.state.mark = OTHER;

@@ -3,7 +3,7 @@
 use crate::numbers::{FINISHED, RECORD_BYTES, RECORD_CYCLE, SCHEDULE_LENGTH, SCHEDULE_LONG};
 
 /// "Records of 10 bytes"; "at most 4,096 records".
-const RECORD: usize = 10;
+pub(crate) const RECORD: usize = 10;
 const LONGEST: usize = 4_096 * RECORD;
 
 /// The lines of one cycle.
@@ -46,13 +46,13 @@ pub(crate) fn refusal(schedule: &[u8]) -> u8 {
     FINISHED
 }
 
-fn cycle_of(record: &[u8]) -> u64 {
+pub(crate) fn cycle_of(record: &[u8]) -> u64 {
     record[..6]
         .iter()
         .fold(0, |cycle, &byte| cycle << 8 | u64::from(byte))
 }
 
-fn lines_of(record: &[u8]) -> Lines {
+pub(crate) fn lines_of(record: &[u8]) -> Lines {
     Lines {
         ports: [
             record[6] >> 4,

@@ -1,7 +1,8 @@
 //! The cases of the comparison: makes the file of cases, and the text that a runner writes of them.
 //!
 //! `cases FOLDER` writes FOLDER/stdin and FOLDER/stdout, and counts the codes that were executed.
-//! `cases list` names the cases.
+//! `cases list` names the cases. `cases show K` tells all of case K: its ROM as a listing, its
+//! schedule, its state before and after, its answer and its log.
 //!
 //! # The file
 //!
@@ -198,8 +199,16 @@ fn made(cases: &[Case]) -> Made {
     }
 }
 
+/// The case's line of the text, and its run in full.
+fn show(place: usize, case: &Case) -> String {
+    let (answer, log) = case.run(&mut Coverage::new());
+    let line = line(place, &answer, &log);
+    format!("{TITLES}{line}\n{}", case.lent().told())
+}
+
 fn main() -> ExitCode {
     let cases = all_cases();
     let names = cases.iter().map(|case| case.name.clone()).collect();
-    make("cases", names, || made(&cases))
+    let show = |place: usize| show(place, &cases[place]);
+    make("cases", names, show, || made(&cases))
 }

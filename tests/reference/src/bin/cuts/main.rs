@@ -1,6 +1,7 @@
 //! The power cuts: makes the file of panels, and the text that is written of them.
 //!
-//! `cuts FOLDER` writes FOLDER/stdin and FOLDER/stdout. `cuts list` names the panels.
+//! `cuts FOLDER` writes FOLDER/stdin and FOLDER/stdout. `cuts list` names the panels. `cuts show K`
+//! tells all of the unbroken run of panel K.
 //!
 //! A panel is a ROM, a line schedule, a state and N cycles. Its unbroken run is one call of the plain
 //! runner. A list of slices is of runs of N cycles together, by either runner, with a save and a
@@ -72,8 +73,9 @@ mod tests;
 use std::process::ExitCode;
 
 use reference::case::{digest, Case};
+use reference::lent::Lent;
 use reference::maker::{make, Made};
-use reference::{run, save, Runner, State};
+use reference::{save, Runner, State};
 
 const TITLES: &str =
     "panel number cycles begun written image log steps cuts same refused lists same slices refused\n";
@@ -133,13 +135,18 @@ pub fn image_digest(state: &State) -> u64 {
 }
 
 impl Panel {
-    /// One run of all cycles: its end, and its steps.
+    /// One run of all cycles.
+    fn whole(&self, runner: Runner) -> Lent {
+        Lent {
+            runner,
+            log: lent_log(self.case.cycles()),
+            ..self.case.lent()
+        }
+    }
+
+    /// Its end, and its steps.
     pub fn unbroken(&self, runner: Runner) -> (End, u64) {
-        let n = self.case.cycles();
-        let mut log = lent_log(n);
-        let rom = self.case.made_rom_bytes();
-        let schedule = self.case.made_schedule_bytes();
-        let answer = run(runner, &rom, &schedule, &self.case.start(), &mut log, n);
+        let (answer, log) = self.whole(runner).run();
         assert!(!answer.refused, "{}", self.case.name);
         let end = End {
             number: answer.number,
@@ -236,8 +243,15 @@ fn made(panels: &[Panel]) -> Made {
     }
 }
 
+/// The panel's line of the text, and its unbroken run in full.
+fn show(place: usize, panel: &Panel) -> String {
+    let told = panel.whole(Runner::Plain).told();
+    format!("{TITLES}{}\n{told}", panel.line(place))
+}
+
 fn main() -> ExitCode {
     let panels = panels();
     let names = panels.iter().map(|panel| panel.case.name.clone()).collect();
-    make("cuts", names, || made(&panels))
+    let show = |place: usize| show(place, &panels[place]);
+    make("cuts", names, show, || made(&panels))
 }

@@ -2,7 +2,7 @@
 
 use std::collections::BTreeSet;
 
-use reference::restore;
+use reference::{restore, run};
 
 use super::*;
 use crate::list::{Refused, Slice};

@@ -1,6 +1,7 @@
 //! The trials of save and restore: makes the file of groups, and the text that is written of them.
 //!
-//! `images FOLDER` writes FOLDER/stdin and FOLDER/stdout. `images list` names the groups.
+//! `images FOLDER` writes FOLDER/stdin and FOLDER/stdout. `images list` names the groups. `images
+//! show K` prints the line of group K, and the numbers that its tries have to be answered by.
 //!
 //! # The file
 //!
@@ -456,8 +457,14 @@ fn made(groups: &[Group]) -> Made {
     }
 }
 
+fn show(group: &Group) -> String {
+    let line = line(group, &group.tally());
+    format!("{TITLES}{line}\nto be answered by {:?}\n", group.numbers)
+}
+
 fn main() -> ExitCode {
     let groups = all_groups();
     let names = groups.iter().map(|group| group.name.to_string()).collect();
-    make("images", names, || made(&groups))
+    let show = |place: usize| show(&groups[place]);
+    make("images", names, show, || made(&groups))
 }

@@ -1,6 +1,7 @@
 //! The inputs of program `trace` that `traces` tries: makes the file of them, and their texts.
 //!
-//! `traces FOLDER` writes FOLDER/stdin and FOLDER/stdout. `traces list` names the inputs.
+//! `traces FOLDER` writes FOLDER/stdin and FOLDER/stdout. `traces list` names the inputs. `traces
+//! show K` tells all of the run of input K.
 //!
 //! # The file
 //!
@@ -18,6 +19,7 @@ mod inputs;
 use std::process::ExitCode;
 
 use inputs::Input;
+use reference::lent::Lent;
 use reference::maker::{make, Made};
 use reference::trace;
 
@@ -69,8 +71,16 @@ fn made(inputs: &[Input]) -> Made {
     }
 }
 
+fn show(input: &Input) -> String {
+    match Lent::of_panel(&input.bytes) {
+        Some(lent) => lent.told(),
+        None => format!("{} bytes: {}", input.bytes.len(), trace(&input.bytes)),
+    }
+}
+
 fn main() -> ExitCode {
     let inputs = inputs::all();
     let names = inputs.iter().map(|input| input.name.clone()).collect();
-    make("traces", names, || made(&inputs))
+    let show = |place: usize| show(&inputs[place]);
+    make("traces", names, show, || made(&inputs))
 }
