@@ -9,6 +9,10 @@ use Rattle.driver.specs.declared.Runner.{Runner}
 use Rattle.driver.proofs.advance.Statement.{statement}
 use Rattle.driver.proofs.advance.Tie as tie
 
+-- LANDMARK: the entry, from where the state is read
+abbrev entry : tie.After-s → tie.Start
+entry c = c .before .before .before .before
+
 enum-told : tie.Need-enum-told
 enum-told c = search needs
 
@@ -32,22 +36,24 @@ same-length c = search needs
 
 returns : tie.Need-returns
 returns c =
-    let a = c .before .before .before .before .before .before .before .before .before .before .before .args in
+    let at-run = c .before .before .before in
+    let a = entry (at-run .before .before .before .before) .args in
     c .told .ensures _
-    ∙ c .before .before .before .run-plain .ensures
+    ∙ at-run .run-plain .ensures
     ∙ ap (λ (k : Runner). runAnswer upd546 (kindOf k) (now (a .rom)) (now (a .sched)) (a .machine .state) (now (a .log)) (a .n .0))
-    (sym (c .before .before .before .before .before .enum-told .given .1))
+    (sym (at-run .before .before .enum-told .given .1))
 
 same-length-2 : tie.Need-same-length-2
 same-length-2 c = search needs
 
 returns-2 : tie.Need-returns-2
 returns-2 c =
-    let a = c .before .before .before .before .before .before .before .before .before .before .before .args in
+    let at-run = c .before .before .before in
+    let a = entry (at-run .before .before .before .before) .args in
     c .told2 .ensures _
-    ∙ c .before .before .before .run-skipping .ensures
+    ∙ at-run .run-skipping .ensures
     ∙ ap (λ (k : Runner). runAnswer upd546 (kindOf k) (now (a .rom)) (now (a .sched)) (a .machine .state) (now (a .log)) (a .n .0))
-    (sym (c .before .before .before .before .before .enum-told2 .given .1))
+    (sym (at-run .before .before .enum-told2 .given .1))
 
 pub advance-spec : {M : Type 1} → statement M
 advance-spec =

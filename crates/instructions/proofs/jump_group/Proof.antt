@@ -7,6 +7,10 @@ use Rattle.upd546.proofs.Computed.{pushed-entries, popped-entries}
 use Rattle.instructions.proofs.jump_group.Statement.{statement}
 use Rattle.instructions.proofs.jump_group.Tie as tie
 
+-- LANDMARK: the stack is read, before the instructions part
+abbrev read : tie.After-struct-known3 → tie.After-stack
+read c = c .before .before .before
+
 -- the stack has its entries
 depth : (c : tie.After-stack) → length (c .before .args .g .core .flow .stack) ≡ stackDepth
 depth c = search needs
@@ -103,12 +107,12 @@ returns c word ports = rw (c .before .before .enum-told .given .1, c .jump-left 
 
 returns-2 : tie.Need-returns-2
 returns-2 c word ports =
-    let at-stack = c .before .before .before .before .before .before in
+    let at-stack = read (c .before .before .before) in
     rw (c .before .enum-told2 .given .1, c .jump-left2 .ensures, popped-entries _ (depth at-stack))
 
 returns-3 : tie.Need-returns-3
 returns-3 c word ports =
-    let at-stack = c .before .before .before .before .before .before in
+    let at-stack = read (c .before .before .before) in
     rw (c .before .enum-told3 .given .1, c .jump-left3 .ensures, popped-entries _ (depth at-stack))
 
 returns-4 : tie.Need-returns-4
@@ -116,12 +120,12 @@ returns-4 c word ports = rw (c .before .enum-told4 .given .1, c .jump-left4 .ens
 
 returns-5 : tie.Need-returns-5
 returns-5 c word ports =
-    let at-stack = c .before .before .before .before .before .before in
+    let at-stack = read (c .before .before .before) in
     rw (c .before .enum-told5 .given .1, c .jump-left5 .ensures, pushed-entries _ _ (depth at-stack))
 
 returns-6 : tie.Need-returns-6
 returns-6 c word ports =
-    let at-stack = c .before .before .before .before .before .before .before in
+    let at-stack = read (c .before .before .before .before) in
     rw (c .before .before .enum-told6 .given .1, c .jump-left6 .ensures, pushed-entries _ _ (depth at-stack))
 
 returns-7 : tie.Need-returns-7

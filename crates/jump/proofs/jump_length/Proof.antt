@@ -9,23 +9,47 @@ use borrow.Author.Needs.{needs}
 use Rattle.jump.proofs.jump_length.Statement.{statement}
 use Rattle.jump.proofs.jump_length.Tie as tie
 
+-- LANDMARKS, from the last test that fails back to the entry: each is counted here and nowhere else
+
+abbrev entry : tie.After-struct-known → tie.Start
+entry c = c .before .before .before
+
+abbrev if1 : tie.Else2 → tie.Else1
+if1 c = c .before .before
+
+abbrev if3 : tie.Else4 → tie.Else3
+if3 c = c .before .before
+
+abbrev if4 : tie.Else5 → tie.Else4
+if4 c = c .before .before .before
+
+abbrev if5 : tie.Else6 → tie.Else5
+if5 c = c .before .before .before
+
+-- from later tests to the first one
+abbrev if1-of-if3 : tie.Else3 → tie.Else1
+if1-of-if3 c = if1 (c .before)
+
+abbrev if1-of-if6 : tie.Else6 → tie.Else1
+if1-of-if6 c = if1-of-if3 (if3 (if4 (if5 c)))
+
 returns : tie.Need-returns
 returns c =
-    let at-entry = c .before .before .before .before in
+    let at-entry = entry (c .before) in
     let a = at-entry .args in
     stopped (now (a .rom)) (now (a .sched)) (a .pc) (a .owed) (a .interrupt) (a .timer) (a .n) (a .left)
     (c .if1 .taken)
 
 returns-2 : tie.Need-returns-2
 returns-2 c =
-    let at-entry = c .before .before .before .before .before .before in
+    let at-entry = entry (c .before .before .before) in
     let a = at-entry .args in
     tm-set (now (a .rom)) (now (a .sched)) (a .pc) (a .owed) (a .interrupt) (a .timer) (a .n) (a .left)
     (c .if2 .taken)
 
 returns-3 : tie.Need-returns-3
 returns-3 c =
-    let at-entry = c .before .before .before .before .before .before .before in
+    let at-entry = entry (if1 (c .before) .before) in
     let a = at-entry .args in
     owes (now (a .rom)) (now (a .sched)) (a .pc) (a .owed) (a .interrupt) (a .timer) (a .n) (a .left)
     (c .if3 .taken)
@@ -36,32 +60,29 @@ waits-requires c κs = search needs
 returns-4 : tie.Need-returns-4
 returns-4 c =
     let at-waits = c .before in
-    let at-if1 = at-waits .before .before .before .before in
-    let at-entry = at-if1 .before .before .before .before in
+    let at-entry = entry (if1-of-if3 (at-waits .before) .before) in
     let a = at-entry .args in
     no-loop (now (a .rom)) (now (a .sched)) (a .pc) (a .owed) (a .interrupt) (a .timer) (a .n) (a .left)
     (sym (at-waits .waits .ensures) ∙ not-true (at-waits .waits .result) (c .if4 .taken))
 
 returns-5 : tie.Need-returns-5
 returns-5 c =
-    let at-if1 = c .before .before .before .before .before .before .before .before in
-    let at-entry = at-if1 .before .before .before .before in
+    let at-entry = entry (if1-of-if3 (if3 (c .before .before .before)) .before) in
     let a = at-entry .args in
     both-one (now (a .rom)) (now (a .sched)) (a .pc) (a .owed) (a .interrupt) (a .timer) (a .n) (a .left)
     (c .if5 .taken)
 
 returns-6 : tie.Need-returns-6
 returns-6 c =
-    let at-if1 = c .before .before .before .before .before .before .before .before .before .before .before in
-    let at-entry = at-if1 .before .before .before .before in
+    let at-entry = entry (if1-of-if3 (if3 (if4 (c .before .before .before))) .before) in
     let a = at-entry .args in
     other-level (now (a .rom)) (now (a .sched)) (a .pc) (a .owed) (a .interrupt) (a .timer) (a .n) (a .left)
     (a .cursor) (at-entry .pre .stands) (c .if6 .taken)
 
 ticks-left-requires : tie.Need-ticks-left-requires
 ticks-left-requires c κs =
-    let at-if1 = c .before .before .before .before .before .before .before .before .before .before .before in
-    let at-entry = at-if1 .before .before .before .before in
+    let at-if1 = if1-of-if6 c in
+    let at-entry = entry (at-if1 .before) in
     (at-entry .pre .table, omega (arith, at-if1 .if1 .left), at-entry .pre .register)
 
 lesser-requires : tie.Need-lesser-requires
@@ -69,9 +90,7 @@ lesser-requires c κs = search needs
 
 up-to-record-requires : tie.Need-up-to-record-requires
 up-to-record-requires c κs =
-    let at-if6 = c .before .before in
-    let at-if1 = at-if6 .before .before .before .before .before .before .before .before .before .before .before in
-    let at-entry = at-if1 .before .before .before .before in
+    let at-entry = entry (if1-of-if6 (c .before .before) .before) in
     (at-entry .pre .stands .reached, omega (arith, c .lesser .ensures, at-entry .pre .limit))
 
 even-below-requires : tie.Need-even-below-requires
@@ -83,13 +102,13 @@ returns-7 c =
     let at-lesser = at-up-to-record .before in
     let at-ticks-left = at-lesser .before in
     let at-if6 = at-ticks-left .before in
-    let at-if5 = at-if6 .before .before .before in
-    let at-if4 = at-if5 .before .before .before in
+    let at-if5 = if5 at-if6 in
+    let at-if4 = if4 at-if5 in
     let at-waits = at-if4 .before in
-    let at-if3 = at-waits .before in
+    let at-if3 = if3 at-if4 in
     let at-if2 = at-if3 .before in
-    let at-if1 = at-if2 .before .before in
-    let at-entry = at-if1 .before .before .before .before in
+    let at-if1 = if1 at-if2 in
+    let at-entry = entry (at-if1 .before) in
     let a = at-entry .args in
     let running : 0 < a .timer .register = omega (arith, at-if1 .if1 .left) in
     let loops = sym (at-waits .waits .ensures) ∙ not-false (at-waits .waits .result) (at-if4 .if4 .left) in

@@ -9,6 +9,13 @@ use borrow.Author.Needs.{needs}
 use Rattle.portlog.proofs.output.Statement.{statement}
 use Rattle.portlog.proofs.output.Tie as tie
 
+-- LANDMARKS of OCD's two records: where the test for them was passed, from before the first record and from after it
+abbrev if2 : tie.After-put-record-arg → tie.Then2
+if2 c = c .before .before .before .before .before
+
+abbrev entry : tie.Then2 → tie.Start
+entry c = c .before .before .before
+
 returns : tie.Need-returns
 returns c =
     let at-entry = c .before .before in
@@ -23,15 +30,15 @@ latch-requires-2 c κs = search needs
 
 put-record-requires : tie.Need-put-record-requires
 put-record-requires c κs =
-    let at-if2 = c .before .before .before .before .before in
-    let at-entry = at-if2 .before .before .before in
+    let at-if2 = if2 c in
+    let at-entry = entry at-if2 in
     omega (arith, at-entry .pre .0, ap length (both-of (at-entry .args .port) (at-entry .args .value) (at-if2 .if2 .taken)))
 
 sub-put-record : tie.Need-sub-put-record
 sub-put-record c =
     let at-put-record = c .before .before in
-    let at-if2 = at-put-record .before .before .before .before .before .before in
-    let at-entry = at-if2 .before .before .before in
+    let at-if2 = if2 (at-put-record .before) in
+    let at-entry = entry at-if2 in
     omega (
       arith,
       at-entry .pre .0,
@@ -42,8 +49,8 @@ sub-put-record c =
 part-put-record-start : tie.Need-part-put-record-start
 part-put-record-start c =
     let at-put-record = c .before .before in
-    let at-if2 = at-put-record .before .before .before .before .before .before in
-    let at-entry = at-if2 .before .before .before in
+    let at-if2 = if2 (at-put-record .before) in
+    let at-entry = entry at-if2 in
     omega (
       arith,
       at-entry .pre .0,
@@ -57,8 +64,8 @@ part-put-record-end c = search needs
 put-record-requires-2 : tie.Need-put-record-requires-2
 put-record-requires-2 c κs =
     let at-put-record = c .before .before .before in
-    let at-if2 = at-put-record .before .before .before .before .before .before in
-    let at-entry = at-if2 .before .before .before in
+    let at-if2 = if2 (at-put-record .before) in
+    let at-entry = entry at-if2 in
     let e = ap length (at-put-record .put-record .ensures) in
     let w = ap length (both-of (at-entry .args .port) (at-entry .args .value) (at-if2 .if2 .taken)) in
     rw (mid-tail 8 (at-put-record .put-record .last .0))
