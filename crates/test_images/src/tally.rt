@@ -14,7 +14,7 @@ pub struct Tally {
     pub digest: u64,
 }
 
-pub fn empty(seed: u32) -> Tally {
+pub(crate) fn empty(seed: u32) -> Tally {
     Tally {
         drawn: seed,
         tries: 0,
@@ -30,7 +30,7 @@ pub fn empty(seed: u32) -> Tally {
 }
 
 // One answer more: its number, and the digest of the state or the buffer that it left.
-pub fn counted(t: Tally, number: u8, left: u64) -> Tally {
+pub(crate) fn counted(t: Tally, number: u8, left: u64) -> Tally {
     let mut u = t;
     u.tries = more(t.tries);
     u.digest = mixed(mixed(t.digest, number as u64), left);
@@ -47,7 +47,7 @@ pub fn counted(t: Tally, number: u8, left: u64) -> Tally {
 }
 
 // One that came back the same.
-pub fn back(t: Tally, same: bool) -> Tally {
+pub(crate) fn back(t: Tally, same: bool) -> Tally {
     let mut u = t;
     if same {
         u.same = more(t.same);

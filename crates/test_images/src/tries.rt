@@ -8,7 +8,7 @@ use upd546::State;
 ghost use Prim.Native.Nat.{_≤_};
 ghost use lib.ListN.{length};
 
-pub fn one(t: Tally, file: &[u8], g: Group, i: u32) -> Tally {
+pub(crate) fn one(t: Tally, file: &[u8], g: Group, i: u32) -> Tally {
     let mut space = [0u8; 512];
     let s = test_cases::next(t.drawn);
     let n = variants::length(g, i, s);

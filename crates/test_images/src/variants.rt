@@ -30,7 +30,7 @@ pub struct Group {
     pub seed: u32,
 }
 
-pub fn read_group(file: &[u8], k: u16) -> Group {
+pub(crate) fn read_group(file: &[u8], k: u16) -> Group {
     let from = 2 + 16 * (k as usize);
     Group {
         trial: test_cases::byte(file, from),
@@ -45,7 +45,7 @@ pub fn read_group(file: &[u8], k: u16) -> Group {
 }
 
 // How many bytes variant i has: an image, or a state as a case has it.
-pub fn length(g: Group, i: u32, drawn: u32) -> usize
+pub(crate) fn length(g: Group, i: u32, drawn: u32) -> usize
     ensures { λ r. ⌜ r ≤ 512 ⌝ }
 {
     let trial = g.trial;
@@ -65,7 +65,7 @@ fn rest(x: u8, count: u8) -> u8 {
 }
 
 // The length of the buffer that save i is lent.
-pub fn room(g: Group, i: u32) -> usize
+pub(crate) fn room(g: Group, i: u32) -> usize
     ensures { λ r. ⌜ r ≤ 256 ⌝ }
 {
     if g.trial == BUFFER {
@@ -75,7 +75,7 @@ pub fn room(g: Group, i: u32) -> usize
 }
 
 // Makes variant i. The last number of the generator is the answer: each byte takes one.
-pub fn make(bytes: &mut [u8], file: &[u8], g: Group, i: u32, drawn: u32) -> u32
+pub(crate) fn make(bytes: &mut [u8], file: &[u8], g: Group, i: u32, drawn: u32) -> u32
     requires { ⌜ length (now bytes) ≤ 512 ⌝ }
 {
     let mut s = drawn;
