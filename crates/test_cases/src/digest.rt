@@ -1,9 +1,13 @@
 // Digests of a state and of a log: h = 0, and for each byte x, h = (h * 257 + x + 1) mod 1,000,000,007.
-ghost use Prim.Native.Nat.{_<_};
+ghost use mathlib.Core.Path.{_≡_};
+ghost use Prim.Native.Nat.{_+_, _*_, _%_, _<_};
+ghost use Rattle.test_cases.specs.Cases.{digestFrom};
 use upd546::Core;
 use upd546::State;
 
-pub fn log_digest(log: &[u8]) -> u64 {
+pub fn log_digest(log: &[u8]) -> u64
+    ensures { λ r. ⌜ r ≡ digestFrom 0 (now (log .entry)) ⌝ }
+{
     digest(0, log)
 }
 
@@ -61,7 +65,7 @@ fn number(h: u64, x: u16) -> u64
 
 fn digest(h: u64, bytes: &[u8]) -> u64
     requires { ⌜ h < 1000000007 ⌝ }
-    ensures { λ r. ⌜ r < 1000000007 ⌝ }
+    ensures { λ r. ⌜ (r ≡ digestFrom h (now (bytes .entry))) × (r < 1000000007) ⌝ }
 {
     let mut d = h;
     let mut i = 0;
@@ -74,7 +78,7 @@ fn digest(h: u64, bytes: &[u8]) -> u64
 
 fn step(h: u64, x: u8) -> u64
     requires { ⌜ h < 1000000007 ⌝ }
-    ensures { λ r. ⌜ r < 1000000007 ⌝ }
+    ensures { λ r. ⌜ (r ≡ (h * 257 + x + 1) % 1000000007) × (r < 1000000007) ⌝ }
 {
     (h * 257 + x as u64 + 1) % 1000000007
 }

@@ -1,5 +1,7 @@
 // A case's line schedule: records of the generator at rising cycles, and patches over them.
-ghost use Prim.Native.Nat.{_≤_};
+ghost use mathlib.Core.Path.{_≡_};
+ghost use Prim.Native.Nat.{min};
+ghost use Rattle.test_cases.specs.Cases.{numberIn};
 use crate::numbers::HEAD;
 use crate::numbers::below_top;
 use crate::numbers::eight;
@@ -13,7 +15,7 @@ use crate::numbers::wide;
 use crate::numbers::word;
 
 pub fn schedule_length(case: &[u8]) -> usize
-    ensures { λ r. ⌜ r ≤ 40970 ⌝ }
+    ensures { λ r. ⌜ r ≡ min (numberIn (now (case .entry)) 8 2) 40970 ⌝ }
 {
     least(wide(word(case, 8)), 40970)
 }

@@ -1,5 +1,7 @@
 // A case's ROM: bytes of the generator, passed through the filters that the case names, and patches over them.
-ghost use Prim.Native.Nat.{_≤_};
+ghost use mathlib.Core.Path.{_≡_};
+ghost use Prim.Native.Nat.{min};
+ghost use Rattle.test_cases.specs.Cases.{numberIn};
 use crate::numbers::HEAD;
 use crate::numbers::below_top;
 use crate::numbers::byte;
@@ -13,7 +15,7 @@ use crate::numbers::wide;
 use crate::numbers::word;
 
 pub fn rom_length(case: &[u8]) -> usize
-    ensures { λ r. ⌜ r ≤ 2100 ⌝ }
+    ensures { λ r. ⌜ r ≡ min (numberIn (now (case .entry)) 2 2) 2100 ⌝ }
 {
     least(wide(word(case, 2)), 2100)
 }

@@ -1,5 +1,9 @@
 // The state that a case starts from, its log and its number of cycles. Every field is as the case has it, also above its width.
-ghost use Prim.Native.Nat.{_≤_};
+ghost use mathlib.Core.Path.{_≡_};
+ghost use Prim.Native.Nat.{min};
+ghost use lib.ListN.{length};
+ghost use Rattle.upd546.specs.Sequences.{entries};
+ghost use Rattle.test_cases.specs.Cases.{numberIn, patternAt};
 use crate::numbers::HEAD;
 use crate::numbers::byte;
 use crate::numbers::eight;
@@ -22,13 +26,15 @@ use upd546::State;
 use upd546::Timer;
 
 pub fn log_length(case: &[u8]) -> usize
-    ensures { λ r. ⌜ r ≤ 65536 ⌝ }
+    ensures { λ r. ⌜ r ≡ min (numberIn (now (case .entry)) 28 4) 65536 ⌝ }
 {
     least(long(case, 28) as usize, 65536)
 }
 
 // What stands in the log before the run.
-pub fn make_log(log: &mut [u8]) {
+pub fn make_log(log: &mut [u8])
+    ensures { λ _. ⌜ now (log .exit) ≡ entries (length (now (log .entry))) patternAt ⌝ }
+{
     let mut i = 0;
     while i < log.len() {
         store(log, i, pattern(i));
@@ -36,11 +42,15 @@ pub fn make_log(log: &mut [u8]) {
     }
 }
 
-pub fn pattern(i: usize) -> u8 {
+pub fn pattern(i: usize) -> u8
+    ensures { λ r. ⌜ r ≡ patternAt i ⌝ }
+{
     ((i % 256 * 7 + 13) % 256) as u8
 }
 
-pub fn cycles(case: &[u8]) -> MachineCycles {
+pub fn cycles(case: &[u8]) -> MachineCycles
+    ensures { λ r. ⌜ r .0 ≡ numberIn (now (case .entry)) 32 8 ⌝ }
+{
     MachineCycles(eight(long(case, 32), long(case, 36)))
 }
 

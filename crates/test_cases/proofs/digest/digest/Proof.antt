@@ -1,18 +1,22 @@
--- A digest stays below its modulus. Assumes nothing.
+-- The digest of the bytes passed, with those to come, is the digest of all; it stays below its modulus. Assumes nothing.
+use mathlib.Core.Path.{_≡_, _∙_, refl}
 use borrow.Author.Needs.{needs}
-use Prim.Native.Nat.{_≤_, _<_, _-_}
-use lib.ListN.{length}
+use Prim.Native.Nat.{ℕ, _≤_, _<_, _-_}
+use native.Mathlib.Numerals.{add-one}
+use lib.ListN.{length, drop, drop-of-length-le}
+use lib.Seq.{drop-cons}
+use Rattle.test_cases.specs.Cases.{digestFrom}
 use Rattle.test_cases.proofs.digest.digest.Statement.{statement}
 use Rattle.test_cases.proofs.digest.digest.Tie as tie
 
 abbrev Inv-loop : tie.InvT-loop
-Inv-loop h bytes d₀ i₀ d i = (i ≤ length bytes) × (d < 1000000007)
+Inv-loop h bytes d₀ i₀ d i = (i ≤ length bytes) × (d < 1000000007) × (digestFrom d (drop i bytes) ≡ digestFrom h bytes)
 
 abbrev μ-loop : tie.MeasureT-loop
 μ-loop h bytes d₀ i₀ d i = length bytes - i
 
 loop-holds : tie.Need-loop-holds Inv-loop μ-loop
-loop-holds c = search needs
+loop-holds c = (search needs, search needs, refl)
 
 shared-slice-read-step : tie.Need-shared-slice-read-step Inv-loop μ-loop
 shared-slice-read-step c = search needs
@@ -27,10 +31,17 @@ loop-less : tie.Need-loop-less Inv-loop μ-loop
 loop-less c = search needs
 
 loop-again : tie.Need-loop-again Inv-loop μ-loop
-loop-again c = search needs
+loop-again c =
+    let l = c .before .before .before .loop in (
+      search needs,
+      search needs,
+      rw (c .step .ensures .0, add-one (l .i)) (rw (drop-cons {A = ℕ} _ (l .i) 0 (c .before .before .loop-test .taken)) at (l .inv .2)),
+    )
 
 returns : tie.Need-returns Inv-loop μ-loop
-returns c = search needs
+returns c =
+    let l = c .before .loop in
+    (rw (drop-of-length-le _ (c .loop-test .left)) at (l .inv .2), l .inv .1)
 
 pub digest-spec : {M : Type 1} → statement M
 digest-spec =

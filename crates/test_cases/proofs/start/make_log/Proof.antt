@@ -1,19 +1,25 @@
 -- What a log holds before the run: one turn a byte. Assumes nothing.
+use mathlib.Core.List.{_++_}
 use borrow.Author.Needs.{needs}
 use Prim.Native.Nat.{_≤_, _-_}
-use mathlib.Core.Path.{_≡_}
-use lib.ListN.{length}
+use mathlib.Core.Path.{_≡_, _∙_, refl, ap}
+use native.Mathlib.Omega.{arith}
+use lib.ListN.{length, drop}
+use denote.Ref.{now}
+use Rattle.upd546.specs.Sequences.{entries}
+use Rattle.test_cases.specs.Cases.{patternAt}
+use Rattle.test_cases.proofs.Filling.{filled-more, filled-all}
 use Rattle.test_cases.proofs.start.make_log.Statement.{statement}
 use Rattle.test_cases.proofs.start.make_log.Tie as tie
 
 abbrev Inv-loop : tie.InvT-loop
-Inv-loop log₀ i₀ log i = (i ≤ length log₀) × (length log ≡ length log₀)
+Inv-loop log₀ i₀ log i = (i ≤ length log₀) × (length log ≡ length log₀) × (log ≡ entries i patternAt ++ drop i log₀)
 
 abbrev μ-loop : tie.MeasureT-loop
 μ-loop log₀ i₀ log i = length log₀ - i
 
 loop-holds : tie.Need-loop-holds Inv-loop μ-loop
-loop-holds c = search needs
+loop-holds c = (search needs, refl, refl)
 
 pattern-requires : tie.Need-pattern-requires Inv-loop μ-loop
 pattern-requires c κs = search needs
@@ -28,13 +34,22 @@ loop-less : tie.Need-loop-less Inv-loop μ-loop
 loop-less c = search needs
 
 loop-again : tie.Need-loop-again Inv-loop μ-loop
-loop-again c = search needs
+loop-again c =
+    let at-loop = c .before .before .before .before .before .before in
+    let l = at-loop .loop in
+    let made = c .before .before .before .pattern in (
+      search needs,
+      search needs,
+      rw (c .before .before .store .ensures, l .inv .2, filled-more patternAt (now (at-loop .before .before .args .log)) (l .i) (made .result) (omega (arith, l .inv .1, c .before .before .before .before .before .loop-test .taken)) (made .ensures)),
+    )
 
 same-length : tie.Need-same-length Inv-loop μ-loop
 same-length c = search needs
 
 returns : tie.Need-returns Inv-loop μ-loop
-returns c = search needs
+returns c =
+    let l = c .before .loop in
+    l .inv .2 ∙ filled-all patternAt (now (c .before .before .before .args .log)) (l .i) (l .inv .0) (omega (arith, l .inv .1, c .loop-test .left))
 
 pub make-log-spec : {M : Type 1} → statement M
 make-log-spec =
