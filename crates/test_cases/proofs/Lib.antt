@@ -1,2 +1,4 @@
 pub mod Reading
 pub mod Filling
+pub mod Patching
+pub mod Digesting

@@ -1,7 +1,8 @@
 // Digests of a state and of a log: h = 0, and for each byte x, h = (h * 257 + x + 1) mod 1,000,000,007.
 ghost use mathlib.Core.Path.{_≡_};
 ghost use Prim.Native.Nat.{_+_, _*_, _%_, _<_};
-ghost use Rattle.test_cases.specs.Cases.{digestFrom};
+ghost use Rattle.test_cases.specs.Cases.{digestFrom, coreBytes, stateBytes};
+ghost use Rattle.upd546.specs.Bytes.{bytesOf};
 use upd546::Core;
 use upd546::State;
 
@@ -12,7 +13,9 @@ pub fn log_digest(log: &[u8]) -> u64
 }
 
 // PC, stack, Acc, C, C', DPH, DPL, INT, INTE, TM, level, mark, owed, register, counter, ports, RAM, cycle number.
-pub fn state_digest(s: State) -> u64 {
+pub fn state_digest(s: State) -> u64
+    ensures { λ r. ⌜ r ≡ digestFrom 0 (stateBytes s) ⌝ }
+{
     let h = core_digest(s.core);
     let ports = s.ports;
     let h = digest(h, &ports);
@@ -22,7 +25,7 @@ pub fn state_digest(s: State) -> u64 {
 }
 
 fn core_digest(c: Core) -> u64
-    ensures { λ r. ⌜ r < 1000000007 ⌝ }
+    ensures { λ r. ⌜ (r ≡ digestFrom 0 (coreBytes c)) × (r < 1000000007) ⌝ }
 {
     let stack = c.flow.stack;
     let h = number(number(0, c.flow.pc), stack[0]);
@@ -47,20 +50,27 @@ fn core_digest(c: Core) -> u64
 
 fn cycle_digest(h: u64, cycle: u64) -> u64
     requires { ⌜ h < 1000000007 ⌝ }
-    ensures { λ r. ⌜ r < 1000000007 ⌝ }
+    ensures { λ r. ⌜ r ≡ digestFrom h (bytesOf 8 cycle) ⌝ }
 {
-    let h = number(h, (cycle / 281474976710656) as u16);
-    let h = number(h, (cycle / 4294967296 % 65536) as u16);
-    let h = number(h, (cycle / 65536 % 65536) as u16);
-    number(h, (cycle % 65536) as u16)
+    let bytes = [
+        (cycle / 72057594037927936 % 256) as u8,
+        (cycle / 281474976710656 % 256) as u8,
+        (cycle / 1099511627776 % 256) as u8,
+        (cycle / 4294967296 % 256) as u8,
+        (cycle / 16777216 % 256) as u8,
+        (cycle / 65536 % 256) as u8,
+        (cycle / 256 % 256) as u8,
+        (cycle % 256) as u8,
+    ];
+    digest(h, &bytes)
 }
 
 // Two bytes, big-endian.
 fn number(h: u64, x: u16) -> u64
     requires { ⌜ h < 1000000007 ⌝ }
-    ensures { λ r. ⌜ r < 1000000007 ⌝ }
+    ensures { λ r. ⌜ (r ≡ digestFrom h (bytesOf 2 x)) × (r < 1000000007) ⌝ }
 {
-    step(step(h, (x / 256) as u8), (x % 256) as u8)
+    step(step(h, (x / 256 % 256) as u8), (x % 256) as u8)
 }
 
 fn digest(h: u64, bytes: &[u8]) -> u64

@@ -3,7 +3,8 @@ ghost use mathlib.Core.Path.{_≡_};
 ghost use Prim.Native.Nat.{_+_, _*_, _/_, _%_, _<_, _≤_, min};
 ghost use lib.ListN.{getD, set};
 ghost use Rattle.upd546.specs.Sequences.{sameNumbers};
-ghost use Rattle.test_cases.specs.Cases.{numberIn, numberAfter};
+ghost use Rattle.test_cases.specs.Cases.{bytesIn, numberIn, numberAfter, patched};
+ghost use lib.Seq.{sets};
 
 // The bytes before a case's patches.
 pub const HEAD: usize = 82;
@@ -104,6 +105,7 @@ pub fn store(target: &mut [u8], at: usize, x: u8)
 pub(crate) fn patch(target: &mut [u8], case: &[u8], from: usize, to: usize)
     requires { ⌜ from < 1000000 ⌝ }
     requires { ⌜ to < 1000000 ⌝ }
+    ensures { λ _. ⌜ now (target .exit) ≡ patched (now (target .entry)) (now (case .entry)) from to ⌝ }
 {
     let mut at = from;
     while at < to {
@@ -118,6 +120,7 @@ fn lay(target: &mut [u8], address: usize, case: &[u8], from: usize, count: usize
     requires { ⌜ address < 65536 ⌝ }
     requires { ⌜ from < 4294967296 ⌝ }
     requires { ⌜ count < 256 ⌝ }
+    ensures { λ _. ⌜ now (target .exit) ≡ sets (now (target .entry)) address (bytesIn (now (case .entry)) from count) ⌝ }
 {
     let mut i = 0;
     while i < count {

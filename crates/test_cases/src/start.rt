@@ -1,9 +1,9 @@
 // The state that a case starts from, its log and its number of cycles. Every field is as the case has it, also above its width.
 ghost use mathlib.Core.Path.{_≡_};
-ghost use Prim.Native.Nat.{min};
+ghost use Prim.Native.Nat.{suc, _/_, min};
 ghost use lib.ListN.{length};
 ghost use Rattle.upd546.specs.Sequences.{entries};
-ghost use Rattle.test_cases.specs.Cases.{numberIn, patternAt};
+ghost use Rattle.test_cases.specs.Cases.{bytesIn, numberIn, patternAt, drawn, drawnOver, coreIn, stateIn};
 use crate::numbers::HEAD;
 use crate::numbers::byte;
 use crate::numbers::eight;
@@ -54,7 +54,9 @@ pub fn cycles(case: &[u8]) -> MachineCycles
     MachineCycles(eight(long(case, 32), long(case, 36)))
 }
 
-pub fn start_state(case: &[u8]) -> State {
+pub fn start_state(case: &[u8]) -> State
+    ensures { λ r. ⌜ r ≡ stateIn (now (case .entry)) ⌝ }
+{
     let mut ram = [0u8; RAM_WORDS];
     fill(&mut ram, long(case, 24));
     let from = HEAD + wide(word(case, 76)) + wide(word(case, 78));
@@ -67,7 +69,9 @@ pub fn start_state(case: &[u8]) -> State {
     }
 }
 
-fn core(case: &[u8]) -> Core {
+fn core(case: &[u8]) -> Core
+    ensures { λ r. ⌜ r ≡ coreIn (now (case .entry)) ⌝ }
+{
     Core {
         registers: Registers {
             acc: byte(case, 56),
@@ -95,7 +99,9 @@ fn core(case: &[u8]) -> Core {
     }
 }
 
-fn ports(case: &[u8]) -> [u8; LATCHES] {
+fn ports(case: &[u8]) -> [u8; LATCHES]
+    ensures { λ r. ⌜ r ≡ bytesIn (now (case .entry)) 69 7 ⌝ }
+{
     [
         byte(case, 69),
         byte(case, 70),
@@ -108,7 +114,9 @@ fn ports(case: &[u8]) -> [u8; LATCHES] {
 }
 
 // RAM words of the generator; with seed 0 all stay 0.
-fn fill(ram: &mut [u8], seed: u32) {
+fn fill(ram: &mut [u8], seed: u32)
+    ensures { λ _. ⌜ now (ram .exit) ≡ drawnOver seed (now (ram .entry)) (λ i. drawn seed (suc i) / 16777216 / 16) ⌝ }
+{
     if seed == 0 {
         return;
     }
