@@ -1,9 +1,13 @@
 // A case's line schedule: records of the generator at rising cycles, and patches over them.
 ghost use mathlib.Core.Path.{_≡_};
-ghost use Prim.Native.Nat.{min};
-ghost use Rattle.test_cases.specs.Cases.{numberIn};
+ghost use Prim.Native.Nat.{_+_, _%_, _<_, min};
+ghost use mathlib.Core.Bool.{cond};
+ghost use lib.Dec.{ltb};
+ghost use Rattle.test_cases.specs.Cases.{numberIn, numberAfter, drawnOver};
+ghost use Rattle.test_cases.specs.Records.{restOf, recordByte, scheduleByte, scheduleIn};
 use crate::numbers::HEAD;
 use crate::numbers::below_top;
+use crate::numbers::byte;
 use crate::numbers::eight;
 use crate::numbers::least;
 use crate::numbers::long;
@@ -20,7 +24,9 @@ pub fn schedule_length(case: &[u8]) -> usize
     least(wide(word(case, 8)), 40970)
 }
 
-pub fn make_schedule(case: &[u8], schedule: &mut [u8]) {
+pub fn make_schedule(case: &[u8], schedule: &mut [u8])
+    ensures { λ _. ⌜ now (schedule .exit) ≡ scheduleIn (now (case .entry)) (now (schedule .entry)) ⌝ }
+{
     let first = eight(long(case, 16), long(case, 20));
     fill(schedule, long(case, 12), word(case, 10), first);
     let from = HEAD + wide(word(case, 76));
@@ -28,7 +34,9 @@ pub fn make_schedule(case: &[u8], schedule: &mut [u8]) {
 }
 
 // A record takes two numbers of the generator, s and the next one. With seed 0 all bytes stay 0.
-fn fill(schedule: &mut [u8], seed: u32, gap: u16, first: u64) {
+fn fill(schedule: &mut [u8], seed: u32, gap: u16, first: u64)
+    ensures { λ _. ⌜ now (schedule .exit) ≡ drawnOver seed (now (schedule .entry)) (scheduleByte seed gap first) ⌝ }
+{
     if seed == 0 {
         return;
     }
@@ -44,37 +52,46 @@ fn fill(schedule: &mut [u8], seed: u32, gap: u16, first: u64) {
     }
 }
 
-fn record_byte(place: usize, cycle: u64, s: u32) -> u8 {
-    match place {
-        0 => (cycle / 1099511627776 % 256) as u8,
-        1 => (cycle / 4294967296 % 256) as u8,
-        2 => (cycle / 16777216 % 256) as u8,
-        3 => (cycle / 65536 % 256) as u8,
-        4 => (cycle / 256 % 256) as u8,
-        5 => (cycle % 256) as u8,
-        6 => top(s),
-        7 => below_top(s),
-        8 => top(next(s)) / 128,
-        _ => 0,
-    }
+// Past the nine bytes that are drawn a record has a 0.
+fn record_byte(place: usize, cycle: u64, s: u32) -> u8
+    ensures { λ r. ⌜ r ≡ recordByte place cycle s ⌝ }
+{
+    let bytes = [
+        (cycle / 1099511627776 % 256) as u8,
+        (cycle / 4294967296 % 256) as u8,
+        (cycle / 16777216 % 256) as u8,
+        (cycle / 65536 % 256) as u8,
+        (cycle / 256 % 256) as u8,
+        (cycle % 256) as u8,
+        top(s),
+        below_top(s),
+        top(next(s)) / 128,
+    ];
+    byte(&bytes, place)
 }
 
 // After a record's last byte the cycle of the next one: 1 to gap cycles later, 1 if gap is 0.
-fn cycle_after(place: usize, cycle: u64, s: u32, gap: u16) -> u64 {
+fn cycle_after(place: usize, cycle: u64, s: u32, gap: u16) -> u64
+    ensures { λ r. ⌜ r ≡ cond (ltb place 9) cycle (cycle % 281474976710656 + 1 + restOf (numberAfter s) gap) ⌝ }
+{
     if place < 9 {
         return cycle;
     }
     cycle % 281474976710656 + 1 + (rest(next(s), gap) as u64)
 }
 
-fn rest(s: u32, gap: u16) -> u16 {
+fn rest(s: u32, gap: u16) -> u16
+    ensures { λ r. ⌜ r ≡ restOf s gap ⌝ }
+{
     if gap == 0 {
         return 0;
     }
     (s / 65536) as u16 % gap
 }
 
-fn number_after(place: usize, s: u32) -> u32 {
+fn number_after(place: usize, s: u32) -> u32
+    ensures { λ r. ⌜ r ≡ cond (ltb place 9) s (numberAfter (numberAfter s)) ⌝ }
+{
     if place < 9 {
         return s;
     }
