@@ -1,6 +1,6 @@
 // A case's line schedule: records of the generator at rising cycles, and patches over them.
 ghost use mathlib.Core.Path.{_≡_};
-ghost use Prim.Native.Nat.{_+_, _%_, _<_, min};
+ghost use Prim.Native.Nat.{_+_, _%_, min};
 ghost use mathlib.Core.Bool.{cond};
 ghost use lib.Dec.{ltb};
 ghost use Rattle.test_cases.specs.Cases.{numberIn, numberAfter, drawnOver};
@@ -33,7 +33,7 @@ pub fn make_schedule(case: &[u8], schedule: &mut [u8])
     patch(schedule, case, from, from + wide(word(case, 78)));
 }
 
-// A record takes two numbers of the generator, s and the next one. With seed 0 all bytes stay 0.
+// A record takes two numbers of the generator, s and the next one. With seed 0 all bytes stay as they are.
 fn fill(schedule: &mut [u8], seed: u32, gap: u16, first: u64)
     ensures { λ _. ⌜ now (schedule .exit) ≡ drawnOver seed (now (schedule .entry)) (scheduleByte seed gap first) ⌝ }
 {

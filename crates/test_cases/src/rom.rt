@@ -28,7 +28,7 @@ pub fn make_rom(case: &[u8], rom: &mut [u8])
     patch(rom, case, HEAD, HEAD + wide(word(case, 76)));
 }
 
-// With seed 0 all bytes stay 0.
+// With seed 0 all bytes stay as they are.
 fn fill(rom: &mut [u8], seed: u32, filter: u8)
     ensures { λ _. ⌜ now (rom .exit) ≡ drawnOver seed (now (rom .entry)) (λ i. romByte (drawn seed (suc i)) filter i) ⌝ }
 {

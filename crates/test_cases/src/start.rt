@@ -113,7 +113,7 @@ fn ports(case: &[u8]) -> [u8; LATCHES]
     ]
 }
 
-// RAM words of the generator; with seed 0 all stay 0.
+// RAM words of the generator; with seed 0 all stay as they are.
 fn fill(ram: &mut [u8], seed: u32)
     ensures { λ _. ⌜ now (ram .exit) ≡ drawnOver seed (now (ram .entry)) (λ i. drawn seed (suc i) / 16777216 / 16) ⌝ }
 {

@@ -1,7 +1,5 @@
 -- The digest goes on from part to part of a state. Assumes nothing.
-use denote.Ref.{now}
-use Rattle.upd546.specs.Bytes.{bytesOf}
-use Rattle.test_cases.specs.Cases.{coreBytes, stateBytes}
+use Rattle.test_cases.specs.Cases.{stateBytes}
 use Rattle.test_cases.proofs.Digesting.{digest-append}
 use borrow.Author.Needs.{needs}
 use Rattle.test_cases.proofs.digest.state_digest.Statement.{statement}

@@ -3,14 +3,14 @@ use borrow.Author.Needs.{needs}
 use Prim.Native.Nat.{_≤_, _-_}
 use mathlib.Core.Path.{_≡_, _∙_, refl}
 use mathlib.Core.List.{_++_}
-use Prim.Native.Nat.{_+_, _*_, _/_, _%_}
+use Prim.Native.Nat.{_+_, _*_, _/_}
 use native.Mathlib.Omega.{arith}
 use lib.ListN.{length, drop}
 use denote.Ref.{now}
 use Rattle.upd546.specs.Sequences.{entries}
 use Rattle.test_cases.specs.Cases.{drawn}
 use Rattle.test_cases.specs.Records.{recordCycle, scheduleByte}
-use Rattle.test_cases.proofs.Filling.{filled-more, drawn-next, drawn-none, drawn-all}
+use Rattle.test_cases.proofs.Filling.{filled-more, drawn-none, drawn-all}
 use Rattle.test_cases.proofs.Recording.{cycle-next, number-next}
 use Rattle.test_cases.proofs.lines.fill.Statement.{statement}
 use Rattle.test_cases.proofs.lines.fill.Tie as tie

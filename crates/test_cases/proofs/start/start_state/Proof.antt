@@ -1,6 +1,5 @@
 -- The state of a case: RAM drawn and patched, and every field where the case has it. Assumes nothing.
 use mathlib.Core.Path.{_≡_}
-use Prim.Native.Nat.{_+_}
 use native.Mathlib.Omega.{arith}
 use denote.Ref.{now}
 use Rattle.test_cases.specs.Cases.{numberIn, ramIn, stateIn}
