@@ -12,11 +12,6 @@ use Rattle.upd546.specs.OneMachineCycle.{accepts, accepted, taken, paid, ticked
 use Rattle.cycle.specs.declared.CycleResult.{CycleResult}
 use Rattle.cycle.specs.Answer.{cycleAnswer, cycleOf}
 
--- the lines leave what is owed
-pub taken-owed : (l : Lines) (c : Core) → taken l c .owed ≡ c .owed
-unfolding taken
-taken-owed l c = refl
-
 -- a cycle that begins no instruction
 abbrev pub quietStep : Core → CycleResult
 quietStep c = record { core = c; bytes = 0; begun = 0; stop = 0 }

@@ -127,9 +127,6 @@ module _ {rom table : List â„•} {l : Lines} {s : State} {c : Core} {log : List â
   pub writes-valid : All ValidWrite (writesOf (e .port) (e .value))
   writes-valid = rw (h .does .writes) (due-valid .writes)
 
-  pub register-small : e .core .timer .register < 64
-  register-small = rw (h .does .core) (due-valid .core .scalars .register)
-
   -- an instruction that can be begun has base cycles
   due-cycles : 0 < due rom c .cycles
   unfolding fetchStop

@@ -7,7 +7,6 @@ use upd546::LATCHES;
 use upd546::Lines;
 use upd546::RAM_WORDS;
 ghost use mathlib.Core.Path.{_≡_};
-ghost use Prim.Native.Nat.{_<_};
 ghost use lib.ListN.{length, set};
 ghost use Rattle.upd546.specs.TheMachine.{ramLength};
 ghost use Rattle.upd546.specs.Parts.{setOwed, setPc};
@@ -46,7 +45,6 @@ fn store(ram: &mut [u8; RAM_WORDS], at: usize, word: u8)
 
 // The core at the end of a cycle in which an instruction was begun.
 fn finished(core: Core, pc: u16, owed: u8) -> Core
-    requires { ⌜ core .timer .register < 64 ⌝ }
     ensures { λ r. ⌜ r ≡ ticked (setOwed owed (setPc pc core)) ⌝ }
 {
     let mut c = upd546::copy_core(core);

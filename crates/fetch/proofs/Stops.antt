@@ -14,7 +14,7 @@ use Rattle.tables.specs.Tables.{sizeOf}
 use Rattle.laws.proofs.Instructions.{keeps}
 use Rattle.fetch.specs.declared.Fetched.{Fetched}
 use Rattle.fetch.specs.declared.Passed.{Passed}
-use Rattle.fetch.specs.Fetching.{instructionAt, fetchStop, FetchedAs, PassedAs}
+use Rattle.fetch.specs.Fetching.{instructionAt, fetchStop, heldFetch, FetchedAs, heldPass, PassedAs}
 
 -- a byte that is there, and one that isn't
 needs-none : (a : ℕ) → a ≤ lastAddress → needs a ≡ 0
@@ -35,16 +35,18 @@ bytes-at rom pc = (keeps (byteAt rom pc) .one-byte, keeps (byteAt rom pc) .two-b
 
 -- FETCHING
 
-stops : (rom : List ℕ) (pc k : ℕ) (f : Fetched) → f .stop ≡ suc k → fetchStop rom pc ≡ suc k → FetchedAs rom pc f
-stops rom pc k f e q = record { stop = e ∙ sym q; begins = λ z. absurd (omega arith) }
+stops : (rom : List ℕ) (pc k : ℕ) (f : Fetched) → f ≡ heldFetch (suc k) → fetchStop rom pc ≡ suc k → FetchedAs rom pc f
+stops rom pc k f e q =
+    let number : f .stop ≡ suc k = ap (λ (x : Fetched). x .stop) e in
+    record { stop = number ∙ sym q; begins = λ z. absurd (omega arith); held = λ n. e ∙ ap heldFetch (sym number) }
 
 module _ (rom : List ℕ) (pc : ℕ) (f : Fetched) where
-  pub stops-past : lastAddress < pc → f .stop ≡ 22 → FetchedAs rom pc f
+  pub stops-past : lastAddress < pc → f ≡ heldFetch 22 → FetchedAs rom pc f
   unfolding fetchStop firstOf
   stops-past h e = stops rom pc 21 f e (rw (needs-22 pc h))
 
   module _ (h : pc ≤ lastAddress) where
-    pub stops-none : instructionAt rom pc .cycles ≡ 0 → f .stop ≡ 23 → FetchedAs rom pc f
+    pub stops-none : instructionAt rom pc .cycles ≡ 0 → f ≡ heldFetch 23 → FetchedAs rom pc f
     unfolding fetchStop firstOf
     stops-none z e = stops rom pc 22 f e (rw (needs-none pc h, z))
 
@@ -57,10 +59,11 @@ module _ (rom : List ℕ) (pc : ℕ) (f : Fetched) where
           record {
             stop = e ∙ sym (rw (needs-none pc h, lt-ltb 0 (instructionAt rom pc .cycles) p, b));
             begins = λ z. record { code = c; second = rw b s; after = rw b a; cycles = k };
+            held = λ n. absurd (n e);
           }
 
       -- one whose second byte isn't there
-      pub stops-second : instructionAt rom pc .bytes ≡ 2 → lastAddress < follows pc → f .stop ≡ 22 → FetchedAs rom pc f
+      pub stops-second : instructionAt rom pc .bytes ≡ 2 → lastAddress < follows pc → f ≡ heldFetch 22 → FetchedAs rom pc f
       unfolding fetchStop firstOf
       stops-second b g e = stops rom pc 21 f e (rw (needs-none pc h, lt-ltb 0 (instructionAt rom pc .cycles) p, b, needs-22 (follows pc) g))
 
@@ -72,6 +75,7 @@ module _ (rom : List ℕ) (pc : ℕ) (f : Fetched) where
           record {
             stop = e ∙ sym (rw (needs-none pc h, lt-ltb 0 (instructionAt rom pc .cycles) p, b, needs-none (follows pc) g));
             begins = λ z. record { code = c; second = rw b s; after = rw b a; cycles = k };
+            held = λ n. absurd (n e);
           }
 
 -- PASSING OVER
@@ -79,10 +83,17 @@ module _ (rom : List ℕ) (pc : ℕ) (f : Fetched) where
 module _ (rom : List ℕ) (to : ℕ) (p : Passed) where
   pub passes-none : p .stop ≡ 0 → p .pc ≡ to → p .over ≡ 0 → PassedAs rom false to p
   unfolding past
-  passes-none e q o = record { stop = e; over = λ z. o; pc = λ z. rw o q }
+  passes-none e q o = record { stop = e; over = λ z. o; pc = λ z. rw o q; held = λ n. absurd (n e) }
 
-  pub passes-past : lastAddress < to → p .stop ≡ 22 → PassedAs rom true to p
-  passes-past h e = record { stop = e ∙ sym (needs-22 to h); over = λ z. absurd (omega arith); pc = λ z. absurd (omega arith) }
+  pub passes-past : lastAddress < to → p ≡ heldPass 22 → PassedAs rom true to p
+  passes-past h e =
+      let number : p .stop ≡ 22 = ap (λ (x : Passed). x .stop) e in
+      record {
+        stop = number ∙ sym (needs-22 to h);
+        over = λ z. absurd (omega arith);
+        pc = λ z. absurd (omega arith);
+        held = λ n. e ∙ ap heldPass (sym number);
+      }
 
   pub passes-one : to ≤ lastAddress → p .stop ≡ 0 → p .over ≡ instructionAt rom to .bytes → p .pc ≡ past (p .over) to → PassedAs rom true to p
-  passes-one h e o q = record { stop = e ∙ sym (needs-none to h); over = λ z. o; pc = λ z. q }
+  passes-one h e o q = record { stop = e ∙ sym (needs-none to h); over = λ z. o; pc = λ z. q; held = λ n. absurd (n e) }

@@ -30,11 +30,21 @@ pub record Begins (rom : List ℕ) (pc : ℕ) (f : Fetched) : Type 0 where
   pub after : f .after ≡ past (instructionAt rom pc .bytes) pc
   pub cycles : f .cycles ≡ instructionAt rom pc .cycles
 
+-- what is answered where it can't be: the number, and nothing else
+abbrev pub heldFetch : ℕ → Fetched
+heldFetch k = record { after = 0; stop = k; code = 0; second = 0; cycles = 0 }
+
 pub record FetchedAs (rom : List ℕ) (pc : ℕ) (f : Fetched) : Type 0 where
   pub stop : f .stop ≡ fetchStop rom pc
   pub begins : f .stop ≡ 0 → Begins rom pc f
+  pub held : (f .stop ≡ 0 → ⊥) → f ≡ heldFetch (f .stop)
+
+-- likewise of a skip
+abbrev pub heldPass : ℕ → Passed
+heldPass k = record { stop = k; pc = 0; over = 0 }
 
 pub record PassedAs (rom : List ℕ) (skip : Bool) (to : ℕ) (p : Passed) : Type 0 where
   pub stop : p .stop ≡ cond skip (needs to) 0
   pub over : p .stop ≡ 0 → p .over ≡ cond skip (instructionAt rom to .bytes) 0
   pub pc : p .stop ≡ 0 → p .pc ≡ past (p .over) to
+  pub held : (p .stop ≡ 0 → ⊥) → p ≡ heldPass (p .stop)

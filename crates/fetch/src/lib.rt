@@ -3,11 +3,11 @@
 use tables::InstructionTable;
 use upd546::LAST_ADDRESS;
 ghost use mathlib.Core.Path.{_≡_};
-ghost use Prim.Native.Nat.{_<_};
+ghost use Prim.Native.Nat.{_<_, _≤_};
 ghost use lib.ListN.{length};
-ghost use Rattle.upd546.specs.TheMachine.{romLength, byteAt};
+ghost use Rattle.upd546.specs.TheMachine.{romLength, byteAt, past};
 ghost use Rattle.tables.specs.Tables.{instructionTable};
-ghost use Rattle.fetch.specs.Fetching.{FetchedAs, PassedAs};
+ghost use Rattle.fetch.specs.Fetching.{heldFetch, FetchedAs, PassedAs};
 
 // The instruction at an address: its code and second byte (0: it has none), the address after it, its base cycles; or `stop`,
 // the number why it can't be begun (22 or 23; 0: it can).
@@ -26,8 +26,19 @@ pub struct Passed {
     pub over: u8,
 }
 
-// The byte at an address.
+// The byte at an address, 0 where there is none.
 pub fn byte_at(rom: &[u8], a: u16) -> u8
+    ensures { λ r. ⌜ r ≡ byteAt (now (rom .entry)) a ⌝ }
+{
+    let i = a as usize;
+    if i < rom.len() {
+        return rom[i];
+    }
+    0
+}
+
+// The byte at an address that the ROM has.
+fn byte_in(rom: &[u8], a: u16) -> u8
     requires { ⌜ (length (now rom) ≡ romLength) × (a < romLength) ⌝ }
     ensures { λ r. ⌜ r ≡ byteAt (now (rom .entry)) a ⌝ }
 {
@@ -35,8 +46,20 @@ pub fn byte_at(rom: &[u8], a: u16) -> u8
     rom[i]
 }
 
+// The address one or two bytes on.
+fn past_bytes(bytes: u8, a: u16) -> u16
+    requires { ⌜ (1 ≤ bytes) × (bytes ≤ 2) ⌝ }
+    ensures { λ r. ⌜ r ≡ past bytes a ⌝ }
+{
+    let next = steps::follows(a);
+    if bytes == 1 {
+        return next;
+    }
+    steps::follows(next)
+}
+
 fn stopped(stop: u8) -> Fetched
-    ensures { λ r. ⌜ r .stop ≡ stop ⌝ }
+    ensures { λ r. ⌜ r ≡ heldFetch stop ⌝ }
 {
     Fetched {
         stop,
@@ -54,7 +77,7 @@ pub fn fetch_at(rom: &[u8], table: &InstructionTable, pc: u16) -> Fetched
     if LAST_ADDRESS < pc {
         return stopped(22);
     }
-    let code = byte_at(rom, pc);
+    let code = byte_in(rom, pc);
     let size = tables::size_of(table, code);
     if size.cycles == 0 {
         return stopped(23);
@@ -75,7 +98,7 @@ pub fn fetch_at(rom: &[u8], table: &InstructionTable, pc: u16) -> Fetched
     Fetched {
         stop: 0,
         code,
-        second: byte_at(rom, next),
+        second: byte_in(rom, next),
         after: steps::follows(next),
         cycles: size.cycles,
     }
@@ -100,10 +123,10 @@ pub fn pass_over(rom: &[u8], table: &InstructionTable, skip: bool, to: u16) -> P
             over: 0,
         };
     }
-    let size = tables::size_of(table, byte_at(rom, to));
+    let size = tables::size_of(table, byte_in(rom, to));
     Passed {
         stop: 0,
-        pc: steps::past_bytes(size.bytes, to),
+        pc: past_bytes(size.bytes, to),
         over: size.bytes,
     }
 }

@@ -41,16 +41,17 @@ fn run_accepted(
     sched: &[u8],
     s: State,
     log: &mut [u8],
-    n: u64,
+    n: MachineCycles,
     skips: bool,
 ) -> RunAnswer
-    requires { ⌜ runNumber upd546 (now rom) (now sched) s n ≡ 0 ⌝ }
-    ensures { λ r. ⌜ answerOf r (now (log .exit)) ≡ runBy skips (now (rom .entry)) (now (sched .entry)) s (now (log .entry)) n ⌝ }
+    requires { ⌜ runNumber upd546 (now rom) (now sched) s (n .0) ≡ 0 ⌝ }
+    ensures { λ r. ⌜ answerOf r (now (log .exit)) ≡ runBy skips (now (rom .entry)) (now (sched .entry)) s (now (log .entry)) (n .0) ⌝ }
 {
     let table = tables::instruction_table();
     let positions = tables::position_table();
     let registers = tables::register_table();
-    let first = schedule::start(sched, s.cycle.0);
+    let cycle = s.cycle;
+    let first = schedule::start(sched, cycle);
     turns::run_loop(
         rom,
         sched,
@@ -60,7 +61,7 @@ fn run_accepted(
         s,
         first,
         log,
-        n,
+        n.0,
         skips,
     )
 }
@@ -88,7 +89,7 @@ fn run(
             steps: 0,
         };
     }
-    run_accepted(rom, sched, s, log, n.0, skips)
+    run_accepted(rom, sched, s, log, n, skips)
 }
 
 // THE PLAIN RUNNER.

@@ -1,10 +1,7 @@
 // What a run, a save and a restore answer, for any machine: counts, ends and their numbers, and in specs/ the two runners.
 // It may not know the chip: instructions, timer, lines and the image's layout stand behind the record `Machine`.
 ghost use mathlib.Core.Path.{_≡_};
-ghost use Prim.Native.Nat.{_≤_};
-ghost use Rattle.runs.specs.Refusals.{cycleLimit};
 ghost use Rattle.runs.specs.Numbers.{stopNumber, refusalNumber, endNumber, outcomeNumber};
-ghost use Rattle.runs.specs.Reports.{clocksOf};
 
 // A count of machine cycles.
 pub struct MachineCycles(pub u64);
@@ -45,14 +42,6 @@ pub enum RunEnd {
 pub enum Outcome {
     Done,
     Refused(Refusal),
-}
-
-// The one conversion between the two counts. No run counts past the cycle limit.
-pub fn clocks(m: MachineCycles) -> ClockCycles
-    requires { ⌜ m .0 ≤ cycleLimit ⌝ }
-    ensures { λ r. ⌜ r ≡ clocksOf m ⌝ }
-{
-    ClockCycles(4 * m.0)
 }
 
 pub fn stop_number(s: Stop) -> u8

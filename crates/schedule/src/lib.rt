@@ -1,5 +1,6 @@
 // The line schedule in code: which number refuses it, and a cursor that goes with a run and holds the lines of its cycle.
 // It may not know the chip's instructions, nor how a run goes.
+use runs::MachineCycles;
 use runs::Outcome;
 use runs::Refusal;
 use upd546::CYCLE_BYTES;
@@ -149,11 +150,11 @@ fn lines_after(sched: &[u8], i: usize) -> Lines
 }
 
 // The cursor at cycle n, found from the first record on.
-pub fn start(sched: &[u8], n: u64) -> Cursor
+pub fn start(sched: &[u8], n: MachineCycles) -> Cursor
     requires { ⌜ scheduleNumber (now sched) ≡ 0 ⌝ }
-    ensures { λ r. ⌜ Stands (now (sched .entry)) n r ⌝ }
+    ensures { λ r. ⌜ Stands (now (sched .entry)) (n .0) r ⌝ }
 {
-    let index = records_until(sched, n);
+    let index = records_until(sched, n.0);
     let next = next_at(sched, index);
     let lines = lines_after(sched, index);
     Cursor { index, next, lines }
@@ -161,12 +162,12 @@ pub fn start(sched: &[u8], n: u64) -> Cursor
 
 // The cursor one cycle on. Cycles rise, so at most one record falls on it.
 // Structs are made field by field, so that the optimiser keeps the fields apart.
-pub fn moved(sched: &[u8], cursor: Cursor, n: u64) -> Cursor
-    requires { ⌜ (scheduleNumber (now sched) ≡ 0) × Stands (now sched) n cursor × (n < cycleLimit) ⌝ }
-    ensures { λ r. ⌜ Stands (now (sched .entry)) (n + 1) r ⌝ }
+pub fn moved(sched: &[u8], cursor: Cursor, n: MachineCycles) -> Cursor
+    requires { ⌜ (scheduleNumber (now sched) ≡ 0) × Stands (now sched) (n .0) cursor × (n .0 < cycleLimit) ⌝ }
+    ensures { λ r. ⌜ Stands (now (sched .entry)) (n .0 + 1) r ⌝ }
 {
     let index = cursor.index;
-    if n + 1 < cursor.next {
+    if n.0 + 1 < cursor.next {
         return Cursor {
             index: index,
             next: cursor.next,

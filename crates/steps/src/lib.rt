@@ -8,8 +8,7 @@ use upd546::MARK_OTHER;
 use upd546::MARK_STM;
 use upd546::Timer;
 ghost use mathlib.Core.Path.{_≡_};
-ghost use Prim.Native.Nat.{_<_, _≤_};
-ghost use Rattle.upd546.specs.TheMachine.{follows as followsOf, past};
+ghost use Rattle.upd546.specs.TheMachine.{follows as followsOf};
 ghost use Rattle.upd546.specs.Timer.{stepRegister, tick as tickOf};
 ghost use Rattle.upd546.specs.OneMachineCycle.{accepts as acceptsOf, accepted as acceptedOf, taken as takenOf, paid as paidOf, ticked as tickedOf};
 
@@ -23,28 +22,14 @@ pub fn follows(a: u16) -> u16
     a / 256 * 256 + (a % 256 + 1) % 256
 }
 
-// The address one or two bytes on.
-pub fn past_bytes(bytes: u8, a: u16) -> u16
-    requires { ⌜ (1 ≤ bytes) × (bytes ≤ 2) ⌝ }
-    ensures { λ r. ⌜ r ≡ past bytes a ⌝ }
-{
-    let next = follows(a);
-    if bytes == 1 {
-        return next;
-    }
-    follows(next)
-}
-
 // The polynomial register's next value.
 fn step_register(r: u8) -> u8
-    requires { ⌜ r < 64 ⌝ }
     ensures { λ x. ⌜ x ≡ stepRegister r ⌝ }
 {
-    2 * r % 64 + (r / 32 + r / 16) % 2
+    2 * (r % 32) + (r / 32 + r / 16) % 2
 }
 
 fn tick(t: Timer) -> Timer
-    requires { ⌜ t .register < 64 ⌝ }
     ensures { λ r. ⌜ r ≡ tickOf t ⌝ }
 {
     if t.register == 0 {
@@ -78,7 +63,6 @@ fn tick(t: Timer) -> Timer
 
 // Step d: unless the mark is STM, a running timer steps.
 pub fn ticked(c: Core) -> Core
-    requires { ⌜ c .timer .register < 64 ⌝ }
     ensures { λ r. ⌜ r ≡ tickedOf c ⌝ }
 {
     if c.mark == MARK_STM {
@@ -104,11 +88,13 @@ pub fn taken(l: Lines, c: Core) -> Core
     d
 }
 
-// An owed cycle.
+// An owed cycle. Where none is owed, none is paid.
 pub fn paid(c: Core) -> Core
-    requires { ⌜ 0 < c .owed ⌝ }
     ensures { λ r. ⌜ r ≡ paidOf c ⌝ }
 {
+    if c.owed == 0 {
+        return c;
+    }
     let mut d = c;
     d.owed = c.owed - 1;
     d

@@ -2,6 +2,7 @@
 // the loop the core is a local and RAM, latches, log and tables are lent.
 // It may not know what a cycle does, only that it answers what its definition says, nor where a jump is taken, nor what refuses a run.
 use cycle::one_cycle;
+use runs::ClockCycles;
 use runs::MachineCycles;
 use runs::RunEnd;
 use runs::Stop;
@@ -20,7 +21,7 @@ ghost use mathlib.Core.Path.{_≡_};
 ghost use Prim.Native.Nat.{_-_, _*_, _≤_};
 ghost use Rattle.runs.specs.Numbers.{stopNumber};
 ghost use Rattle.runs.specs.Refusals.{cycleLimit};
-ghost use Rattle.runs.specs.Reports.{clocksPerCycle};
+ghost use Rattle.runs.specs.Reports.{clocksPerCycle, clocksOf};
 ghost use Rattle.upd546.specs.TwoRunners.{answerOf};
 ghost use Rattle.cycle.specs.Answer.{stateOf};
 ghost use Rattle.jump.specs.Boundary.{Boundary};
@@ -50,6 +51,14 @@ fn state_of(core: Core, ram: [u8; RAM_WORDS], ports: [u8; LATCHES], n: u64) -> S
     }
 }
 
+// The one conversion between the two counts. No run counts past the cycle limit.
+fn clocks(m: MachineCycles) -> ClockCycles
+    requires { ⌜ m .0 ≤ cycleLimit ⌝ }
+    ensures { λ r. ⌜ r ≡ clocksOf m ⌝ }
+{
+    ClockCycles(4 * m.0)
+}
+
 // What a run answers that did so many cycles.
 fn answer(
     end: RunEnd,
@@ -66,7 +75,7 @@ fn answer(
         end,
         state,
         cycles: MachineCycles(done),
-        clocks: runs::clocks(MachineCycles(done)),
+        clocks: clocks(MachineCycles(done)),
         begun,
         written,
         steps: done - spared,
@@ -181,7 +190,7 @@ pub fn run_loop(
             at = at + o.bytes;
             begun = begun + o.begun;
         }
-        cursor = schedule::moved(sched, cursor, number + (span - 1));
+        cursor = schedule::moved(sched, cursor, MachineCycles(number + (span - 1)));
         done = done + span;
     }
     answer(

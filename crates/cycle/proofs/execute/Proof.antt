@@ -3,7 +3,7 @@ use mathlib.Core.Path.{_∙_, sym}
 use native.Mathlib.Omega.{arith}
 use denote.Ref.{now}
 use Rattle.cycle.specs.Answer.{stateOf}
-use Rattle.cycle.proofs.Executing.{Doing, does-due, holds-fetch, writes-valid, register-small, cycles-some, holds-skip, holds-room, owed-small, goes}
+use Rattle.cycle.proofs.Executing.{Doing, does-due, holds-fetch, writes-valid, cycles-some, holds-skip, holds-room, owed-small, goes}
 use borrow.Author.Needs.{needs}
 use Rattle.cycle.proofs.execute.Statement.{statement}
 use Rattle.cycle.proofs.execute.Tie as tie
@@ -101,9 +101,7 @@ add-finished c =
     omega (arith, owed-small (doing (at-pass-over .before)) (at-pass-over .pass-over .ensures) (at-if2 .if2 .left))
 
 finished-requires : tie.Need-finished-requires
-finished-requires c κs =
-    let at-effect-of = c .before .before .before .before .before .before .before .before .before .before .before .before .before .before .before in
-    register-small (doing at-effect-of)
+finished-requires c κs = search needs
 
 same-length : tie.Need-same-length
 same-length c = search needs

@@ -11,7 +11,7 @@ copy-core-requires : tie.Need-copy-core-requires
 copy-core-requires c κs = search needs
 
 ticked-requires : tie.Need-ticked-requires
-ticked-requires c κs = rw (c .before .copy-core .ensures) (c .before .before .pre)
+ticked-requires c κs = search needs
 
 returns : tie.Need-returns
 returns c =

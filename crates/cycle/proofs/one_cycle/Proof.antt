@@ -1,12 +1,11 @@
 -- Acceptance, an owed cycle, an instruction. Assumes nothing.
 use mathlib.Core.Path.{_∙_, sym, ap}
-use native.Mathlib.Omega.{arith}
 use denote.Ref.{now}
 use Rattle.upd546.specs.declared.Core.{Core}
 use Rattle.upd546.specs.OneMachineCycle.{accepted, taken, paid, ticked, execute}
-use Rattle.laws.proofs.Cycle.{taken-keeps, accepted-keeps, paid-keeps}
+use Rattle.laws.proofs.Cycle.{taken-keeps}
 use Rattle.cycle.specs.Answer.{stateOf, cycleAnswer}
-use Rattle.cycle.proofs.Cycling.{taken-owed, answers-accepted, answers-owed, answers-due}
+use Rattle.cycle.proofs.Cycling.{answers-accepted, answers-owed, answers-due}
 use borrow.Author.Needs.{needs}
 use Rattle.cycle.proofs.one_cycle.Statement.{statement}
 use Rattle.cycle.proofs.one_cycle.Tie as tie
@@ -21,13 +20,7 @@ taken-requires : tie.Need-taken-requires
 taken-requires c κs = search needs
 
 ticked-requires : tie.Need-ticked-requires
-ticked-requires c κs =
-    let at-accepted = c .before in
-    let at-entry = at-accepted .before .before .before .before .before in
-    let a = at-entry .args in
-    let v = at-entry .pre in
-    rw (c .taken .ensures, at-accepted .accepted .ensures)
-    (taken-keeps (a .lines) (accepted (a .c)) (v .lines) (accepted-keeps (a .c) (v .valid .core)) .scalars .register)
+ticked-requires c κs = search needs
 
 returns : tie.Need-returns
 returns c =
@@ -46,18 +39,10 @@ taken-requires-2 : tie.Need-taken-requires-2
 taken-requires-2 c κs = search needs
 
 paid-requires : tie.Need-paid-requires
-paid-requires c κs =
-    let h = c .if2 .taken in
-    rw (c .before .before .taken2 .ensures, taken-owed) (omega arith)
+paid-requires c κs = search needs
 
 ticked-requires-2 : tie.Need-ticked-requires-2
-ticked-requires-2 c κs =
-    let at-taken2 = c .before .before .before in
-    let at-entry = at-taken2 .before .before .before .before .before in
-    let a = at-entry .args in
-    let v = at-entry .pre in
-    rw (c .paid .ensures, at-taken2 .taken2 .ensures)
-    (paid-keeps (taken (a .lines) (a .c)) (taken-keeps (a .lines) (a .c) (v .lines) (v .valid .core)) .scalars .register)
+ticked-requires-2 c κs = search needs
 
 returns-2 : tie.Need-returns-2
 returns-2 c =

@@ -17,8 +17,8 @@ returns c =
     let at-entry = at-if1 .before .before in
     stops-past (now (at-entry .args .rom)) (at-entry .args .pc) (c .stopped .result) (at-if1 .if1 .taken) (c .stopped .ensures)
 
-byte-at-requires : tie.Need-byte-at-requires
-byte-at-requires c κs = search needs
+byte-in-requires : tie.Need-byte-in-requires
+byte-in-requires c κs = search needs
 
 size-of-requires : tie.Need-size-of-requires
 size-of-requires c κs = search needs
@@ -30,10 +30,10 @@ returns-2 : tie.Need-returns-2
 returns-2 c =
     let at-if2 = c .before in
     let at-size-of = at-if2 .before .before in
-    let at-byte-at = at-size-of .before in
-    let at-if1 = at-byte-at .before in
+    let at-byte-in = at-size-of .before in
+    let at-if1 = at-byte-in .before in
     let at-entry = at-if1 .before .before in
-    let s = size-at (now (at-entry .args .rom)) (at-entry .args .pc) (at-byte-at .byte-at .ensures)
+    let s = size-at (now (at-entry .args .rom)) (at-entry .args .pc) (at-byte-in .byte-in .ensures)
     (at-size-of .size-of .ensures) in
     stops-none (now (at-entry .args .rom)) (at-entry .args .pc) (c .stopped2 .result) (at-if1 .if1 .left)
     (sym (s .1) ∙ at-if2 .if2 .taken) (c .stopped2 .ensures)
@@ -46,13 +46,13 @@ returns-3 c =
     let at-follows = c .before .before in
     let at-if2 = at-follows .before in
     let at-size-of = at-if2 .before .before in
-    let at-byte-at = at-size-of .before in
-    let at-if1 = at-byte-at .before in
+    let at-byte-in = at-size-of .before in
+    let at-if1 = at-byte-in .before in
     let at-entry = at-if1 .before .before in
-    let s = size-at (now (at-entry .args .rom)) (at-entry .args .pc) (at-byte-at .byte-at .ensures)
+    let s = size-at (now (at-entry .args .rom)) (at-entry .args .pc) (at-byte-in .byte-in .ensures)
     (at-size-of .size-of .ensures) in
     begins-one (now (at-entry .args .rom)) (at-entry .args .pc) _ (at-if1 .if1 .left) (omega (arith, s .1, at-if2 .if2 .left))
-    (sym (s .0) ∙ c .if3 .taken) refl (at-byte-at .byte-at .ensures) refl (at-follows .follows .ensures) (s .1)
+    (sym (s .0) ∙ c .if3 .taken) refl (at-byte-in .byte-in .ensures) refl (at-follows .follows .ensures) (s .1)
 
 stopped-requires-3 : tie.Need-stopped-requires-3
 stopped-requires-3 c κs = search needs
@@ -64,40 +64,40 @@ returns-4 c =
     let at-follows = at-if3 .before .before in
     let at-if2 = at-follows .before in
     let at-size-of = at-if2 .before .before in
-    let at-byte-at = at-size-of .before in
-    let at-if1 = at-byte-at .before in
+    let at-byte-in = at-size-of .before in
+    let at-if1 = at-byte-in .before in
     let at-entry = at-if1 .before .before in
-    let s = size-at (now (at-entry .args .rom)) (at-entry .args .pc) (at-byte-at .byte-at .ensures)
+    let s = size-at (now (at-entry .args .rom)) (at-entry .args .pc) (at-byte-in .byte-in .ensures)
     (at-size-of .size-of .ensures) in
     stops-second (now (at-entry .args .rom)) (at-entry .args .pc) (c .stopped3 .result) (at-if1 .if1 .left)
     (omega (arith, s .1, at-if2 .if2 .left))
     (omega (arith, s .0, bytes-at (now (at-entry .args .rom)) (at-entry .args .pc), at-if3 .if3 .left))
     (rw (at-follows .follows .ensures) at (at-if4 .if4 .taken)) (c .stopped3 .ensures)
 
-byte-at-requires-2 : tie.Need-byte-at-requires-2
-byte-at-requires-2 c κs = search needs
+byte-in-requires-2 : tie.Need-byte-in-requires-2
+byte-in-requires-2 c κs = search needs
 
 follows-requires-2 : tie.Need-follows-requires-2
 follows-requires-2 c κs = search needs
 
 returns-5 : tie.Need-returns-5
 returns-5 c =
-    let at-byte-at2 = c .before in
-    let at-if4 = at-byte-at2 .before in
+    let at-byte-in2 = c .before in
+    let at-if4 = at-byte-in2 .before in
     let at-if3 = at-if4 .before in
     let at-follows = at-if3 .before .before in
     let at-if2 = at-follows .before in
     let at-size-of = at-if2 .before .before in
-    let at-byte-at = at-size-of .before in
-    let at-if1 = at-byte-at .before in
+    let at-byte-in = at-size-of .before in
+    let at-if1 = at-byte-in .before in
     let at-entry = at-if1 .before .before in
-    let s = size-at (now (at-entry .args .rom)) (at-entry .args .pc) (at-byte-at .byte-at .ensures)
+    let s = size-at (now (at-entry .args .rom)) (at-entry .args .pc) (at-byte-in .byte-in .ensures)
     (at-size-of .size-of .ensures) in
     let f = at-follows .follows .ensures in
     begins-two (now (at-entry .args .rom)) (at-entry .args .pc) _ (at-if1 .if1 .left) (omega (arith, s .1, at-if2 .if2 .left))
     (omega (arith, s .0, bytes-at (now (at-entry .args .rom)) (at-entry .args .pc), at-if3 .if3 .left))
-    (rw f at (at-if4 .if4 .left)) refl (at-byte-at .byte-at .ensures)
-    (at-byte-at2 .byte-at2 .ensures ∙ ap (byteAt (now (at-entry .args .rom))) f) (c .follows2 .ensures ∙ ap follows f) (s .1)
+    (rw f at (at-if4 .if4 .left)) refl (at-byte-in .byte-in .ensures)
+    (at-byte-in2 .byte-in2 .ensures ∙ ap (byteAt (now (at-entry .args .rom))) f) (c .follows2 .ensures ∙ ap follows f) (s .1)
 
 pub fetch-at-spec : {M : Type 1} → statement M
 fetch-at-spec =
@@ -105,7 +105,7 @@ fetch-at-spec =
     (tie.spec
     stopped-requires
     returns
-    byte-at-requires
+    byte-in-requires
     size-of-requires
     stopped-requires-2
     returns-2
@@ -113,6 +113,6 @@ fetch-at-spec =
     returns-3
     stopped-requires-3
     returns-4
-    byte-at-requires-2
+    byte-in-requires-2
     follows-requires-2
     returns-5)

@@ -20,27 +20,27 @@ returns-2 c =
     rw (not-false (at-entry .args .skip) (at-if1 .if1 .left))
     (passes-past (now (at-entry .args .rom)) (at-entry .args .to) _ (c .if2 .taken) refl)
 
-byte-at-requires : tie.Need-byte-at-requires
-byte-at-requires c κs = search needs
+byte-in-requires : tie.Need-byte-in-requires
+byte-in-requires c κs = search needs
 
 size-of-requires : tie.Need-size-of-requires
 size-of-requires c κs = search needs
 
 past-bytes-requires : tie.Need-past-bytes-requires
 past-bytes-requires c κs =
-    let at-byte-at = c .before in
-    let at-entry = at-byte-at .before .before .before .before in
-    let s = size-at (now (at-entry .args .rom)) (at-entry .args .to) (at-byte-at .byte-at .ensures) (c .size-of .ensures) in
+    let at-byte-in = c .before in
+    let at-entry = at-byte-in .before .before .before .before in
+    let s = size-at (now (at-entry .args .rom)) (at-entry .args .to) (at-byte-in .byte-in .ensures) (c .size-of .ensures) in
     rw (s .0) (bytes-at (now (at-entry .args .rom)) (at-entry .args .to))
 
 returns-3 : tie.Need-returns-3
 returns-3 c =
     let at-size-of = c .before in
-    let at-byte-at = at-size-of .before in
-    let at-if2 = at-byte-at .before in
+    let at-byte-in = at-size-of .before in
+    let at-if2 = at-byte-in .before in
     let at-if1 = at-if2 .before in
     let at-entry = at-if1 .before .before in
-    let s = size-at (now (at-entry .args .rom)) (at-entry .args .to) (at-byte-at .byte-at .ensures)
+    let s = size-at (now (at-entry .args .rom)) (at-entry .args .to) (at-byte-in .byte-in .ensures)
     (at-size-of .size-of .ensures) in
     rw (not-false (at-entry .args .skip) (at-if1 .if1 .left))
     (passes-one (now (at-entry .args .rom)) (at-entry .args .to) _ (at-if2 .if2 .left) refl (s .0) (c .past-bytes .ensures))
@@ -48,4 +48,4 @@ returns-3 c =
 pub pass-over-spec : {M : Type 1} → statement M
 pass-over-spec =
     tie.close
-    (tie.spec returns returns-2 byte-at-requires size-of-requires past-bytes-requires returns-3)
+    (tie.spec returns returns-2 byte-in-requires size-of-requires past-bytes-requires returns-3)

@@ -18,7 +18,7 @@ lines-after-requires c κs = search needs
 returns : tie.Need-returns
 returns c =
     let a = c .before .before .before .before .args in
-    stands (now (a .sched)) (c .before .before .before .before .pre) (a .n) _ (omega arith) (c .before .before .records-until .ensures) (c .before .next-at .ensures) (c .lines-after .ensures)
+    stands (now (a .sched)) (c .before .before .before .before .pre) (a .n .0) _ (omega arith) (c .before .before .records-until .ensures) (c .before .next-at .ensures) (c .lines-after .ensures)
 
 pub start-spec : {M : Type 1} → statement M
 start-spec =

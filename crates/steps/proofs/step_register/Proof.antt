@@ -1,4 +1,4 @@
--- The register's next value, computed for all 64. Assumes nothing.
+-- The register's next value, computed for all 256. Assumes nothing.
 use Prim.Native.Nat.{_+_, _*_, _/_, _%_}
 use lib.Dec.{eqb, eqb→eq}
 use Rattle.upd546.specs.Timer.{stepRegister}
@@ -18,7 +18,7 @@ add-result-2 c = search needs
 
 returns : tie.Need-returns
 unfolding stepRegister
-returns c = eqb→eq _ _ (every-at (λ r. eqb (2 * r % 64 + (r / 32 + r / 16) % 2) (stepRegister r)) 64 tt (c .args .r) (c .pre))
+returns c = eqb→eq _ _ (every-at (λ r. eqb (2 * (r % 32) + (r / 32 + r / 16) % 2) (stepRegister r)) 256 tt (c .args .r) (search needs))
 
 pub step-register-spec : {M : Type 1} → statement M
 step-register-spec = tie.close (tie.spec mul-result add-result add-result-2 returns)

@@ -161,11 +161,11 @@ add-begun-2 c =
     let h = at-one-cycle .before .before .before .before .before .before .before .before .loop .inv in
     omega (arith, counts (cycled at-one-cycle) (at-if2 .if2 .left), limit h, h .few, h .not-past)
 
-sub-moved : tie.Need-sub-moved Inv-loop μ-loop
-sub-moved c = omega (arith, forward (c .before) .some-cycles)
+sub-t27 : tie.Need-sub-t27 Inv-loop μ-loop
+sub-t27 c = omega (arith, forward (c .before) .some-cycles)
 
-add-moved : tie.Need-add-moved Inv-loop μ-loop
-add-moved c =
+add-t40 : tie.Need-add-t40 Inv-loop μ-loop
+add-t40 c =
     let h = c .before .before .before .before .loop .inv in
     let f = forward (c .before) in
     omega (arith, limit h, h .not-past, f .some-cycles, f .within-run)
@@ -238,8 +238,8 @@ run-loop-spec =
     returns
     add-at
     add-begun-2
-    sub-moved
-    add-moved
+    sub-t27
+    add-t40
     moved-requires
     add-done
     loop-less

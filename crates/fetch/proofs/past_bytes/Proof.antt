@@ -3,8 +3,8 @@ use mathlib.Core.Path.{_≡_, _∙_, ap}
 use native.Mathlib.Omega.{arith}
 use Rattle.upd546.specs.TheMachine.{follows as followsOf, past}
 use borrow.Author.Needs.{needs}
-use Rattle.steps.proofs.past_bytes.Statement.{statement}
-use Rattle.steps.proofs.past_bytes.Tie as tie
+use Rattle.fetch.proofs.past_bytes.Statement.{statement}
+use Rattle.fetch.proofs.past_bytes.Tie as tie
 
 follows-requires : tie.Need-follows-requires
 follows-requires c κs = search needs
