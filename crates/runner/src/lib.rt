@@ -41,11 +41,11 @@ fn run_accepted(
     sched: &[u8],
     s: State,
     log: &mut [u8],
-    n: MachineCycles,
+    n: u64,
     skips: bool,
 ) -> RunAnswer
-    requires { ⌜ runNumber upd546 (now rom) (now sched) s (n .0) ≡ 0 ⌝ }
-    ensures { λ r. ⌜ answerOf r (now (log .exit)) ≡ runBy skips (now (rom .entry)) (now (sched .entry)) s (now (log .entry)) (n .0) ⌝ }
+    requires { ⌜ runNumber upd546 (now rom) (now sched) s n ≡ 0 ⌝ }
+    ensures { λ r. ⌜ answerOf r (now (log .exit)) ≡ runBy skips (now (rom .entry)) (now (sched .entry)) s (now (log .entry)) n ⌝ }
 {
     let table = tables::instruction_table();
     let positions = tables::position_table();
@@ -61,7 +61,7 @@ fn run_accepted(
         s,
         first,
         log,
-        n.0,
+        n,
         skips,
     )
 }
@@ -89,7 +89,7 @@ fn run(
             steps: 0,
         };
     }
-    run_accepted(rom, sched, s, log, n, skips)
+    run_accepted(rom, sched, s, log, n.0, skips)
 }
 
 // THE PLAIN RUNNER.
