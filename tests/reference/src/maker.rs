@@ -5,15 +5,25 @@ use std::path::Path;
 use std::process::ExitCode;
 use std::{env, fs, io};
 
-/// What a program makes: standard input and output of its crate, and what is wrong with them.
+/// What a program makes: standard input and output of its crate, what is wrong with them, and the
+/// inputs of a program as it was built, one for each name, or none.
 pub struct Made {
     pub stdin: Vec<u8>,
     pub stdout: String,
     pub faults: Vec<String>,
+    pub files: Vec<File>,
+}
+
+/// An input, and the text that has to be printed of it.
+pub struct File {
+    pub input: Vec<u8>,
+    pub text: String,
 }
 
 /// `PROGRAM FOLDER` writes FOLDER/stdin and FOLDER/stdout and fails where there is a fault;
-/// `PROGRAM list` prints the names; `PROGRAM show K` tells all of what has the place K among them.
+/// `PROGRAM files FOLDER` writes the input and the text of each place K to `FOLDER/K NAME.input` and
+/// `FOLDER/K NAME.text`, and fails likewise; `PROGRAM list` prints the names; `PROGRAM show K` tells
+/// all of what has the place K among them.
 pub fn make(
     program: &str,
     names: Vec<String>,
@@ -31,10 +41,15 @@ pub fn make(
             print(format!("{place} {}\n\n{}", names[place], show(place)));
             true
         }),
-        [folder] if folder != "show" => {
+        [word, folder] if word == "files" => {
+            write_files(folder, &names, &made()).map_err(|error| format!("{folder}: {error}"))
+        }
+        [folder] if folder != "show" && folder != "files" => {
             write(folder, &made()).map_err(|error| format!("{folder}: {error}"))
         }
-        _ => Err(String::from("FOLDER, list or show K is wanted")),
+        _ => Err(String::from(
+            "FOLDER, files FOLDER, list or show K is wanted",
+        )),
     };
     match done {
         Ok(true) => ExitCode::SUCCESS,
@@ -61,13 +76,30 @@ fn place_of(word: &str, count: usize) -> Result<usize, String> {
     }
 }
 
-fn write(folder: &str, made: &Made) -> io::Result<bool> {
+/// Whether there is no fault.
+fn sound(made: &Made) -> bool {
     for fault in &made.faults {
         println!("fault: {fault}");
     }
+    made.faults.is_empty()
+}
+
+fn write(folder: &str, made: &Made) -> io::Result<bool> {
     fs::write(Path::new(folder).join("stdin"), &made.stdin)?;
     fs::write(Path::new(folder).join("stdout"), &made.stdout)?;
-    Ok(made.faults.is_empty())
+    Ok(sound(made))
+}
+
+fn write_files(folder: &str, names: &[String], made: &Made) -> io::Result<bool> {
+    if made.files.len() != names.len() {
+        return Err(io::Error::other("there are no files to write"));
+    }
+    for (place, (name, file)) in names.iter().zip(&made.files).enumerate() {
+        let path = Path::new(folder).join(format!("{place} {name}"));
+        fs::write(format!("{}.input", path.display()), &file.input)?;
+        fs::write(format!("{}.text", path.display()), &file.text)?;
+    }
+    Ok(sound(made))
 }
 
 #[cfg(test)]

@@ -196,6 +196,7 @@ fn made(cases: &[Case]) -> Made {
         stdin,
         stdout: outcome.text,
         faults: outcome.faults,
+        files: Vec::new(),
     }
 }
 

@@ -240,6 +240,7 @@ fn made(panels: &[Panel]) -> Made {
         stdin,
         stdout: text_of(panels),
         faults: faults(panels),
+        files: Vec::new(),
     }
 }
 

@@ -454,6 +454,7 @@ fn made(groups: &[Group]) -> Made {
         stdin,
         stdout,
         faults,
+        files: Vec::new(),
     }
 }
 

@@ -20,7 +20,8 @@ const ROM: usize = 2_000;
 /// OCD, LI, OE and a code that is no instruction: document 01's example.
 const EXAMPLE: [u8; 5] = [0x1E, 0xA5, 0x93, 0x44, 0x1C];
 
-pub fn all() -> Vec<Input> {
+/// Those of the stored file.
+pub fn stored() -> Vec<Input> {
     let mut inputs = short();
     inputs.extend(schedule_lengths());
     inputs.extend(records());
@@ -32,9 +33,53 @@ pub fn all() -> Vec<Input> {
     inputs
 }
 
-/// The panels of samples/; tests/compare holds the texts that stand beside them.
-fn samples() -> Vec<Input> {
+/// Those that the built program alone is given, for their length: schedules of 40 KB and more, some
+/// of them longer than its buffer of 65,536 bytes. The records rise, and no two neighbours are alike.
+pub fn long() -> Vec<Input> {
+    let records: Vec<u8> = (0..20_000)
+        .flat_map(|k| record(k, 37 * k as u8, 0, 1))
+        .collect();
+    // IA, OE and JCP 000: line A of every fifth cycle, the last record's among them.
+    let of = |name: &str, schedule: &[u8], last| {
+        input(name, 5_000, &[(0, &[0x40, 0x44, 0xC0])], schedule, last)
+    };
+    let of_length = |length: usize, last| {
+        let name = format!("a schedule of {length} bytes that rises");
+        of(&name, &records[..length], last)
+    };
+    let mut damaged = records[..40_960].to_vec();
+    damaged[40_959] = 1;
+    vec![
+        of_length(40_950, "end 5000 3000 0"),
+        of_length(40_959, "refused 11"),
+        of_length(40_960, "end 5000 3000 0"),
+        of(
+            "a full schedule with a last byte of 1",
+            &damaged,
+            "refused 13",
+        ),
+        of_length(40_961, "refused 12"),
+        of_length(40_970, "refused 12"),
+        of_length(60_000, "refused 12"),
+        of_length(63_531, "refused 12"),
+        of_length(63_532, "refused 12"),
+        of_length(63_533, "refused 12"),
+        of_length(200_000, "refused 12"),
+        sample("long", "refused 12"),
+    ]
+}
+
+/// A panel of samples/; tests/compare holds the text that stands beside it.
+fn sample(name: &str, last: &'static str) -> Input {
     let folder = Path::new(env!("CARGO_MANIFEST_DIR")).join("../../samples");
+    Input {
+        name: format!("sample {name}"),
+        bytes: fs::read(folder.join(format!("{name}.panel"))).expect("the panel is there"),
+        last,
+    }
+}
+
+fn samples() -> Vec<Input> {
     [
         ("lamp", "end 200 131 0"),
         ("call", "end 100 92 0"),
@@ -44,14 +89,7 @@ fn samples() -> Vec<Input> {
         ("level", "refused 13"),
         ("torn", "refused 11"),
     ]
-    .map(|(name, last)| {
-        let bytes = fs::read(folder.join(format!("{name}.panel"))).expect("the panel is there");
-        Input {
-            name: format!("sample {name}"),
-            bytes,
-            last,
-        }
-    })
+    .map(|(name, last)| sample(name, last))
     .into()
 }
 

@@ -1,13 +1,15 @@
-//! The inputs of program `trace` that `traces` tries: makes the file of them, and their texts.
+//! The inputs of program `trace` that are tried: makes the file of crate test_traces, or a file for
+//! each, and their texts.
 //!
-//! `traces FOLDER` writes FOLDER/stdin and FOLDER/stdout. `traces list` names the inputs. `traces
-//! show K` tells all of the run of input K.
+//! `traces FOLDER` writes FOLDER/stdin and FOLDER/stdout. `traces files FOLDER` writes two files for
+//! each input K, `K NAME.input` and `K NAME.text`: what the built program is given, and has to print.
+//! `traces list` names the inputs. `traces show K` tells all of the run of input K.
 //!
 //! # The file
 //!
 //! Two bytes say how many inputs there are. Each has its length, 4 bytes, how many of its bytes
 //! follow, 2 bytes, and those; the rest of it is zeros. Numbers are big-endian. An input has at most
-//! 65,536 bytes.
+//! 65,536 bytes. The long inputs, which come last, are not among them.
 //!
 //! # The text
 //!
@@ -20,7 +22,7 @@ use std::process::ExitCode;
 
 use inputs::Input;
 use reference::lent::Lent;
-use reference::maker::{make, Made};
+use reference::maker::{make, File, Made};
 use reference::trace;
 
 /// The longest input that a reader takes.
@@ -41,33 +43,50 @@ fn file_of(inputs: &[Input]) -> Vec<u8> {
     file
 }
 
-/// The text, and what is wrong with the inputs: each has to end as it says.
-fn traced(inputs: &[Input]) -> (String, Vec<String>) {
+/// The text of the file's inputs.
+fn text_of(inputs: &[Input], texts: &[String]) -> String {
     let mut text = String::new();
-    let mut wrong = Vec::new();
-    for (place, input) in inputs.iter().enumerate() {
-        let own = trace(&input.bytes);
-        let last = own.lines().last().unwrap_or_default();
-        if last != input.last {
-            wrong.push(format!("{}: {last}", input.name));
-        }
+    for (place, (input, own)) in inputs.iter().zip(texts).enumerate() {
         text.push_str(&format!(
             "input {place} of {} bytes\n{own}",
             input.bytes.len()
         ));
     }
     text.push_str(&format!("{} inputs\n", inputs.len()));
-    (text, wrong)
+    text
 }
 
-fn made(inputs: &[Input]) -> Made {
-    let stdin = file_of(inputs);
-    let (stdout, faults) = traced(inputs);
-    println!("{} inputs, {} bytes", inputs.len(), stdin.len());
+/// Each input has to end as it says, and each number that can end a trace has to be there.
+fn faults(inputs: &[Input], texts: &[String]) -> Vec<String> {
+    let mut faults = Vec::new();
+    for (input, text) in inputs.iter().zip(texts) {
+        let last = text.lines().last().unwrap_or_default();
+        if last != input.last {
+            faults.push(format!("{}: {last}", input.name));
+        }
+    }
+    for number in ["0", "3", "11", "12", "13", "14", "21", "22", "23"] {
+        let ends = |input: &Input| input.last.split(' ').last() == Some(number);
+        if !inputs.iter().any(ends) {
+            faults.push(format!("no input ends with {number}"));
+        }
+    }
+    faults
+}
+
+fn made(stored: usize, inputs: &[Input]) -> Made {
+    let texts: Vec<String> = inputs.iter().map(|input| trace(&input.bytes)).collect();
+    let stdin = file_of(&inputs[..stored]);
+    println!("{stored} inputs, {} bytes", stdin.len());
+    let files = inputs.iter().zip(&texts).map(|(input, text)| File {
+        input: input.bytes.clone(),
+        text: text.clone(),
+    });
     Made {
         stdin,
-        stdout,
-        faults,
+        stdout: text_of(&inputs[..stored], &texts),
+        faults: faults(inputs, &texts),
+        files: files.collect(),
     }
 }
 
@@ -79,8 +98,10 @@ fn show(input: &Input) -> String {
 }
 
 fn main() -> ExitCode {
-    let inputs = inputs::all();
+    let mut inputs = inputs::stored();
+    let stored = inputs.len();
+    inputs.extend(inputs::long());
     let names = inputs.iter().map(|input| input.name.clone()).collect();
     let show = |place: usize| show(&inputs[place]);
-    make("traces", names, show, || made(&inputs))
+    make("traces", names, show, || made(stored, &inputs))
 }
