@@ -96,7 +96,7 @@ module _ {S : Type 0} where
   onStride r none q = record { ran = then r (q .ran); steps = suc (q .steps) }
   onStride r (some k) q = record { ran = r; steps = 0 }
 
--- "jumps j cycles in one step where ..; Otherwise it steps one cycle."
+-- "jumps j cycles in one step where: .. Otherwise it steps one cycle."
 abbrev pub strideOf : ℕ → ℕ
 strideOf zero = 1
 strideOf (suc j) = suc j

@@ -97,7 +97,7 @@ packed (a ∷ b ∷ ws) = (16 * a + b) ∷ packed ws
 abbrev pub coreBytes : Core → List ℕ
 coreBytes c = dpOf c ∷ c .registers .acc ∷ flagsByte c ∷ c .mark ∷ c .owed ∷ c .timer .register ∷ c .timer .counter ∷ []
 
--- The image of a state. "5-6 PC; 7-12 stack, newest first; 13 to 19 ..; 20-26 ports C to I; 27-74 RAM ..; 75-80 cycle. Big-endian."
+-- The image of a state. "5-6 PC; 7-12 stack, newest first; 13 DP; .. 20-26 ports C to I; 27-74 RAM ..; 75-80 cycle. Big-endian."
 unfoldable pub imageOf : State → List ℕ
 imageOf s =
     imageMark

@@ -9,7 +9,7 @@ const LENGTH: usize = 81;
 const MARK: [u8; 3] = *b"U43";
 const VERSION: [u8; 2] = [0, 1];
 
-/// Writes the image of a state. "Save 34, 1 and then writes 81 bytes only"; a refused save writes
+/// Writes the image of a state. "save 34, 1 and then writes 81 bytes only"; a refused save writes
 /// nothing.
 pub fn save(state: &State, buffer: &mut [u8]) -> u8 {
     if !state.is_valid() {
@@ -37,7 +37,7 @@ pub fn save(state: &State, buffer: &mut [u8]) -> u8 {
     buffer[18] = state.register;
     buffer[19] = state.counter;
     buffer[20..27].copy_from_slice(&state.ports);
-    // "Even column in the high half".
+    // "even column in the high half"
     for (place, pair) in buffer[27..75].iter_mut().zip(state.ram.chunks_exact(2)) {
         *place = pair[0] << 4 | pair[1];
     }
@@ -45,7 +45,8 @@ pub fn save(state: &State, buffer: &mut [u8]) -> u8 {
     FINISHED
 }
 
-/// Reads an image. "Restore 31 to 34"; "a refused restore answers the fresh state".
+/// Reads an image: "restore 31 to 34"; "a refused run answers the state given, a refused restore the
+/// fresh state".
 pub fn restore(bytes: &[u8]) -> (u8, State) {
     match decode(bytes) {
         Ok(state) => (FINISHED, state),

@@ -295,21 +295,21 @@ fn add_with_carry(s: &mut State) {
     s.carry = sum >> 4;
 }
 
-/// "Inc DPL" skips if DPL becomes 0.
+/// "inc DPL": skips if DPL becomes 0.
 #[inline]
 fn inc_dpl(s: &mut State) -> bool {
     s.dpl = (s.dpl + 1) & 15;
     s.dpl == 0
 }
 
-/// "Dec DPL" skips if DPL becomes 15.
+/// "dec DPL": skips if DPL becomes 15.
 #[inline]
 fn dec_dpl(s: &mut State) -> bool {
     s.dpl = (s.dpl + 15) & 15;
     s.dpl == 15
 }
 
-/// "Swap Acc, M".
+/// "swap Acc, M"
 #[inline]
 fn swap_m(s: &mut State) {
     let m = s.m();
@@ -317,7 +317,7 @@ fn swap_m(s: &mut State) {
     s.acc = m;
 }
 
-/// "A 3-bit DPH is stored with bit 3 clear, and takes the low 3 bits".
+/// "a 3-bit DPH is stored with bit 3 clear, and takes the low 3 bits"
 #[inline]
 fn swap_dph(s: &mut State, word: usize) {
     let stored = s.ram[word];

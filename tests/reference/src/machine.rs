@@ -12,7 +12,7 @@ pub(crate) const LAST_CYCLE: u64 = (1 << 48) - 1;
 /// Where the interrupt leads: "PC becomes 03C".
 const INTERRUPT: u16 = 0x03C;
 
-/// The RAM array's columns of row 7: "word 79 is the flag word; Z, W, S, R, Y, X are 7A to 7F".
+/// The RAM array's columns of row 7: "Word 79 is the flag word; Z, W, S, R, Y, X are 7A to 7F".
 pub(crate) const FLAG: usize = 0x59;
 pub(crate) const Z: usize = 0x5A;
 pub(crate) const W: usize = 0x5B;
@@ -125,7 +125,7 @@ impl State {
         self.stack = [address, self.stack[0], self.stack[1]];
     }
 
-    /// "A pop shifts up and the lowest keeps its value".
+    /// "a pop shifts up and the lowest keeps its value"
     #[inline]
     pub(crate) fn pop(&mut self) -> u16 {
         let newest = self.stack[0];
@@ -150,7 +150,7 @@ impl State {
         }
     }
 
-    /// Whether step a accepts the interrupt: "if owed is 0, INTE and INT are 1 and the mark isn't
+    /// Whether step a accepts the interrupt: "If owed is 0, INTE and INT are 1 and the mark isn't
     /// EI".
     #[inline]
     pub(crate) fn accepts(&self) -> bool {
@@ -167,7 +167,7 @@ impl State {
         self.mark = OTHER;
     }
 
-    /// Step b: "a fall of INT sets the INT flip-flop".
+    /// Step b: "A fall of INT sets the INT flip-flop".
     #[inline]
     pub(crate) fn see(&mut self, line: u8) {
         if self.level > line {
@@ -177,7 +177,7 @@ impl State {
     }
 }
 
-/// The address after this one: "only the low 8 bits count up, so 0FF is followed by 000".
+/// The address after this one: "Only the low 8 bits count up, so 0FF is followed by 000".
 #[inline]
 pub(crate) fn following(address: u16) -> u16 {
     (address & 0x700) | ((address + 1) & 0x0FF)

@@ -240,7 +240,7 @@ impl<O: Observer> Run<'_, O> {
         Ok(())
     }
 
-    /// "One instruction has all its effects and owed becomes its cycles less 1." A stop leaves
+    /// "one instruction has all its effects and owed becomes its cycles less 1." A stop leaves
     /// everything as it was: "22, 23 and 3, in that order but 23 before a second byte".
     #[inline(always)]
     fn instruction(&mut self) -> Result<(), u8> {
@@ -282,8 +282,8 @@ impl<O: Observer> Run<'_, O> {
         Ok(())
     }
 
-    /// "A skip passes over one instruction and costs its bytes in further cycles; only its first
-    /// byte is read." That byte lies in the ROM.
+    /// "A skip passes over one instruction and costs its bytes (1 or 2) in further cycles; only its
+    /// first byte is read." That byte lies in the ROM.
     fn skip(&mut self) {
         let code = self.rom[usize::from(self.state.pc)];
         let bytes = FORMS[usize::from(code)].bytes;
@@ -326,7 +326,7 @@ impl<O: Observer> Run<'_, O> {
         if self.schedule.lines().int != state.level {
             return 0;
         }
-        // "The largest even number at most r and the cycles left, with no schedule record in the
+        // "the largest even number at most r and the cycles left, with no schedule record in the
         // j - 1 cycles after the present one".
         let no_record = self.schedule.next() - state.cycle;
         state.ticks_left().min(left).min(no_record) & !1

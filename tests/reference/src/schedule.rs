@@ -66,7 +66,7 @@ pub(crate) fn lines_of(record: &[u8]) -> Lines {
 
 /// A place in a schedule without faults; it only moves forward.
 pub(crate) struct Cursor<'a> {
-    /// "The last record at or before n; with none, ports 0 and INT high".
+    /// "those of the last record at or before n; with none, ports 0 and INT high"
     lines: Lines,
     /// The cycle of the record after it; with none, a cycle that is never reached.
     next: u64,

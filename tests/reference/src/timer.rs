@@ -5,7 +5,7 @@ use crate::machine::State;
 /// The register's cycle: "it is 1 again after 63 steps".
 const PERIOD: usize = 63;
 
-/// "The register steps to twice itself modulo 64, plus 1 if bits 5 and 4 differ".
+/// "The 6-bit polynomial register steps to twice itself modulo 64, plus 1 if bits 5 and 4 differ"
 const fn next_register(register: u8) -> u8 {
     ((register << 1) & 63) | (((register >> 5) ^ (register >> 4)) & 1)
 }
@@ -48,7 +48,7 @@ impl State {
     }
 
     /// One step of a running timer. "When a step returns to 1: counter 0 sets TM and stops the
-    /// timer, else it falls by 1."
+    /// timer (one shot: house), else it falls by 1."
     #[inline]
     pub(crate) fn step_timer(&mut self) {
         self.register = next_register(self.register);

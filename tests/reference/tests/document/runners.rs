@@ -337,7 +337,7 @@ fn every_list_of_slices_ends_as_one_unbroken_run() {
             } else {
                 Runner::Skipping
             };
-            // "A log of at least 8n + 8 bytes": `go` lends just that.
+            // "a log of at least 8n + 8 bytes": `go` lends just that.
             let longest = [2, 5, 30, 300][draw.below(4) as usize];
             let n = draw.below(longest);
             let (answer, records) = go(runner, &rom, &schedule, &state, n);

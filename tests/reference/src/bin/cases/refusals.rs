@@ -198,7 +198,7 @@ fn limits() -> Vec<Case> {
     ]
 }
 
-/// Calls that deserve several numbers: "a run checks 21, 12, 11, 13/14, 34, 2".
+/// Calls that deserve several numbers: "A run checks 21, 12, 11, 13/14, 34, 2".
 fn order() -> Vec<Case> {
     let bad = |name: &str, number: u8| {
         writes(name, number)
