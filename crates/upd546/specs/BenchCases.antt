@@ -4,17 +4,17 @@ use mathlib.Core.Bool.{Bool, true, _&&_}
 use mathlib.Core.List.{List, [], _∷_, _++_}
 use lib.ListN.{length, replicate}
 use Rattle.runs.specs.TwoRunners.{RunAnswer, unbroken, runNumber, skipping}
-use Rattle.runs.specs.Refusals.{cycleLimit}
 use Rattle.upd546.specs.declared.Core.{Core}
 use Rattle.upd546.specs.declared.State.{State}
-use Rattle.upd546.specs.TheMachine.{romLength, fresh, wordAt, withWord, wordX}
+use Rattle.upd546.specs.TheMachine.{fresh}
 use Rattle.upd546.specs.Parts.{setAcc, setCarry, setDph, setPc, setInt, setOwed}
 use Rattle.upd546.specs.StateImage.{imageOf, ofImage}
 use Rattle.upd546.specs.Sequences.{sameNumbers}
 use Rattle.upd546.specs.TwoRunners.{upd546}
-use Rattle.upd546.specs.Reports.{heading, newline, traceText}
+use Rattle.upd546.specs.Reports.{traceText}
 
--- A row: what the definitions give, and what the document says.
+-- A row: what the definitions give, and what the document says. What the document says stands in figures, and ROMs and states to
+-- start from do too, so that no definition is compared with itself.
 pub record Case : Type 0 where
   pub given : List ℕ
   pub wanted : List ℕ
@@ -26,17 +26,21 @@ abbrev pub allHold : List Case → Bool
 allHold [] = true
 allHold (k ∷ ks) = holds k && allHold ks
 
--- a ROM of the full length that has the bytes from an address on, else zeros
+-- a ROM of 2,000 bytes that has the bytes from an address on, else zeros
 abbrev pub romAt : ℕ → List ℕ → List ℕ
-romAt a bytes = replicate a 0 ++ bytes ++ replicate (romLength - (a + length bytes)) 0
+romAt a bytes = replicate a 0 ++ bytes ++ replicate (2000 - (a + length bytes)) 0
 
--- the fresh state with another core
+-- the fresh state, whose fields a row has in figures, with another core
 abbrev pub from : (Core → Core) → State
 from f = record { core = f (fresh .core); ports = fresh .ports; ram = fresh .ram; cycle = fresh .cycle }
 
--- and with a RAM word at an address
+-- a RAM of zeros but for the word at a place: rows 0 to 4 and 7 one after the other, 16 words each, so X, word 7F, is at 95
+abbrev pub ramWith : ℕ → ℕ → List ℕ
+ramWith place v = replicate place 0 ++ v ∷ replicate (95 - place) 0
+
+-- and with such a RAM
 abbrev pub fromWord : (Core → Core) → ℕ → ℕ → State
-fromWord f a v = record { core = f (fresh .core); ports = fresh .ports; ram = withWord (fresh .ram) a v; cycle = fresh .cycle }
+fromWord f place v = record { core = f (fresh .core); ports = fresh .ports; ram = ramWith place v; cycle = fresh .cycle }
 
 -- the state after n cycles of a ROM with no schedule
 abbrev pub stateAfter : ℕ → List ℕ → State → State
@@ -58,6 +62,21 @@ accOf s = s .core .registers .acc
 abbrev pub carryOf : State → ℕ
 carryOf s = s .core .registers .carry
 
+-- the fields of a state, one by one: a core has 17 numbers, then come 7 ports, 96 words and the cycle number
+abbrev pub coreNumbers : Core → List ℕ
+coreNumbers c =
+    c .registers .acc ∷ c .registers .carry ∷ c .registers .saved ∷ c .registers .dph ∷ c .registers .dpl
+    ∷ c .flow .pc ∷ c .flow .stack
+    ++ (c .interrupt .int ∷ c .interrupt .inte ∷ c .interrupt .level
+    ∷ c .timer .tm ∷ c .timer .register ∷ c .timer .counter ∷ c .mark ∷ c .owed ∷ [])
+
+abbrev pub stateNumbers : State → List ℕ
+stateNumbers s = coreNumbers (s .core) ++ s .ports ++ s .ram ++ (s .cycle .0 ∷ [])
+
+-- 81 bytes: zeros but for `U43`, version 1, the level in byte 15 and 2 cycles owed in byte 17
+abbrev pub owedImage : List ℕ
+owedImage = (0x55 ∷ 0x34 ∷ 0x33 ∷ 0 ∷ 1 ∷ []) ++ replicate 10 0 ++ (32 ∷ 0 ∷ 2 ∷ replicate 63 0)
+
 abbrev pub cases : List Case
 cases =
     -- P: STM 80 at cycle 0: TTM at 64 doesn't skip
@@ -77,11 +96,11 @@ cases =
     -- P: BF calls 03C
     ∷ record { given = see (λ t. pcOf t ∷ t .core .flow .stack) (stateAfter 1 (romAt 0 (0xBF ∷ [])) fresh); wanted = 0x03C ∷ 1 ∷ 0 ∷ 0 ∷ [] }
     -- P: DEM in row 5 skips, stores nothing
-    ∷ record { given = see (λ t. pcOf t ∷ t .ram) (stateAfter 1 (romAt 0 (0x1F ∷ [])) (from (setDph 5))); wanted = 2 ∷ fresh .ram }
+    ∷ record { given = see (λ t. pcOf t ∷ t .ram) (stateAfter 1 (romAt 0 (0x1F ∷ [])) (from (setDph 5))); wanted = 2 ∷ replicate 96 0 }
     -- P: XHX with DPH 5, X 9: DPH 1, X 5
     ∷ record {
-      given = see (λ t. t .core .registers .dph ∷ wordAt (t .ram) wordX ∷ []) (stateAfter 1 (romAt 0 (0x4F ∷ [])) (fromWord (setDph 5) wordX 9));
-      wanted = 1 ∷ 5 ∷ [];
+      given = see (λ t. t .core .registers .dph ∷ t .ram) (stateAfter 1 (romAt 0 (0x4F ∷ [])) (fromWord (setDph 5) 95 9));
+      wanted = 1 ∷ ramWith 95 5;
     }
     -- P: RAR of 1, C=0: Acc 0, C 1
     ∷ record { given = see (λ t. accOf t ∷ carryOf t ∷ []) (stateAfter 1 (romAt 0 (0x30 ∷ [])) (from (setAcc 1))); wanted = 0 ∷ 1 ∷ [] }
@@ -106,7 +125,7 @@ cases =
     }
     -- cycle limit reached exactly is taken, one more is 2
     ∷ record {
-      given = runNumber upd546 (romAt 0 []) [] fresh cycleLimit ∷ runNumber upd546 (romAt 0 []) [] fresh (cycleLimit + 1) ∷ [];
+      given = runNumber upd546 (romAt 0 []) [] fresh 281474976710655 ∷ runNumber upd546 (romAt 0 []) [] fresh 281474976710656 ∷ [];
       wanted = 0 ∷ 2 ∷ [];
     }
     -- misleading: AD setting C (9+8: Acc 1, C as it was, skip)
@@ -114,14 +133,18 @@ cases =
       given = see (λ t. accOf t ∷ carryOf t ∷ pcOf t ∷ []) (stateAfter 1 (romAt 0 (0x08 ∷ [])) (fromWord (setAcc 9) 0 8));
       wanted = 1 ∷ 0 ∷ 2 ∷ [];
     }
-    -- misleading: dropping owed cycles on save
-    ∷ record { given = ofImage (imageOf (from (setOwed 2))) .core .owed ∷ []; wanted = 2 ∷ [] }
+    -- misleading: dropping owed cycles on save. The image of the fresh state with 2 cycles owed: `U43`, version 1, byte 15 with the
+    -- level, byte 17 with the cycles owed
+    ∷ record { given = imageOf (from (setOwed 2)); wanted = owedImage }
+    -- and the state of these bytes
+    ∷ record { given = stateNumbers (ofImage owedImage); wanted = replicate 11 0 ++ (1 ∷ 0 ∷ 0 ∷ 0 ∷ 0 ∷ 2 ∷ replicate 104 0) }
+    -- "Fresh state: all zero, level high, mark other, timer stopped"
+    ∷ record { given = stateNumbers fresh; wanted = replicate 11 0 ++ (1 ∷ replicate 109 0) }
     -- What reports show: n = 10, ROM 1E A5 93 44 1C then zeros, no schedule; the five lines of the document, to the letter
     ∷ record {
       given = traceText (0 ∷ 0 ∷ 0 ∷ 10 ∷ romAt 0 (0x1E ∷ 0xA5 ∷ 0x93 ∷ 0x44 ∷ 0x1C ∷ []));
       wanted =
-          heading
-          ++ newline
+          (99 ∷ 121 ∷ 99 ∷ 108 ∷ 101 ∷ 32 ∷ 112 ∷ 111 ∷ 114 ∷ 116 ∷ 32 ∷ 118 ∷ 97 ∷ 108 ∷ 117 ∷ 101 ∷ 10 ∷ [])
           ++ (48 ∷ 32 ∷ 67 ∷ 32 ∷ 53 ∷ 10 ∷ [])
           ++ (48 ∷ 32 ∷ 68 ∷ 32 ∷ 65 ∷ 10 ∷ [])
           ++ (51 ∷ 32 ∷ 69 ∷ 32 ∷ 51 ∷ 10 ∷ [])
