@@ -3,7 +3,7 @@ use Prim.Native.Nat.{ℕ, _+_, _-_}
 use mathlib.Core.Bool.{Bool, true, _&&_}
 use mathlib.Core.List.{List, [], _∷_, _++_}
 use lib.ListN.{length, replicate}
-use Rattle.runs.specs.TwoRunners.{RunAnswer, unbroken, runNumber, skipping}
+use Rattle.runs.specs.TwoRunners.{End, finished, stopped, refused, RunAnswer, unbroken, runNumber, skipping}
 use Rattle.upd546.specs.declared.Core.{Core}
 use Rattle.upd546.specs.declared.State.{State}
 use Rattle.upd546.specs.TheMachine.{fresh}
@@ -72,6 +72,34 @@ coreNumbers c =
 
 abbrev pub stateNumbers : State → List ℕ
 stateNumbers s = coreNumbers (s .core) ++ s .ports ++ s .ram ++ (s .cycle .0 ∷ [])
+
+-- The waiting loop: what the timer-skipping runner answers for n cycles of a ROM with no schedule. Nothing is written, so the log
+-- has no byte.
+abbrev pub waits : ℕ → List ℕ → State → RunAnswer State
+waits n rom s = skipping upd546 rom [] s [] n
+
+-- the number of an end, 0 if the run finished
+abbrev pub numberOf : End → ℕ
+numberOf finished = 0
+numberOf (stopped k) = k
+numberOf (refused k) = k
+
+-- of its answer the number, cycles, instructions begun and steps, and of its state PC, mark, TM, register, counter, INT and INTE
+abbrev pub waited : RunAnswer State → List ℕ
+waited a =
+    let c = a .state .core in
+    numberOf (a .end)
+    ∷ a .cycles
+    ∷ a .begun
+    ∷ a .steps
+    ∷ c .flow .pc
+    ∷ c .mark
+    ∷ c .timer .tm
+    ∷ c .timer .register
+    ∷ c .timer .counter
+    ∷ c .interrupt .int
+    ∷ c .interrupt .inte
+    ∷ []
 
 -- 81 bytes: zeros but for `U43`, version 1, the level in byte 15 and 2 cycles owed in byte 17
 abbrev pub owedImage : List ℕ
@@ -157,5 +185,35 @@ cases =
           seeAnswer (λ a. pcOf (a .state) ∷ a .cycles ∷ a .clocks ∷ a .begun ∷ a .steps ∷ [])
           (skipping upd546 (romAt 0 (0x14 ∷ 0x80 ∷ 0x05 ∷ 0xC2 ∷ [])) [] fresh (replicate 552 0) 68);
       wanted = 4 ∷ 68 ∷ 272 ∷ 66 ∷ 7 ∷ [];
+    }
+    -- The mark plays no part in a jump, and is other after it. TTM directly after STM 81: a jump of 126 cycles begins with mark STM
+    ∷ record {
+      given = waited (waits 128 (romAt 0 (0x14 ∷ 0x81 ∷ 0x05 ∷ 0xC2 ∷ [])) fresh);
+      wanted = 0 ∷ 128 ∷ 127 ∷ 3 ∷ 0x002 ∷ 0 ∷ 1 ∷ 0 ∷ 0 ∷ 0 ∷ 0 ∷ [];
+    }
+    -- TTM directly after EI, which stands after STM 80: a jump of 62 cycles begins with mark EI
+    ∷ record {
+      given = waited (waits 65 (romAt 0 (0x14 ∷ 0x80 ∷ 0x31 ∷ 0x05 ∷ 0xC3 ∷ [])) fresh);
+      wanted = 0 ∷ 65 ∷ 64 ∷ 4 ∷ 0x003 ∷ 0 ∷ 1 ∷ 0 ∷ 0 ∷ 0 ∷ 1 ∷ [];
+    }
+    -- TTM directly after LDI, which stands after STM 80: a jump of 60 cycles begins with mark LDI, and one tick is left
+    ∷ record {
+      given = waited (waits 64 (romAt 0 (0x14 ∷ 0x80 ∷ 0x15 ∷ 0x25 ∷ 0x05 ∷ 0xC4 ∷ [])) fresh);
+      wanted = 0 ∷ 64 ∷ 62 ∷ 5 ∷ 0x004 ∷ 0 ∷ 0 ∷ 32 ∷ 0 ∷ 0 ∷ 0 ∷ [];
+    }
+    -- INT and INTE both 1 with mark EI: no jump, though no interrupt is taken yet; TTM is begun, and acceptance follows it
+    ∷ record {
+      given = waited (waits 5 (romAt 0 (0x14 ∷ 0x80 ∷ 0x31 ∷ 0x05 ∷ 0xC3 ∷ [])) (from (setInt 1)));
+      wanted = 0 ∷ 5 ∷ 3 ∷ 5 ∷ 0x03C ∷ 0 ∷ 0 ∷ 8 ∷ 0 ∷ 0 ∷ 0 ∷ [];
+    }
+    -- TTM at 03F: JCP FF at 040 leads to 07F and not back, so there is no jump
+    ∷ record {
+      given = waited (waits 4 (romAt 0x03D (0x14 ∷ 0x80 ∷ 0x05 ∷ 0xFF ∷ [])) (from (setPc 0x03D)));
+      wanted = 0 ∷ 4 ∷ 3 ∷ 4 ∷ 0x07F ∷ 0 ∷ 0 ∷ 4 ∷ 0 ∷ 0 ∷ 0 ∷ [];
+    }
+    -- TTM at 7CF: there is no next address, so no jump; 22 where a JCP would be due
+    ∷ record {
+      given = waited (waits 10 (romAt 0x7CD (0x14 ∷ 0x80 ∷ 0x05 ∷ [])) (from (setPc 0x7CD)));
+      wanted = 22 ∷ 3 ∷ 2 ∷ 3 ∷ 0x7D0 ∷ 0 ∷ 0 ∷ 2 ∷ 0 ∷ 0 ∷ 0 ∷ [];
     }
     ∷ []
