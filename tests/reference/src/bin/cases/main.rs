@@ -68,6 +68,7 @@ mod refusals;
 mod roms;
 mod starts;
 mod stops;
+mod waits;
 
 use std::process::ExitCode;
 
@@ -83,6 +84,7 @@ fn all_cases() -> Vec<Case> {
     let mut cases = codes::cases();
     cases.extend(bench::cases());
     cases.extend(edges::cases());
+    cases.extend(waits::cases());
     cases.extend(starts::cases());
     cases.extend(stops::cases());
     cases.extend(refusals::cases());

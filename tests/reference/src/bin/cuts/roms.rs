@@ -15,6 +15,7 @@ pub fn panels() -> Vec<Case> {
     panels.extend(stops());
     panels.extend(starts());
     panels.extend(any());
+    panels.extend(marked_waits());
     panels
 }
 
@@ -166,4 +167,34 @@ fn any() -> Vec<Case> {
                 .ends(0)
         })
         .collect()
+}
+
+/// Waits that are entered with mark STM, EI and LDI: TTM stands directly after these.
+fn marked_waits() -> Vec<Case> {
+    vec![
+        // STM at 0FE, so that TTM is at 000.
+        Case::new("waits after STM")
+            .rom(0x0FE, &[0x14, 0x81])
+            .rom(0, &[0x05, 0xC0, 0x0D, 0x00, 0x44, 0xA0, 0xFE])
+            .with(|state| state.pc = 0x0FE)
+            .made_schedule(400, 88, 90, 10)
+            .n(1_500)
+            .ends(0),
+        // Between DI and EI a second wait, in which INT falls: EI then holds the interrupt back.
+        Case::new("waits after EI")
+            .rom(0, &[0x14, 0x80, 0x31, 0x05, 0xC3, 0x01, 0x14, 0x80])
+            .rom(8, &[0x05, 0xC8, 0x0D, 0x00, 0xC0])
+            .rom(0x3C, &ANSWER)
+            .made_schedule(600, 89, 90, 0)
+            .n(2_500)
+            .ends(0),
+        // The second LDI of two is a NOP that keeps the mark.
+        Case::new("waits after LDI")
+            .rom(0, &[0x14, 0x80, 0x15, 0x25, 0x05, 0xC4, 0x1D, 0x00])
+            .rom(8, &[0x14, 0x80, 0x15, 0x31, 0x15, 0x47, 0x05, 0xCE])
+            .rom(16, &[0x1D, 0x00, 0x44, 0xC0])
+            .made_schedule(300, 90, 120, 50)
+            .n(2_000)
+            .ends(0),
+    ]
 }

@@ -214,6 +214,47 @@ fn a_run_ends_with_a_jump_from_mark_stm() {
     assert!(panels().iter().any(ends));
 }
 
+/// Whether the timer-skipping runner jumps from a state of a panel.
+fn jumps(lent: &Lent, state: &State) -> bool {
+    let Lent { rom, schedule } = lent;
+    let answer = run(Runner::Skipping, rom, schedule, state, &mut lent_log(2), 2);
+    (answer.cycles, answer.steps) == (2, 1)
+}
+
+#[test]
+fn a_timer_skipping_slice_begins_with_a_jump_from_every_mark() {
+    let mut counts = [0; 4];
+    for panel in panels() {
+        let lent = Lent::of(&panel);
+        for (state, cut) in states(&panel).iter().zip(panel.cut_lists()) {
+            if cut[1].runner == Runner::Skipping && jumps(&lent, state) {
+                counts[usize::from(state.mark)] += 1;
+            }
+        }
+    }
+    assert!(counts.iter().all(|&count| count >= 5), "{counts:?}");
+}
+
+#[test]
+fn an_interrupt_after_ei_holds_back_a_jump() {
+    let mut count = 0;
+    for panel in panels() {
+        let lent = Lent::of(&panel);
+        for state in states(&panel) {
+            let without = State {
+                int: 0,
+                ..state.clone()
+            };
+            let held = (state.mark, state.int, state.inte) == (2, 1, 1);
+            if held && jumps(&lent, &without) {
+                assert!(!jumps(&lent, &state));
+                count += 1;
+            }
+        }
+    }
+    assert!(count >= 5, "{count} cuts");
+}
+
 #[test]
 fn lists_are_of_every_kind() {
     for panel in panels() {
