@@ -43,16 +43,16 @@ pub record Keeps (i : Instruction) : Type 0 where
   pub effect : (g : Given) → ValidGiven g → ValidEffect (i .effect g)
   pub records : (g : Given) → ValidGiven g → length (i .effect g .writes) ≤ i .cycles
 
-all-getD : {A : Type 0} (P : A → Type 0) {l : List A} (d : A) → All P l → P d → (n : ℕ) → P (getD l n d)
+pub all-getD : {A : Type 0} (P : A → Type 0) {l : List A} (d : A) → All P l → P d → (n : ℕ) → P (getD l n d)
 all-getD P d none e n = e
 all-getD P d (h ▹ a) e zero = h
 all-getD P d (h ▹ a) e (suc n) = all-getD P d a e n
 
-all-append : {A : Type 0} (P : A → Type 0) {l m : List A} → All P l → All P m → All P (l ++ m)
+pub all-append : {A : Type 0} (P : A → Type 0) {l m : List A} → All P l → All P m → All P (l ++ m)
 all-append P none b = b
 all-append P (h ▹ a) b = h ▹ all-append P a b
 
-all-replicate : {A : Type 0} (P : A → Type 0) (n : ℕ) {x : A} → P x → All P (replicate n x)
+pub all-replicate : {A : Type 0} (P : A → Type 0) (n : ℕ) {x : A} → P x → All P (replicate n x)
 all-replicate P zero h = none
 all-replicate P (suc n) h = h ▹ all-replicate P n h
 

@@ -11,5 +11,6 @@ pub mod Packing
 pub mod Tails
 pub mod Images
 pub mod Jump
+pub mod Interval
 pub mod Demand3
 pub mod Records
