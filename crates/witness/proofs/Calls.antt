@@ -1,0 +1,91 @@
+-- The figures of the list of calls, clause by clause from the theorem. Assumes nothing.
+use mathlib.Core.Path.{_≡_, _∙_, refl, ap, ap₂}
+use mathlib.Core.List.{List, [], _∷_, map}
+use mathlib.Core.Option.{none, some}
+use Prim.Native.Nat.{ℕ, _≤_}
+use native.Mathlib.Omega.{arith}
+use lib.Dec.{lit<, lit≤}
+use lib.ListN.{length, replicate}
+use Rattle.runs.specs.TwoRunners.{RunAnswer, stopped, logBound}
+use Rattle.runs.specs.Laws.{Panel}
+use Rattle.runs.specs.Lists.{Call, Each, refusal, documentNumber, WrittenBy, Lent, Meant, runs, StopsHave, RefusedByNumbers, EndsAsOneRun}
+use Rattle.upd546.specs.declared.State.{State}
+use Rattle.upd546.specs.TheMachine.{fresh}
+use Rattle.upd546.specs.StateImage.{stateNumber}
+use Rattle.upd546.specs.TwoRunners.{upd546}
+use Rattle.laws.proofs.Lists.{below-all}
+use Rattle.laws.proofs.Demand3.{every-list}
+use Rattle.witness.specs.Calls.{rom, cut, kept, calls, carriedOut, ListFigures}
+use Rattle.witness.proofs.Opened.{opened}
+
+panel : Panel upd546 rom []
+unfolding opened
+panel = record { rom-bytes = below-all 256 rom (lit< tt) refl; sched-bytes = λ i. lit< tt; not-refused = refl }
+
+pub sound : stateNumber fresh ≡ 0
+unfolding opened
+sound = refl
+
+-- a run on the panel, from the state held
+lent : (held : State) (log : List ℕ) (n : ℕ) → logBound n ≤ length log → Lent upd546 rom [] held rom [] held log n
+lent held log n room = record { same-rom = refl; same-sched = refl; same-state = refl; room = room }
+
+meant : Meant upd546 rom [] fresh calls
+unfolding opened
+meant =
+    let written : WrittenBy upd546 cut kept = record { buffer = replicate 90 9; done = refl; same = refl } in
+    (lent _ _ _ (lit≤ tt), (refl, (written, (lent _ _ _ (lit≤ tt), (lent _ _ _ (lit≤ tt), tt)))))
+
+-- DEMAND 3, of this list
+one-run : EndsAsOneRun upd546 rom [] fresh calls
+one-run = every-list rom [] fresh calls panel sound meant
+
+-- a stop is no finish
+a-stop : (k : ℕ) → some k ≡ none → ⊥
+a-stop k e = let z : _≡_ {A = ℕ} 0 1 = cc in omega arith
+
+-- stops that have the number of the unbroken run, which is 23
+all-23 : (l : List (RunAnswer State)) → StopsHave (some 23) l → Each (λ a. (k : ℕ) → a .end ≡ stopped k → k ≡ 23) l
+all-23 [] h = tt
+all-23 (a ∷ l) h = (λ k e. let same = h .0 k e in cc, all-23 l (h .1))
+
+-- the numbers of a list are the documents'
+by-numbers : (l : List (Call State)) → RefusedByNumbers upd546 l → map (refusal upd546) l ≡ map (documentNumber upd546) l
+by-numbers [] h = refl
+by-numbers (c ∷ l) h = ap₂ (λ (k : ℕ) (ks : List ℕ). k ∷ ks) (h .0) (by-numbers l (h .1))
+
+pub figures : ListFigures
+unfolding opened
+figures = record {
+  pc = ap (λ (s : State). s .core .flow .pc) (one-run .ends .state);
+  cycle = ap (λ (s : State). s .cycle .0) (one-run .ends .state);
+  image = one-run .ends .image (replicate 82 9);
+  counts = record { log = one-run .ends .log; cycles = one-run .ends .cycles; begun = one-run .ends .begun; clocks = one-run .ends .clocks };
+  not-all-finish = λ all. a-stop 23 (one-run .ends .finish .0 all);
+  each-stop = all-23 (runs upd546 carriedOut) (one-run .ends .stops);
+  call = λ kind.
+      let one = one-run .call (lit≤ tt) kind (replicate 96 0) (lit≤ tt) in
+      record {
+        end = one .end;
+        pc = ap (λ (s : State). s .core .flow .pc) (one .state);
+        written = one .written;
+        log = one .log;
+        cycles = one .cycles;
+        begun = one .begun;
+        clocks = one .clocks;
+      };
+  with-refused = record {
+    log = one-run .nothing .log ∙ one-run .ends .log;
+    cycles = one-run .nothing .cycles ∙ one-run .ends .cycles;
+    begun = one-run .nothing .begun ∙ one-run .ends .begun;
+    clocks = one-run .nothing .clocks ∙ one-run .ends .clocks;
+  };
+  by-21 = one-run .unchanged .0;
+  by-11 = one-run .unchanged .1 .1 .0;
+  by-1 = one-run .unchanged .1 .1 .1 .0;
+  by-31 = one-run .unchanged .1 .1 .1 .1 .1 .0;
+  numbers = by-numbers calls (one-run .refusals);
+  next-run = λ kind log. one-run .goes-on .next-run kind log 281474976710644 (lit≤ tt);
+  next-save = one-run .goes-on .next-save (replicate 81 0) (lit≤ tt);
+  next-restore = one-run .goes-on .next-restore;
+}

@@ -1,0 +1,6 @@
+pub mod Opened
+pub mod Calls
+pub mod Slices
+pub mod Images
+pub mod Records
+pub mod Day

@@ -1,0 +1,5 @@
+pub mod Calls
+pub mod Slices
+pub mod Images
+pub mod Records
+pub mod Day
