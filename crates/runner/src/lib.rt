@@ -50,8 +50,7 @@ fn run_accepted(
     let table = tables::instruction_table();
     let positions = tables::position_table();
     let registers = tables::register_table();
-    let cycle = s.cycle;
-    let first = schedule::start(sched, cycle);
+    let first = schedule::start(sched, s.cycle);
     turns::run_loop(
         rom,
         sched,

@@ -16,7 +16,7 @@ register-table-requires c κs = search needs
 
 start-requires : tie.Need-start-requires
 start-requires c κs =
-    let at-entry = c .before .before .before .before .before .before .before in
+    let at-entry = c .before .before .before .before .before .before in
     run-taken (now (at-entry .args .rom)) (now (at-entry .args .sched)) (at-entry .args .s) (at-entry .args .n) (at-entry .pre) .schedule
 
 run-loop-requires : tie.Need-run-loop-requires
