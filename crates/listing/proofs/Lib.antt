@@ -1,5 +1,4 @@
 pub mod Writing
-pub mod Digits
 pub mod Records
 pub mod Texts
 pub mod Inputs

@@ -17,10 +17,9 @@ use Rattle.upd546.specs.TheMachine.{romLength, fresh}
 use Rattle.upd546.specs.Bytes.{numberAt}
 use Rattle.upd546.specs.TwoRunners.{upd546, answerOf}
 use Rattle.upd546.specs.Reports.{refusedText, reportText, onEnd, traceLog, traceText, runText}
-use Rattle.io.specs.Counts.{Counts}
-use Rattle.listing.specs.Writing.{Appended}
+use Rattle.text.specs.Writing.{Appended}
 use Rattle.listing.specs.Texts.{Traced}
-use Rattle.listing.proofs.Writing.{front, kept-length}
+use Rattle.text.proofs.Writing.{counted}
 
 -- HOW A RUN ENDED
 
@@ -57,11 +56,6 @@ module _ (input : List ℕ) where
   long-text h p q r s = rw (p, q, r, s, le-ltb (length input) (4 + romLength) h)
 
 -- A TEXT AT THE FRONT OF A BUFFER
-
-counted : {b b₁ w : List ℕ} {r : ℕ} → Appended b 0 w b₁ r → Counts r b₁
-counted {b} {b₁} {w} {r} p =
-    let whole : length (take r b₁) ≡ length w = ap length (front p) in
-    (omega (arith, kept-length p, p .fits), omega (arith, whole, p .ends))
 
 pub traced : {input b b₁ : List ℕ} {r : ℕ} → Appended b 0 (traceText input) b₁ r → Traced input b b₁ r
 traced p = record { counts = counted p; size = omega (arith, p .ends); text = p .stands }

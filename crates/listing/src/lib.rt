@@ -15,8 +15,9 @@ ghost use Rattle.runs.specs.TwoRunners.{plain};
 ghost use Rattle.upd546.specs.TheMachine.{fresh};
 ghost use Rattle.upd546.specs.Ports.{portI, logRecordLength};
 ghost use Rattle.upd546.specs.TwoRunners.{upd546, answerOf};
-ghost use Rattle.upd546.specs.Reports.{decimal, portLetter, hexDigit, recordText, recordsText, refusedText, reportText, onEnd, traceLog, runText};
-ghost use Rattle.listing.specs.Writing.{Appended, numberLength, lineLength, refusedLength, endLength, textLength, endLine};
+ghost use Rattle.upd546.specs.Reports.{portLetter, hexDigit, recordText, recordsText, reportText, onEnd, traceLog, runText};
+ghost use Rattle.text.specs.Writing.{Appended};
+ghost use Rattle.listing.specs.Writing.{lineLength, endLength, textLength, endLine};
 ghost use Rattle.listing.specs.Records.{Legible, Recorded};
 ghost use Rattle.listing.specs.Texts.{Reportable, Traced};
 
@@ -29,37 +30,8 @@ const SCHEDULE_AT: usize = COUNT_LENGTH + ROM_LENGTH;
 // "a log of 16,384 bytes"
 const LOG_LENGTH: usize = 16384;
 
-// A number of 64 bits has at most 20 digits.
-const DIGITS: usize = 20;
-
 // Every text fits this many bytes; `textLength` is the same number.
 pub const TEXT_LENGTH: usize = 65536;
-
-// Copies bytes to a place of the text, and answers the place behind them.
-fn put(out: &mut [u8], at: usize, bytes: &[u8]) -> usize
-    requires { ⌜ at + length (now bytes) ≤ length (now out) ⌝ }
-    ensures { λ r. ⌜ Appended (now (out .entry)) at (now (bytes .entry)) (now (out .exit)) r ⌝ }
-{
-    bytes::copy(bytes, &mut out[at..]);
-    at + bytes.len()
-}
-
-fn put_byte(out: &mut [u8], at: usize, byte: u8) -> usize
-    requires { ⌜ at < length (now out) ⌝ }
-    ensures { λ r. ⌜ Appended (now (out .entry)) at (byte ∷ []) (now (out .exit)) r ⌝ }
-{
-    out[at] = byte;
-    at + 1
-}
-
-fn put_decimal(out: &mut [u8], at: usize, n: u64) -> usize
-    requires { ⌜ at + numberLength ≤ length (now out) ⌝ }
-    ensures { λ r. ⌜ Appended (now (out .entry)) at (decimal n) (now (out .exit)) r × (r ≤ at + numberLength) ⌝ }
-{
-    let mut digits = [0u8; DIGITS];
-    let k = io::decimal(n, &mut digits);
-    put(out, at, &digits[..k])
-}
 
 fn port_letter(port: u8) -> u8
     requires { ⌜ port ≤ portI ⌝ }
@@ -78,15 +50,6 @@ fn hex_digit(value: u8) -> u8
     b'A' + (value - 10)
 }
 
-// A number and one byte behind it.
-fn put_number(out: &mut [u8], at: usize, n: u64, after: u8) -> usize
-    requires { ⌜ at + numberLength + 1 ≤ length (now out) ⌝ }
-    ensures { λ r. ⌜ Appended (now (out .entry)) at (decimal n ++ (after ∷ [])) (now (out .exit)) r × (r ≤ at + numberLength + 1) ⌝ }
-{
-    let to = put_decimal(out, at, n);
-    put_byte(out, to, after)
-}
-
 // The line of record i of a log.
 fn put_line(out: &mut [u8], at: usize, log: &[u8], i: usize) -> usize
     requires { ⌜ (at + lineLength ≤ length (now out)) × (logRecordLength * (i + 1) ≤ length (now log)) × Legible (now log) (i + 1) ⌝ }
@@ -95,8 +58,8 @@ fn put_line(out: &mut [u8], at: usize, log: &[u8], i: usize) -> usize
     let from = LOG_RECORD * i;
     let letter = port_letter(log[from + 6]);
     let digit = hex_digit(log[from + 7]);
-    let to = put_number(out, at, big_endian::number_at(log, from, CYCLE_BYTES), b' ');
-    put(out, to, &[letter, b' ', digit, b'\n'])
+    let to = text::put_number(out, at, big_endian::number_at(log, from, CYCLE_BYTES), b' ');
+    text::put(out, to, &[letter, b' ', digit, b'\n'])
 }
 
 // The lines of the first records of a log.
@@ -113,24 +76,15 @@ fn put_lines(out: &mut [u8], at: usize, log: &[u8], count: usize) -> usize
     to
 }
 
-// "A refusal prints only `refused` and the number."
-fn put_refused(out: &mut [u8], number: u8) -> usize
-    requires { ⌜ refusedLength ≤ length (now out) ⌝ }
-    ensures { λ r. ⌜ Appended (now (out .entry)) 0 (refusedText number) (now (out .exit)) r ⌝ }
-{
-    let to = put(out, 0, b"refused ");
-    put_number(out, to, number as u64, b'\n')
-}
-
 // "then cycles, instructions, stop (0 if finished)"
 fn put_end(out: &mut [u8], at: usize, cycles: MachineCycles, begun: u64, number: u8) -> usize
     requires { ⌜ at + endLength ≤ length (now out) ⌝ }
     ensures { λ r. ⌜ Appended (now (out .entry)) at (endLine (cycles .0) begun number) (now (out .exit)) r ⌝ }
 {
-    let words = put(out, at, b"end ");
-    let counted = put_number(out, words, cycles.0, b' ');
-    let told = put_number(out, counted, begun, b' ');
-    put_number(out, told, number as u64, b'\n')
+    let words = text::put(out, at, b"end ");
+    let counted = text::put_number(out, words, cycles.0, b' ');
+    let told = text::put_number(out, counted, begun, b' ');
+    text::put_number(out, told, number as u64, b'\n')
 }
 
 // The text of a run that isn't refused.
@@ -138,7 +92,7 @@ fn put_report(out: &mut [u8], answer: RunAnswer, log: &[u8], number: u8) -> usiz
     requires { ⌜ Reportable answer (now log) (now out) ⌝ }
     ensures { λ r. ⌜ Appended (now (out .entry)) 0 (reportText (answerOf answer (now (log .entry))) number) (now (out .exit)) r ⌝ }
 {
-    let headed = put(out, 0, b"cycle port value\n");
+    let headed = text::put(out, 0, b"cycle port value\n");
     let listed = put_lines(out, headed, log, answer.written / LOG_RECORD);
     let cycles = answer.cycles;
     put_end(out, listed, cycles, answer.begun, number)
@@ -153,7 +107,7 @@ fn put_answer(out: &mut [u8], answer: RunAnswer, log: &[u8]) -> usize
     match end {
         RunEnd::Finished => put_report(out, answer, log, 0),
         RunEnd::Stopped(why) => put_report(out, answer, log, runs::stop_number(why)),
-        RunEnd::Refused(why) => put_refused(out, runs::refusal_number(why)),
+        RunEnd::Refused(why) => text::put_refused(out, runs::refusal_number(why)),
     }
 }
 
@@ -187,7 +141,7 @@ pub fn trace(input: &[u8], out: &mut [u8; TEXT_LENGTH]) -> usize
     ensures { λ r. ⌜ Traced (now (input .entry)) (now (out .entry)) (now (out .exit)) r ⌝ }
 {
     if input.len() < SCHEDULE_AT {
-        return put_refused(out, 21);
+        return text::put_refused(out, 21);
     }
     let n = MachineCycles(big_endian::number_at(input, 0, COUNT_LENGTH));
     let mut log = empty_log();

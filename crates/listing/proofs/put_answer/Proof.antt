@@ -1,6 +1,6 @@
 -- A finish, a stop and a refusal. Assumes nothing.
 use denote.Ref.{now}
-use Rattle.listing.proofs.Writing.{told}
+use Rattle.text.proofs.Writing.{told}
 use Rattle.listing.proofs.Texts.{finished-text, stopped-text, refused-text}
 use borrow.Author.Needs.{needs}
 use Rattle.listing.proofs.put_answer.Statement.{statement}

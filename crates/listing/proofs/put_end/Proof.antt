@@ -1,5 +1,6 @@
 -- The word, and three numbers behind it. Assumes nothing.
-use Rattle.listing.proofs.Writing.{told, then, end-same}
+use Rattle.text.proofs.Writing.{told, then}
+use Rattle.listing.proofs.Writing.{end-same}
 use borrow.Author.Needs.{needs}
 use Rattle.listing.proofs.put_end.Statement.{statement}
 use Rattle.listing.proofs.put_end.Tie as tie

@@ -1,7 +1,8 @@
 -- A record's cycle, and its letter and digit behind it. Assumes nothing.
 use native.Mathlib.Omega.{arith}
 use denote.Ref.{now}
-use Rattle.listing.proofs.Writing.{told, then, line-same}
+use Rattle.text.proofs.Writing.{told, then}
+use Rattle.listing.proofs.Writing.{line-same}
 use borrow.Author.Needs.{needs}
 use Rattle.listing.proofs.put_line.Statement.{statement}
 use Rattle.listing.proofs.put_line.Tie as tie

@@ -5,8 +5,9 @@ use native.Mathlib.Omega.{arith}
 use lib.ListN.{length}
 use denote.Ref.{now}
 use Rattle.upd546.specs.Reports.{recordsText}
-use Rattle.listing.specs.Writing.{Appended}
-use Rattle.listing.proofs.Writing.{none, no-lines, told, then, next-line}
+use Rattle.text.specs.Writing.{Appended}
+use Rattle.text.proofs.Writing.{none, told, then}
+use Rattle.listing.proofs.Writing.{no-lines, next-line}
 use Rattle.listing.proofs.put_lines.Statement.{statement}
 use Rattle.listing.proofs.put_lines.Tie as tie
 

@@ -1,5 +1,5 @@
 -- The heading, the lines and the end. Assumes nothing.
-use Rattle.listing.proofs.Writing.{then}
+use Rattle.text.proofs.Writing.{then}
 use borrow.Author.Needs.{needs}
 use Rattle.listing.proofs.put_report.Statement.{statement}
 use Rattle.listing.proofs.put_report.Tie as tie

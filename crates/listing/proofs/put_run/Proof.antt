@@ -1,6 +1,6 @@
 -- The text of what the run answers. Assumes nothing.
 use denote.Ref.{now}
-use Rattle.listing.proofs.Writing.{told}
+use Rattle.text.proofs.Writing.{told}
 use Rattle.listing.proofs.Texts.{run-text}
 use borrow.Author.Needs.{needs}
 use Rattle.listing.proofs.put_run.Statement.{statement}

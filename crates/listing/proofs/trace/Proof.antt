@@ -2,7 +2,7 @@
 use mathlib.Core.Path.{refl}
 use denote.Ref.{now}
 use Rattle.laws.proofs.Tails.{mid-tail}
-use Rattle.listing.proofs.Writing.{told}
+use Rattle.text.proofs.Writing.{told}
 use Rattle.listing.proofs.Texts.{traced, short-text, long-text}
 use borrow.Author.Needs.{needs}
 use Rattle.listing.proofs.trace.Statement.{statement}

@@ -1,8 +1,8 @@
 -- The word, and the number behind it. Assumes nothing.
-use Rattle.listing.proofs.Writing.{told, then, refused-same}
+use Rattle.text.proofs.Writing.{told, then, refused-same}
 use borrow.Author.Needs.{needs}
-use Rattle.listing.proofs.put_refused.Statement.{statement}
-use Rattle.listing.proofs.put_refused.Tie as tie
+use Rattle.text.proofs.put_refused.Statement.{statement}
+use Rattle.text.proofs.put_refused.Tie as tie
 
 slice-aggregate-put : tie.Need-slice-aggregate-put
 slice-aggregate-put c = search needs

@@ -1,9 +1,9 @@
 -- A byte stored at a place. Assumes nothing.
 use denote.Ref.{now}
-use Rattle.listing.proofs.Writing.{stored}
+use Rattle.text.proofs.Writing.{stored}
 use borrow.Author.Needs.{needs}
-use Rattle.listing.proofs.put_byte.Statement.{statement}
-use Rattle.listing.proofs.put_byte.Tie as tie
+use Rattle.text.proofs.put_byte.Statement.{statement}
+use Rattle.text.proofs.put_byte.Tie as tie
 
 slice-write-out : tie.Need-slice-write-out
 slice-write-out c = search needs

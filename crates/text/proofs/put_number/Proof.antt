@@ -1,9 +1,9 @@
 -- A number, and a byte behind it. Assumes nothing.
 use native.Mathlib.Omega.{arith}
-use Rattle.listing.proofs.Writing.{then}
+use Rattle.text.proofs.Writing.{then}
 use borrow.Author.Needs.{needs}
-use Rattle.listing.proofs.put_number.Statement.{statement}
-use Rattle.listing.proofs.put_number.Tie as tie
+use Rattle.text.proofs.put_number.Statement.{statement}
+use Rattle.text.proofs.put_number.Tie as tie
 
 put-decimal-requires : tie.Need-put-decimal-requires
 put-decimal-requires c κs = search needs

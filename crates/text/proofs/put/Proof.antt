@@ -1,10 +1,10 @@
 -- A copy into the part from a place on. Assumes nothing.
 use denote.Ref.{now}
 use Rattle.laws.proofs.Tails.{put-copy}
-use Rattle.listing.proofs.Writing.{copied}
+use Rattle.text.proofs.Writing.{copied}
 use borrow.Author.Needs.{needs}
-use Rattle.listing.proofs.put.Statement.{statement}
-use Rattle.listing.proofs.put.Tie as tie
+use Rattle.text.proofs.put.Statement.{statement}
+use Rattle.text.proofs.put.Tie as tie
 
 sub-copy : tie.Need-sub-copy
 sub-copy c = search needs

@@ -1,12 +1,12 @@
 -- What `io::decimal` writes is the decimal text. Assumes nothing.
 use mathlib.Core.Path.{_∙_, ap}
 use lib.ListN.{length}
-use Rattle.listing.proofs.Writing.{told}
-use Rattle.listing.proofs.Digits.{decimal-same, decimal-short}
+use Rattle.text.proofs.Writing.{told}
+use Rattle.text.proofs.Digits.{decimal-same, decimal-short}
 use native.Mathlib.Omega.{arith}
 use borrow.Author.Needs.{needs}
-use Rattle.listing.proofs.put_decimal.Statement.{statement}
-use Rattle.listing.proofs.put_decimal.Tie as tie
+use Rattle.text.proofs.put_decimal.Statement.{statement}
+use Rattle.text.proofs.put_decimal.Tie as tie
 
 decimal-requires : tie.Need-decimal-requires
 decimal-requires c κs = search needs
