@@ -38,7 +38,7 @@ six-digits : (x₀ x₁ x₂ x₃ x₄ x₅ d₁ d₂ d₃ d₄ d₅ : ℕ) → 
     → numberOf (x₀ ∷ x₁ ∷ x₂ ∷ x₃ ∷ x₄ ∷ x₅ ∷ []) ≡ d₅
 six-digits x₀ x₁ x₂ x₃ x₄ x₅ d₁ d₂ d₃ d₄ d₅ e₁ e₂ e₃ e₄ e₅ = omega arith
 
-cycle-back : (n : ℕ) → n < 281474976710656 → numberOf (bytesOf 6 n) ≡ n
+pub cycle-back : (n : ℕ) → n < 281474976710656 → numberOf (bytesOf 6 n) ≡ n
 cycle-back n h =
     let top : n / 1099511627776 % 256 ≡ n / 1099511627776 = omega arith in
     let e₁ : n / 4294967296 ≡ 256 * (n / 1099511627776) + n / 4294967296 % 256 = omega arith in
