@@ -1,6 +1,7 @@
 //! A reference interpreter of the uPD546 as document 01 defines it: one machine cycle after the
-//! other, on a state that is changed in place. `case`, `codes`, `draw`, `maker`, `mnemonics` and `show`
-//! are no part of it: what the programs that make trials share, and the tests.
+//! other, on a state that is changed in place. `waiting` is request R-1 of document 02. `case`,
+//! `codes`, `draw`, `maker`, `mnemonics` and `show` are no part of either: what the programs that make
+//! trials share, and the tests.
 
 pub mod case;
 pub mod codes;
@@ -18,8 +19,10 @@ mod schedule;
 mod show;
 mod timer;
 mod trace;
+pub mod waiting;
 
 pub use image::{restore, save};
+pub use log::{records, Record, RECORD};
 pub use machine::State;
 pub use runners::{run, run_observed, Answer, Coverage, Runner};
 pub use trace::trace;

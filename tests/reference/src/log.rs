@@ -1,9 +1,39 @@
-//! The port log that a run is lent.
+//! The port log that a run is lent, and the records of a log that is read.
 
 use crate::numbers::LOG_FULL;
 
 /// Bytes of one record: cycle (6, big-endian), port (2 to 8), value.
-const RECORD: usize = 8;
+pub const RECORD: usize = 8;
+
+/// A record that is read, whatever its port and value.
+#[derive(Clone, Copy, PartialEq, Eq, Debug)]
+pub struct Record {
+    /// Of 48 bits.
+    pub cycle: u64,
+    pub port: u8,
+    pub value: u8,
+}
+
+impl Record {
+    pub fn bytes(self) -> [u8; RECORD] {
+        let mut bytes = [0; RECORD];
+        bytes[..6].copy_from_slice(&self.cycle.to_be_bytes()[2..]);
+        bytes[6] = self.port;
+        bytes[7] = self.value;
+        bytes
+    }
+}
+
+/// The records of a log; what is left of one at its end is none.
+pub fn records(log: &[u8]) -> impl DoubleEndedIterator<Item = Record> + '_ {
+    log.chunks_exact(RECORD).map(|bytes| Record {
+        cycle: bytes[..6]
+            .iter()
+            .fold(0, |cycle, &byte| cycle << 8 | u64::from(byte)),
+        port: bytes[6],
+        value: bytes[7],
+    })
+}
 
 /// "A run starts at the lent log's first byte; each record it writes into the part of the log that
 /// is still empty."

@@ -38,3 +38,9 @@ pub const IMAGE_MARK: u8 = 32;
 pub const IMAGE_VERSION: u8 = 33;
 /// Refusal: a field, also in a state given as a value.
 pub const FIELD: u8 = 34;
+
+// Request R-1, of the log and of what is carried over to it.
+/// Refusal: the log's length is no multiple of 8, or something carried breaks its rule.
+pub const CARRIED: u8 = 41;
+/// Refusal: a record's port, value or cycle.
+pub const LOG_RECORD: u8 = 42;

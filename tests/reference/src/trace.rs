@@ -3,18 +3,16 @@
 use std::fmt::Write;
 
 use crate::lent::Lent;
+use crate::log::records;
 use crate::numbers::ROM_LENGTH;
 
 /// The text of a run's log. "Cycle decimal, port letter, value hexadecimal".
 pub(crate) fn log_text(log: &[u8]) -> String {
     let mut text = String::from("cycle port value\n");
-    for record in log.chunks_exact(8) {
-        let cycle = record[..6]
-            .iter()
-            .fold(0, |cycle, &byte| cycle << 8 | u64::from(byte));
-        let port = char::from(b'A' + record[6]);
-        let value = record[7];
-        writeln!(text, "{cycle} {port} {value:X}").expect("a string takes every line");
+    for record in records(log) {
+        let port = char::from(b'A' + record.port);
+        writeln!(text, "{} {port} {:X}", record.cycle, record.value)
+            .expect("a string takes every line");
     }
     text
 }
@@ -39,6 +37,6 @@ pub fn trace(input: &[u8]) -> String {
     text
 }
 
-fn refused(number: u8) -> String {
+pub(crate) fn refused(number: u8) -> String {
     format!("refused {number}\n")
 }
