@@ -273,6 +273,15 @@ pub fn schedule(records: &[(u64, u8, u8, u8)]) -> Vec<u8> {
         .collect()
 }
 
+/// A panel as program `trace` reads it: n, code at some addresses of a ROM of NOPs, and a schedule.
+pub fn panel(n: u32, code: &[(usize, &[u8])], schedule: &[u8]) -> Vec<u8> {
+    let mut rom = vec![0; usize::from(ROM)];
+    for &(address, bytes) in code {
+        rom[address..address + bytes.len()].copy_from_slice(bytes);
+    }
+    [&n.to_be_bytes(), &rom[..], schedule].concat()
+}
+
 /// The generator.
 pub fn next(s: u32) -> u32 {
     s.wrapping_mul(1_664_525).wrapping_add(1_013_904_223)

@@ -5,8 +5,8 @@ use std::path::Path;
 use std::process::ExitCode;
 use std::{env, fs, io};
 
-/// What a program makes: standard input and output of its crate, what is wrong with them, and the
-/// inputs of a program as it was built, one for each name, or none.
+/// What a program makes: standard input and output of its crate, empty where it has none; what is wrong
+/// with them; and the inputs of a program as it was built, one for each of the last names, or none.
 pub struct Made {
     pub stdin: Vec<u8>,
     pub stdout: String,
@@ -14,10 +14,10 @@ pub struct Made {
     pub files: Vec<File>,
 }
 
-/// An input, and the text that has to be printed of it.
+/// An input, and the bytes that have to be written of it.
 pub struct File {
     pub input: Vec<u8>,
-    pub text: String,
+    pub text: Vec<u8>,
 }
 
 /// `PROGRAM FOLDER` writes FOLDER/stdin and FOLDER/stdout and fails where there is a fault;
@@ -61,6 +61,12 @@ pub fn make(
     }
 }
 
+/// A file of samples/.
+pub fn sample(name: &str) -> Vec<u8> {
+    let folder = Path::new(env!("CARGO_MANIFEST_DIR")).join("../../samples");
+    fs::read(folder.join(name)).expect("the sample is there")
+}
+
 /// A reader may close its end early.
 fn print(text: String) {
     let _ = io::stdout().write_all(text.as_bytes());
@@ -85,16 +91,21 @@ fn sound(made: &Made) -> bool {
 }
 
 fn write(folder: &str, made: &Made) -> io::Result<bool> {
+    if made.stdin.is_empty() {
+        return Err(io::Error::other("there is no crate to write for"));
+    }
     fs::write(Path::new(folder).join("stdin"), &made.stdin)?;
     fs::write(Path::new(folder).join("stdout"), &made.stdout)?;
     Ok(sound(made))
 }
 
 fn write_files(folder: &str, names: &[String], made: &Made) -> io::Result<bool> {
-    if made.files.len() != names.len() {
+    if made.files.is_empty() {
         return Err(io::Error::other("there are no files to write"));
     }
-    for (place, (name, file)) in names.iter().zip(&made.files).enumerate() {
+    let first = names.len() - made.files.len();
+    for (place, name) in names.iter().enumerate().skip(first) {
+        let file = &made.files[place - first];
         let path = Path::new(folder).join(format!("{place} {name}"));
         fs::write(format!("{}.input", path.display()), &file.input)?;
         fs::write(format!("{}.text", path.display()), &file.text)?;

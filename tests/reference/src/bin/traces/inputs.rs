@@ -3,10 +3,8 @@
 //! 34 and 2 refuse no trace: the fresh state is sound, and its cycle number, 0, plus an n of 4 bytes
 //! stays far below 2^48 - 1.
 
-use std::fs;
-use std::path::Path;
-
-use reference::case::{record, schedule};
+use reference::case::{panel, record, schedule};
+use reference::maker;
 
 /// An input, and the last line of its text.
 pub struct Input {
@@ -14,8 +12,6 @@ pub struct Input {
     pub bytes: Vec<u8>,
     pub last: &'static str,
 }
-
-const ROM: usize = 2_000;
 
 /// OCD, LI, OE and a code that is no instruction: document 01's example.
 const EXAMPLE: [u8; 5] = [0x1E, 0xA5, 0x93, 0x44, 0x1C];
@@ -71,10 +67,9 @@ pub fn long() -> Vec<Input> {
 
 /// A panel of samples/; tests/compare holds the text that stands beside it.
 fn sample(name: &str, last: &'static str) -> Input {
-    let folder = Path::new(env!("CARGO_MANIFEST_DIR")).join("../../samples");
     Input {
         name: format!("sample {name}"),
-        bytes: fs::read(folder.join(format!("{name}.panel"))).expect("the panel is there"),
+        bytes: maker::sample(&format!("{name}.panel")),
         last,
     }
 }
@@ -88,12 +83,12 @@ fn samples() -> Vec<Input> {
         ("order", "refused 14"),
         ("level", "refused 13"),
         ("torn", "refused 11"),
+        ("lobby", "end 1200 1000 0"),
     ]
     .map(|(name, last)| sample(name, last))
     .into()
 }
 
-/// n, code from address 0 on in a ROM of NOPs, schedule.
 fn input(
     name: &str,
     n: u32,
@@ -101,13 +96,9 @@ fn input(
     schedule: &[u8],
     last: &'static str,
 ) -> Input {
-    let mut rom = [0; ROM];
-    for &(address, bytes) in code {
-        rom[address..address + bytes.len()].copy_from_slice(bytes);
-    }
     Input {
         name: name.to_string(),
-        bytes: [&n.to_be_bytes(), &rom[..], schedule].concat(),
+        bytes: panel(n, code, schedule),
         last,
     }
 }

@@ -80,7 +80,7 @@ fn made(stored: usize, inputs: &[Input]) -> Made {
     println!("{stored} inputs, {} bytes", stdin.len());
     let files = inputs.iter().zip(&texts).map(|(input, text)| File {
         input: input.bytes.clone(),
-        text: text.clone(),
+        text: text.clone().into_bytes(),
     });
     Made {
         stdin,
