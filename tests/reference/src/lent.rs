@@ -1,6 +1,7 @@
 //! What a run is lent, kept in one place.
 
 use crate::machine::State;
+use crate::numbers::LOG_FULL;
 use crate::runners::{run_observed, Answer, Nobody, Observer, Runner, ROM_BYTES};
 
 /// Program `trace`: "n (4 bytes, big-endian), ROM and schedule", and "a log of 16,384 bytes".
@@ -32,6 +33,14 @@ impl Lent {
             log: vec![0; LOG],
             n: count.iter().fold(0, |n, &byte| n << 8 | u64::from(byte)),
         })
+    }
+
+    /// The same with a log that has room for every record.
+    pub fn with_room(mut self) -> Lent {
+        while self.clone().run().0.number == LOG_FULL {
+            self.log = vec![0; 2 * self.log.len() + 16];
+        }
+        self
     }
 
     /// Runs it, and answers its log too.
