@@ -9,7 +9,7 @@ pub mod draw;
 mod image;
 mod instructions;
 pub mod lent;
-mod log;
+pub mod log;
 mod machine;
 pub mod maker;
 mod mnemonics;
@@ -23,7 +23,6 @@ mod trace;
 pub mod waiting;
 
 pub use image::{restore, save};
-pub use log::{records, Record, RECORD};
 pub use machine::State;
 pub use ports::ports;
 pub use runners::{run, run_observed, Answer, Coverage, Runner};

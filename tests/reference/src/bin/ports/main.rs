@@ -16,9 +16,10 @@ use std::process::ExitCode;
 
 use inputs::{End, Input};
 use reference::lent::Lent;
+use reference::log::RECORD;
 use reference::maker::{make, File, Made};
 use reference::numbers::ROM_LENGTH;
-use reference::{ports, RECORD};
+use reference::ports;
 
 /// Those that a panel of program `ports` can end with: all of a run but 3, 34 and 2.
 const NUMBERS: [u8; 8] = [0, 11, 12, 13, 14, 21, 22, 23];
@@ -41,7 +42,7 @@ fn faults(inputs: &[Input]) -> Vec<String> {
     let mut faults = Vec::new();
     for input in inputs {
         let end = end_of(input);
-        if end != input.end {
+        if !input.end.fits(end) {
             faults.push(format!("{}: {end:?}", input.name));
         }
     }
