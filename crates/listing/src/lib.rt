@@ -7,7 +7,6 @@ use upd546::LOG_RECORD;
 use upd546::ROM_LENGTH;
 use upd546::RunAnswer;
 ghost use mathlib.Core.Path.{_≡_};
-ghost use mathlib.Core.List.{_∷_, [], _++_};
 ghost use Prim.Native.Nat.{_+_, _*_, _/_, _<_, _≤_};
 ghost use lib.ListN.{length, replicate};
 ghost use Rattle.runs.specs.Numbers.{endOf};

@@ -4,3 +4,4 @@ pub mod Slices
 pub mod Images
 pub mod Records
 pub mod Day
+pub mod Waits

@@ -1,0 +1,84 @@
+-- The figures of waiting times, from the theorems about every log and every list. Assumes nothing.
+use mathlib.Core.Path.{_≡_, refl, ap}
+use mathlib.Core.List.{List, [], _++_}
+use Prim.Native.Nat.{ℕ, zero, suc, _<_, _≤_}
+use native.Mathlib.Omega.{arith}
+use lib.Dec.{lit<, lit≤}
+use lib.ListN.{length, replicate}
+use Rattle.runs.specs.TwoRunners.{logBound}
+use Rattle.runs.specs.Laws.{Panel}
+use Rattle.runs.specs.Lists.{WrittenBy, Lent, Meant}
+use Rattle.upd546.specs.declared.State.{State}
+use Rattle.upd546.specs.TheMachine.{fresh}
+use Rattle.upd546.specs.TwoRunners.{upd546}
+use Rattle.laws.proofs.Lists.{below-all}
+use Rattle.waiting.specs.declared.Reading.{Reading}
+use Rattle.waiting.specs.WaitingTimes.{landingCount, figureMost, lampsAfter, carriedAfter, recordSound, recordNumber, landingSound, carriedSound, carriedNumber, logNumber, waitingTimes, nothing}
+use Rattle.waiting.specs.EveryLog.{landingOf, FiguresWithin}
+use Rattle.waiting.specs.EveryList.{ReportsAsOneRun}
+use Rattle.waiting.proofs.EveryLog.{every-rise-is-a-wait, read-on-as-joined, only-figures-draw-41, last-record-counts}
+use Rattle.waiting.proofs.EveryList.{every-list-reports-as-one-run}
+use Rattle.witness.specs.Waits.{calling, coming, wide, lampRom, lit, keptLit, lampCalls, WaitFigures}
+use Rattle.witness.proofs.Opened.{opened}
+use Rattle.witness.proofs.Calls.{sound}
+
+-- what to unfold where a reading is computed
+unfoldable read : Unit {0}
+unfolding opened lampsAfter carriedAfter recordSound recordNumber landingSound carriedSound carriedNumber logNumber waitingTimes
+read = tt
+
+-- each log is accepted
+accepts : (waitingTimes calling nothing .number ≡ 0) × (waitingTimes (calling ++ coming) nothing .number ≡ 0)
+unfolding read
+accepts = (refl, refl)
+
+-- the four landings
+each : (P : ℕ → Type 0) → P 0 → P 1 → P 2 → P 3 → (i : ℕ) → i < landingCount → P i
+each P a b c d zero h = a
+each P a b c d (suc zero) h = b
+each P a b c d (suc (suc zero)) h = c
+each P a b c d (suc (suc (suc zero))) h = d
+each P a b c d (suc (suc (suc (suc i)))) h = absurd (omega arith)
+
+small : FiguresWithin (waitingTimes calling nothing .carried)
+unfolding read
+small =
+    let after = waitingTimes calling nothing .carried in
+    record {
+      last = lit≤ tt;
+      closed = each (λ i. landingOf after i .closed ≤ figureMost) (lit≤ tt) (lit≤ tt) (lit≤ tt) (lit≤ tt);
+      cycles = each (λ i. landingOf after i .cycles .0 ≤ figureMost) (lit≤ tt) (lit≤ tt) (lit≤ tt) (lit≤ tt);
+      longest = each (λ i. landingOf after i .longest .0 ≤ figureMost) (lit≤ tt) (lit≤ tt) (lit≤ tt) (lit≤ tt);
+    }
+
+panel : Panel upd546 lampRom []
+unfolding opened
+panel = record { rom-bytes = below-all 256 lampRom (lit< tt) refl; sched-bytes = λ i. lit< tt; not-refused = refl }
+
+lent : (held : State) (log : List ℕ) (n : ℕ) → logBound n ≤ length log → Lent upd546 lampRom [] held lampRom [] held log n
+lent held log n room = record { same-rom = refl; same-sched = refl; same-state = refl; room = room }
+
+meant : Meant upd546 lampRom [] fresh lampCalls
+unfolding opened
+meant =
+    let written : WrittenBy upd546 lit keptLit = record { buffer = replicate 81 9; done = refl; same = refl } in
+    (lent _ _ _ (lit≤ tt), (refl, (written, (lent _ _ _ (lit≤ tt), tt))))
+
+one-day : ReportsAsOneRun upd546 lampRom [] fresh lampCalls
+unfolding opened
+one-day = every-list-reports-as-one-run lampRom [] fresh lampCalls panel sound meant (lit≤ tt)
+
+pub figures : WaitFigures
+unfolding read
+figures =
+    record {
+      waits-0 = every-rise-is-a-wait (calling ++ coming) nothing 0 (lit< tt) (accepts .1);
+      waits-1 = every-rise-is-a-wait (calling ++ coming) nothing 1 (lit< tt) (accepts .1);
+      waits-2 = every-rise-is-a-wait (calling ++ coming) nothing 2 (lit< tt) (accepts .1);
+      carried-on = only-figures-draw-41 calling nothing (accepts .0) small;
+      read-on = read-on-as-joined calling coming nothing (accepts .0) (only-figures-draw-41 calling nothing (accepts .0) small);
+      last-counts = last-record-counts calling coming nothing refl (accepts .0);
+      last-refused = last-record-counts calling wide nothing refl (accepts .0);
+      accepted = one-day .accepted;
+      day = ap (λ (r : Reading). r .carried) (one-day .report);
+    }

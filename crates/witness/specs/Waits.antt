@@ -1,0 +1,91 @@
+-- What the theorems about waiting times have to say of a log and of a list of calls: a figure or a plain fact for each clause.
+-- Assumes nothing: these are definitions.
+use Prim.Native.Nat.{ℕ}
+use mathlib.Core.Path.{_≡_}
+use mathlib.Core.List.{List, [], _∷_, _++_}
+use lib.ListN.{take, replicate}
+use Rattle.runs.specs.Lists.{plainOne, skippingOne, Call, run, save, restore, runAnswer}
+use Rattle.runs.specs.TwoRunners.{saveAnswer, restoreAnswer}
+use Rattle.upd546.specs.declared.State.{State}
+use Rattle.upd546.specs.TheMachine.{fresh}
+use Rattle.upd546.specs.BenchCases.{romAt}
+use Rattle.upd546.specs.TwoRunners.{upd546}
+use Rattle.waiting.specs.declared.Landing.{Landing}
+use Rattle.waiting.specs.declared.Carried.{Carried}
+use Rattle.waiting.specs.declared.Reading.{Reading}
+use Rattle.waiting.specs.WaitingTimes.{noWaits, nothing, carriedNumber, refusedWith, waitingTimes}
+use Rattle.waiting.specs.EveryLog.{waitsOf}
+use Rattle.waiting.specs.EveryList.{AllAccepted, carriedOn, listLogs}
+
+-- A LOG
+
+-- a record of port F, of a cycle below 256
+abbrev pub lampsAt : (cycle lamps : ℕ) → List ℕ
+lampsAt n lamps = 0 ∷ 0 ∷ 0 ∷ 0 ∷ 0 ∷ n ∷ 5 ∷ lamps ∷ []
+
+-- landing 0 calls at cycle 10, landing 1 at cycle 20; the car comes to landing 0 at cycle 60
+abbrev pub calling : List ℕ
+calling = lampsAt 10 1 ++ lampsAt 20 3
+
+abbrev pub coming : List ℕ
+coming = lampsAt 60 2
+
+-- a record of port I with a value that its latch can't hold
+abbrev pub wide : List ℕ
+wide = 0 ∷ 0 ∷ 0 ∷ 0 ∷ 0 ∷ 60 ∷ 8 ∷ 8 ∷ []
+
+-- one closed wait of so many cycles
+abbrev pub oneWait : ℕ → Landing
+oneWait n = record { closed = 1; cycles = record { 0 = n }; longest = record { 0 = n }; mark = 0; start = record { 0 = 0 } }
+
+-- a wait that is open since a cycle
+abbrev pub openSince : ℕ → Landing
+openSince n = record { closed = 0; cycles = record { 0 = 0 }; longest = record { 0 = 0 }; mark = 1; start = record { 0 = n } }
+
+abbrev pub wanted : Reading
+wanted = record {
+  number = 0;
+  carried = record { landings = oneWait 50 ∷ openSince 20 ∷ noWaits ∷ noWaits ∷ []; lamps = 2; last = record { 0 = 60 } };
+}
+
+-- A LIST OF CALLS
+
+-- LDZ 5, LI 1, OP, LI 0, OP, and a code that is none: bit 0 of port F is lit at cycle 2 and dark at cycle 4
+abbrev pub lampRom : List ℕ
+lampRom = romAt 0 (0x85 ∷ 0x91 ∷ 0x0E ∷ 0x90 ∷ 0x0E ∷ 0x1C ∷ [])
+
+-- the power goes between the two, and a call is refused
+abbrev pub lit : State
+lit = runAnswer upd546 plainOne lampRom [] fresh (replicate 32 7) 3 .state
+
+abbrev pub keptLit : List ℕ
+keptLit = take 81 (saveAnswer upd546 lit (replicate 81 9) .buffer)
+
+abbrev pub lampCalls : List (Call State)
+lampCalls =
+    run plainOne lampRom [] fresh (replicate 32 7) 3
+    ∷ save lit (replicate 81 9)
+    ∷ restore []
+    ∷ restore keptLit
+    ∷ run skippingOne lampRom [] (restoreAnswer upd546 keptLit .state) (replicate 80 0) 9
+    ∷ []
+
+abbrev pub wantedDay : Carried
+wantedDay = record { landings = oneWait 2 ∷ noWaits ∷ noWaits ∷ noWaits ∷ []; lamps = 0; last = record { 0 = 4 } }
+
+-- THE FIGURES
+
+pub record WaitFigures : Type 0 where
+  -- `EveryRiseIsAWait`: one lamp lit on landings 0 and 1 each, none on landing 2
+  pub waits-0 : waitsOf (waitingTimes (calling ++ coming) nothing .carried) 0 ≡ 1
+  pub waits-1 : waitsOf (waitingTimes (calling ++ coming) nothing .carried) 1 ≡ 1
+  pub waits-2 : waitsOf (waitingTimes (calling ++ coming) nothing .carried) 2 ≡ 0
+  -- `OnlyFiguresDraw41`, `ReadOnAsJoined`
+  pub carried-on : carriedNumber [] (waitingTimes calling nothing .carried) ≡ 0
+  pub read-on : waitingTimes coming (waitingTimes calling nothing .carried) ≡ wanted
+  -- `LastRecordCounts`, of a record that is accepted and of one that isn't
+  pub last-counts : waitingTimes (calling ++ coming) nothing ≡ wanted
+  pub last-refused : waitingTimes (calling ++ wide) nothing ≡ refusedWith 42
+  -- `EveryListReportsAsOneRun`: the wait that the power cut falls into is there, and whole
+  pub accepted : AllAccepted nothing (listLogs upd546 lampCalls)
+  pub day : carriedOn nothing (listLogs upd546 lampCalls) ≡ wantedDay
