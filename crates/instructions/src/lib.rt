@@ -127,14 +127,15 @@ fn with_bit(x: u8, b: u8, v: u8) -> u8
     x - bit(x, b) * p + v * p
 }
 
-fn read_port(l: Lines, p: u8) -> u8
-    ensures { λ r. ⌜ r ≡ readPort l p ⌝ }
+// What IP and TPB read: lines, and on C and D the latches too.
+fn read_port(l: Lines, ports: &[u8; LATCHES], p: u8) -> u8
+    ensures { λ r. ⌜ r ≡ readPort l (now (ports .entry)) p ⌝ }
 {
     match p {
         0 => l.a,
         1 => l.b,
-        2 => l.c,
-        3 => l.d,
+        2 => l.c | ports[0],
+        3 => l.d | ports[1],
         _ => 0,
     }
 }
@@ -687,9 +688,9 @@ pub fn port_group(op: Port, g: Inputs, ports: &[u8; LATCHES]) -> Ported
         Port::Reb => port_left(acc, false, PORT_E, with_bit(ports[2], b, 0)),
         Port::Spb => written(acc, output_bit(ports, dpl, b, 1)),
         Port::Seb => port_left(acc, false, PORT_E, with_bit(ports[2], b, 1)),
-        Port::Ip => port_left(read_port(l, dpl), false, NO_PORT, 0),
+        Port::Ip => port_left(read_port(l, ports, dpl), false, NO_PORT, 0),
         Port::Ia => port_left(g.lines.a, false, NO_PORT, 0),
-        Port::Tpb => port_left(acc, bit(read_port(l, dpl), b) == 1, NO_PORT, 0),
+        Port::Tpb => port_left(acc, bit(read_port(l, ports, dpl), b) == 1, NO_PORT, 0),
         Port::Tpa => port_left(acc, bit(g.lines.a, b) == 1, NO_PORT, 0),
     }
 }

@@ -6,7 +6,7 @@ use mathlib.Core.List.{List, [], _∷_, _++_}
 use Prim.Native.Nat.{ℕ, zero, suc, _+_, _-_, _*_, _/_, _%_, _<_, _≤_}
 use native.Mathlib.Nat.{le-trans}
 use native.Mathlib.Omega.{arith}
-use lib.Bits.{bitXor, xor-lt}
+use lib.Bits.{bitXor, or-lt, xor-lt}
 use lib.Dec.{T, eqb, leb, ltb, ltb→lt}
 use lib.ListN.{length, getD, replicate}
 use borrow.Author.Tests.{leb-true, eqb-false, lt-ltb, not-true}
@@ -80,9 +80,12 @@ latch-bit x b v hx hb hv = bit-keeps 8 3 tt x b v hx hb (omega arith) (omega ari
 turn : (g : Given) → ValidGiven g → bitXor (chip.dph g) (chip.operand2 g) < 8
 turn g v = xor-lt 3 (chip.dph g) (chip.operand2 g) (v .core .scalars .dph) (omega arith)
 
-read-small : (l : Lines) (p : ℕ) → ValidLines l → readPort l p < 16
+read-small : (l : Lines) (ports : List ℕ) (p : ℕ) → ValidLines l → ValidPorts ports → readPort l ports p < 16
 unfolding readPort
-read-small l p v = all-getD (λ (x : ℕ). x < 16) 0 (v .a ▹ v .b ▹ v .c ▹ v .d ▹ none) (omega arith) p
+read-small l ports p v w =
+    all-getD (λ (x : ℕ). x < 16) 0
+    (v .a ▹ v .b ▹ or-lt 4 (l .c) _ (v .c) (w .below 0) ▹ or-lt 4 (l .d) _ (v .d) (w .below 1) ▹ none)
+    (omega arith) p
 
 -- the stack after a call and after a return
 three-valid : (a b c : ℕ) → a < addresses → b < addresses → c < addresses → ValidStack (a ∷ b ∷ c ∷ [])
@@ -303,7 +306,7 @@ keeps-xmi : Keeps chip.xmi
 keeps-xmi = plain chip.xmi (omega arith) (λ g. refl) (λ g. refl) (λ g v. omega (arith, turn g v)) (λ g v. omega arith)
 
 keeps-ip : Keeps chip.ip
-keeps-ip = plain chip.ip (omega arith) (λ g. refl) (λ g. refl) (λ g v. omega (arith, read-small (g .lines) (chip.dpl g) (v .lines))) (λ g v. omega arith)
+keeps-ip = plain chip.ip (omega arith) (λ g. refl) (λ g. refl) (λ g v. omega (arith, read-small (g .lines) (g .ports) (chip.dpl g) (v .lines) (v .ports))) (λ g v. omega arith)
 
 keeps-rmb : Keeps chip.rmb
 keeps-rmb = plain chip.rmb (omega arith) (λ g. refl) (λ g. refl) (λ g v. omega arith) (λ g v. word-bit (g .word) (g .code) 0 (v .word) (omega arith))

@@ -14,3 +14,4 @@ pub mod Jump
 pub mod Interval
 pub mod Demand3
 pub mod Records
+pub mod Reading

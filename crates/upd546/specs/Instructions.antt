@@ -249,7 +249,7 @@ ei = oneCycle λ g. leaves g (setMark markEi (setInte 1 (next g)))
 
 -- "32 IP Acc=port DPL"
 abbrev pub ip : Instruction
-ip = oneCycle λ g. leaves g (setAcc (readPort (g .lines) (dpl g)) (next g))
+ip = oneCycle λ g. leaves g (setAcc (readPort (g .lines) (g .ports) (dpl g)) (next g))
 
 -- "33 IND inc DPL"
 abbrev pub ind : Instruction
@@ -269,7 +269,7 @@ xmi = oneCycle λ g. skips (eqb (more (dpl g)) 0) (swapped g (setDpl (more (dpl 
 
 -- "50+b TPB skip if port DPL bit"
 abbrev pub tpb : Instruction
-tpb = oneCycle λ g. skips (isOne (bitAt (readPort (g .lines) (dpl g)) (operand2 g))) (leaves g (next g))
+tpb = oneCycle λ g. skips (isOne (bitAt (readPort (g .lines) (g .ports) (dpl g)) (operand2 g))) (leaves g (next g))
 
 -- "58+b TMB skip if M bit"
 abbrev pub tmb : Instruction

@@ -165,8 +165,8 @@ pub(crate) fn execute(
             s.inte = 1;
             mark = EI;
         }
-        0x32 => s.acc = lines.named(s.dpl), // IP
-        0x33 => skip = inc_dpl(s),          // IND
+        0x32 => s.acc = read_port(s, lines), // IP
+        0x33 => skip = inc_dpl(s),           // IND
         0x34..=0x37 => skip = has_bit(s.acc, bit) == has_bit(s.m(), bit), // CMB
         0x38..=0x3B => {
             // LM
@@ -179,8 +179,8 @@ pub(crate) fn execute(
             s.dph ^= bit;
             skip = inc_dpl(s);
         }
-        0x50..=0x53 => skip = has_bit(lines.named(s.dpl), bit), // TPB
-        0x58..=0x5B => skip = has_bit(s.m(), bit),              // TMB
+        0x50..=0x53 => skip = has_bit(read_port(s, lines), bit), // TPB
+        0x58..=0x5B => skip = has_bit(s.m(), bit),               // TMB
         0x60..=0x63 => {
             // RPB
             if has_port_bit(s.dpl, bit) {
@@ -350,6 +350,17 @@ pub(crate) fn in_page(at: u16, address: u8) -> u16 {
 #[inline]
 pub(crate) fn far(code: u8, second: u8) -> u16 {
     u16::from(code & 7) << 8 | u16::from(second)
+}
+
+/// What the port that DPL names reads: "IP and TPB read lines A to D, else 0", amended by R-2: "On C
+/// and D a bit now reads 1 if the line or the latch is 1."
+#[inline]
+fn read_port(s: &State, lines: &Lines) -> u8 {
+    let line = lines.named(s.dpl);
+    match s.dpl {
+        C | D => line | latch(s, s.dpl),
+        _ => line,
+    }
 }
 
 /// "SPB and RPB E to I; anything else, and bit 3 of I, has no effect."

@@ -16,7 +16,7 @@ pub(crate) struct Lines {
 }
 
 impl Lines {
-    /// The line port that DPL names; "IP and TPB read lines A to D, else 0".
+    /// The lines of the port that DPL names, 0 if it has none.
     #[inline]
     pub(crate) fn named(&self, dpl: u8) -> u8 {
         self.ports.get(usize::from(dpl)).copied().unwrap_or(0)

@@ -392,11 +392,16 @@ fn stm_and_ldi() {
 #[test]
 fn lines() {
     each_dp(|s| {
-        let line = *LINES.get(usize::from(s.dpl)).unwrap_or(&0);
-        check(s, &[0x32], 1, |t| t.acc = line);
+        // The latches of any state are set.
+        let read = match s.dpl {
+            port @ 0..=1 => LINES[usize::from(port)],
+            port @ 2..=3 => LINES[usize::from(port)] | s.ports[usize::from(port) - 2],
+            _ => 0,
+        };
+        check(s, &[0x32], 1, |t| t.acc = read);
         check(s, &[0x40], 2, |t| t.acc = LINES[0]);
         for b in 0..4 {
-            check(s, &[0x50 + b], 1, |t| skip_if(t, line >> b & 1 == 1));
+            check(s, &[0x50 + b], 1, |t| skip_if(t, read >> b & 1 == 1));
             check(s, &[0x54 + b], 2, |t| skip_if(t, LINES[0] >> b & 1 == 1));
         }
     });

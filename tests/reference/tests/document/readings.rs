@@ -302,19 +302,86 @@ fn a_write_that_changes_nothing_is_logged() {
 }
 
 #[test]
-fn the_latch_is_not_read_back() {
-    // IP and TPB with DPL at E: 0, whatever the latch holds.
+fn c_and_d_read_line_or_latch() {
+    // Every pair of line and latch, by IP and by TPB of each bit; the other port's are the opposite.
+    for port in [2, 3] {
+        for (line, latch) in (0..=255).map(|pair| (pair / 16, pair % 16)) {
+            let mut start = State::fresh();
+            start.dpl = port;
+            start.ports = [7; 7];
+            start.ports[usize::from(port) - 2] = latch;
+            start.ports[3 - usize::from(port)] = 15 - latch;
+            let cd = if port == 2 {
+                line << 4 | (15 - line)
+            } else {
+                (15 - line) << 4 | line
+            };
+            let lines = schedule(&[(0, 0xA5, cd, 1)]);
+            let state = after(&rom(&[(0, &[0x32])]), &lines, &start, 1);
+            let mut acc = 0;
+            for b in 0..4 {
+                let reads = line >> b & 1 == 1 || latch >> b & 1 == 1;
+                acc += u8::from(reads) << b;
+                let state = after(&rom(&[(0, &[0x50 + b])]), &lines, &start, 1);
+                assert_eq!((state.pc, state.owed), if reads { (2, 1) } else { (1, 0) });
+            }
+            assert_eq!((state.acc, state.ports), (acc, start.ports));
+        }
+    }
+}
+
+#[test]
+fn no_other_port_reads_its_latch_back() {
     let mut start = State::fresh();
-    start.dpl = 4;
     start.acc = 7;
     start.ports = [15, 15, 15, 15, 15, 15, 7];
-    let lines = schedule(&[(0, 0xFF, 0xFF, 1)]);
-    assert_eq!(after(&rom(&[(0, &[0x32])]), &lines, &start, 1).acc, 0);
-    assert_eq!(after(&rom(&[(0, &[0x50])]), &lines, &start, 1).pc, 1);
-    // C reads the line, not the latch.
+    let lines = schedule(&[(0, 0xA5, 0x00, 1)]);
+    // A and B have no latch, and behind D 0 is read, whatever the latch holds.
+    for (port, read) in [(0, 10), (1, 5)].into_iter().chain((4..16).map(|p| (p, 0))) {
+        start.dpl = port;
+        assert_eq!(after(&rom(&[(0, &[0x32])]), &lines, &start, 1).acc, read);
+        for b in 0..4 {
+            let skipped = u16::from(read >> b & 1);
+            let state = after(&rom(&[(0, &[0x50 + b])]), &lines, &start, 1);
+            assert_eq!(state.pc, 1 + skipped);
+        }
+    }
+    // IA and TPA read A, also where DPL names C.
     start.dpl = 2;
-    let lines = schedule(&[(0, 0xFF, 0x3F, 1)]);
-    assert_eq!(after(&rom(&[(0, &[0x32])]), &lines, &start, 1).acc, 3);
+    assert_eq!(after(&rom(&[(0, &[0x40])]), &lines, &start, 1).acc, 10);
+    for (b, pc) in [(0, 1), (1, 2), (2, 1), (3, 2)] {
+        let state = after(&rom(&[(0, &[0x54 + b])]), &lines, &start, 1);
+        assert_eq!(state.pc, pc);
+    }
+}
+
+#[test]
+fn the_latch_read_is_that_before_the_instruction() {
+    // LDZ 2, LI 9, OP, IP, LI 4, OP, IP: each IP reads what the last OP wrote.
+    let rom = rom(&[(0, &[0x82, 0x99, 0x0E, 0x32, 0x94, 0x0E, 0x32])]);
+    assert_eq!(after(&rom, &[], &State::fresh(), 4).acc, 9);
+    assert_eq!(after(&rom, &[], &State::fresh(), 7).acc, 4);
+}
+
+#[test]
+fn tpb_at_7cf_needs_a_byte_above_because_of_the_latch() {
+    let mut start = at(0x7CF);
+    let rom = rom(&[(0x7CF, &[0x51])]);
+    for (port, latch, number, cycles) in [
+        (2, 0b0010, 22, 0),
+        (3, 0b0010, 22, 0),
+        (2, 0b1101, 0, 1),
+        (3, 0b1101, 0, 1),
+        (4, 0b0010, 0, 1),
+    ] {
+        start.dpl = port;
+        start.ports = [0; 7];
+        start.ports[usize::from(port) - 2] = latch;
+        for runner in [Runner::Plain, Runner::Skipping] {
+            let (answer, _) = go(runner, &rom, &[], &start, 1);
+            assert_eq!((answer.number, answer.cycles), (number, cycles));
+        }
+    }
 }
 
 #[test]
