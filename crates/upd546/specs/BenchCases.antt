@@ -1,13 +1,14 @@
--- Document 01, "Bench cases, and what misleads": the cases as rows of one table. Assumes nothing: these are definitions.
+-- Document 01, "Bench cases, and what misleads": the cases as rows of one table, and behind them rows of document 02's requests.
+-- Assumes nothing: these are definitions.
 use Prim.Native.Nat.{ℕ, _+_, _-_}
 use mathlib.Core.Bool.{Bool, true, _&&_}
 use mathlib.Core.List.{List, [], _∷_, _++_}
 use lib.ListN.{length, replicate}
-use Rattle.runs.specs.TwoRunners.{End, finished, stopped, refused, RunAnswer, unbroken, runNumber, skipping}
+use Rattle.runs.specs.TwoRunners.{End, finished, stopped, refused, RunAnswer, unbroken, runNumber, plain, skipping}
 use Rattle.upd546.specs.declared.Core.{Core}
 use Rattle.upd546.specs.declared.State.{State}
 use Rattle.upd546.specs.TheMachine.{fresh}
-use Rattle.upd546.specs.Parts.{setAcc, setCarry, setDph, setPc, setInt, setOwed}
+use Rattle.upd546.specs.Parts.{setAcc, setCarry, setDph, setDpl, setPc, setInt, setOwed}
 use Rattle.upd546.specs.StateImage.{imageOf, ofImage}
 use Rattle.upd546.specs.Sequences.{sameNumbers}
 use Rattle.upd546.specs.TwoRunners.{upd546}
@@ -42,9 +43,21 @@ ramWith place v = replicate place 0 ++ v ∷ replicate (95 - place) 0
 abbrev pub fromWord : (Core → Core) → ℕ → ℕ → State
 fromWord f place v = record { core = f (fresh .core); ports = fresh .ports; ram = ramWith place v; cycle = fresh .cycle }
 
+-- and with latches C to I
+abbrev pub driving : (Core → Core) → List ℕ → State
+driving f ports = record { core = f (fresh .core); ports = ports; ram = fresh .ram; cycle = fresh .cycle }
+
 -- the state after n cycles of a ROM with no schedule
 abbrev pub stateAfter : ℕ → List ℕ → State → State
 stateAfter n rom s = unbroken upd546 rom [] n s .state
+
+-- a schedule of one record: from cycle 0 on these lines A and B, C and D, and INT high
+abbrev pub lines : ℕ → ℕ → List ℕ
+lines ab cd = replicate 6 0 ++ (ab ∷ cd ∷ 1 ∷ 0 ∷ [])
+
+-- the state after one cycle of a ROM with a schedule
+abbrev pub stateOn : List ℕ → List ℕ → State → State
+stateOn sched rom s = unbroken upd546 rom sched 1 s .state
 
 -- what is looked at, of a state and of an answer
 abbrev pub see : (State → List ℕ) → State → List ℕ
@@ -100,6 +113,10 @@ waited a =
     ∷ c .interrupt .int
     ∷ c .interrupt .inte
     ∷ []
+
+-- one cycle of TPB 1 at 7CF with latches and no line high: what is asked is whether its skip needs a byte above the ROM
+abbrev pub tpbAtTheEnd : ℕ → List ℕ → RunAnswer State
+tpbAtTheEnd port ports = plain upd546 (romAt 0x7CF (0x51 ∷ [])) [] (driving (λ c. setPc 0x7CF (setDpl port c)) ports) [] 1
 
 -- 81 bytes: zeros but for `U43`, version 1, the level in byte 15 and 2 cycles owed in byte 17
 abbrev pub owedImage : List ℕ
@@ -216,4 +233,28 @@ cases =
       given = waited (waits 10 (romAt 0x7CD (0x14 ∷ 0x80 ∷ 0x05 ∷ [])) (from (setPc 0x7CD)));
       wanted = 22 ∷ 3 ∷ 2 ∷ 3 ∷ 0x7D0 ∷ 0 ∷ 0 ∷ 2 ∷ 0 ∷ 0 ∷ 0 ∷ [];
     }
+    -- R-2: C reads back a strobe while its lines are low (LDZ 2, LI 5, OP, IP)
+    ∷ record { given = accOf (stateAfter 4 (romAt 0 (0x82 ∷ 0x95 ∷ 0x0E ∷ 0x32 ∷ [])) fresh) ∷ []; wanted = 5 ∷ [] }
+    -- R-2: C reads a line that is high while the latch is low
+    ∷ record { given = accOf (stateOn (lines 0 0xA0) (romAt 0 (0x32 ∷ [])) (from (setDpl 2))) ∷ []; wanted = 10 ∷ [] }
+    -- R-2: line 3 or latch 5 is 7, and the latches are as before
+    ∷ record {
+      given = see (λ t. accOf t ∷ t .ports) (stateOn (lines 0 0x30) (romAt 0 (0x32 ∷ [])) (driving (setDpl 2) (5 ∷ 8 ∷ replicate 5 0)));
+      wanted = 7 ∷ 5 ∷ 8 ∷ replicate 5 0;
+    }
+    -- R-2: D likewise, line 1 or latch 8 is 9
+    ∷ record { given = accOf (stateOn (lines 0 0x31) (romAt 0 (0x32 ∷ [])) (driving (setDpl 3) (5 ∷ 8 ∷ replicate 5 0))) ∷ []; wanted = 9 ∷ [] }
+    -- R-2: TPB 2 on C skips by the latch alone, TPB 1 doesn't
+    ∷ record { given = pcOf (stateAfter 1 (romAt 0 (0x52 ∷ [])) (driving (setDpl 2) (5 ∷ replicate 6 0))) ∷ []; wanted = 2 ∷ [] }
+    ∷ record { given = pcOf (stateAfter 1 (romAt 0 (0x51 ∷ [])) (driving (setDpl 2) (5 ∷ replicate 6 0))) ∷ []; wanted = 1 ∷ [] }
+    -- R-2: E still reads 0, although its latch is 15
+    ∷ record {
+      given = accOf (stateOn (lines 0xFF 0xFF) (romAt 0 (0x32 ∷ [])) (driving (λ c. setAcc 3 (setDpl 4 c)) (0 ∷ 0 ∷ 15 ∷ replicate 4 0))) ∷ [];
+      wanted = 0 ∷ [];
+    }
+    -- R-2: IA still reads line A alone, here 9, with C named by DPL and both latches 15
+    ∷ record { given = accOf (stateOn (lines 0x90 0) (romAt 0 (0x40 ∷ [])) (driving (setDpl 2) (15 ∷ 15 ∷ replicate 5 0))) ∷ []; wanted = 9 ∷ [] }
+    -- R-2: TPB on D at 7CF needs a byte above it because of the latch: 22, and no cycle; with another bit it is begun
+    ∷ record { given = seeAnswer (λ a. numberOf (a .end) ∷ a .cycles ∷ []) (tpbAtTheEnd 3 (0 ∷ 2 ∷ replicate 5 0)); wanted = 22 ∷ 0 ∷ [] }
+    ∷ record { given = seeAnswer (λ a. numberOf (a .end) ∷ a .cycles ∷ []) (tpbAtTheEnd 3 (2 ∷ 13 ∷ replicate 5 0)); wanted = 0 ∷ 1 ∷ [] }
     ∷ []
