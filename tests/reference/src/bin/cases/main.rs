@@ -64,6 +64,7 @@
 mod bench;
 mod codes;
 mod edges;
+mod keys;
 mod refusals;
 mod roms;
 mod starts;
@@ -89,6 +90,7 @@ fn all_cases() -> Vec<Case> {
     cases.extend(stops::cases());
     cases.extend(refusals::cases());
     cases.extend(roms::cases());
+    cases.extend(keys::cases());
     let skipping: Vec<Case> = cases.iter().map(Case::skipping).collect();
     cases.extend(skipping);
     cases

@@ -16,6 +16,7 @@ pub fn panels() -> Vec<Case> {
     panels.extend(starts());
     panels.extend(any());
     panels.extend(marked_waits());
+    panels.push(read_back());
     panels
 }
 
@@ -197,4 +198,26 @@ fn marked_waits() -> Vec<Case> {
             .n(2_000)
             .ends(0),
     ]
+}
+
+/// C and D are read back in every pass, by IP and by TPB, and what is read goes to E. Their latches stay for
+/// 16 passes; keys answer now and then.
+fn read_back() -> Case {
+    let keys: Vec<(u64, u8, u8, u8)> = (0..20)
+        .flat_map(|k| [(30 + 70 * k, 0x11 << (k % 4)), (50 + 70 * k, 0)])
+        .map(|(cycle, cd)| (cycle, 0, cd, 1))
+        .collect();
+    Case::new("C and D read back")
+        // OCD 5A. LDZ 2, IP, OE; LDZ 3, IP, OE; TPB 1, SEB 0; LDZ 2, TPB 3, SEB 2; INM, JCP 002.
+        .rom(0, &[0x1E, 0x5A, 0x82, 0x32, 0x44, 0x83, 0x32, 0x44])
+        .rom(8, &[0x51, 0x74, 0x82, 0x53, 0x76, 0x1D, 0xC2])
+        // Every 16th pass Z is counted up, C becomes Z and D 15 - Z: XAZ, INC, NOP, OP, LDZ 3, CMA, OP,
+        // CMA, XAZ, JCP 002.
+        .rom(
+            15,
+            &[0x4A, 0x0D, 0x00, 0x0E, 0x83, 0x10, 0x0E, 0x10, 0x4A, 0xC2],
+        )
+        .schedule(&keys)
+        .n(1_500)
+        .ends(0)
 }

@@ -284,3 +284,33 @@ fn lists_are_of_every_kind() {
         }
     }
 }
+
+#[test]
+fn a_latch_that_is_lost_shows_in_what_is_read() {
+    let panels = panels();
+    let panel = panels
+        .iter()
+        .find(|panel| panel.case.name == "C and D read back")
+        .expect("the panel is there");
+    let Lent { rom, schedule } = Lent::of(panel);
+    let n = panel.case.cycles();
+    for port in 0..2 {
+        let (mut held, mut seen) = (0, 0);
+        for (state, k) in states(panel).iter().zip(0..=n) {
+            let mut forgotten = state.clone();
+            forgotten.ports[port] = 0;
+            if forgotten != *state {
+                let logs = [state, &forgotten].map(|from| {
+                    let mut log = lent_log(n - k);
+                    run(Runner::Plain, &rom, &schedule, from, &mut log, n - k);
+                    log
+                });
+                held += 1;
+                seen += u64::from(logs[0] != logs[1]);
+            }
+        }
+        // All but those of the last pass before a new value, and of the run's last.
+        assert!(held > n * 8 / 10, "{held} cuts");
+        assert!(seen > held * 9 / 10, "{seen} of {held} cuts");
+    }
+}
