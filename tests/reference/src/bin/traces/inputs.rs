@@ -79,6 +79,7 @@ fn samples() -> Vec<Input> {
         ("lamp", "end 200 131 0"),
         ("call", "end 100 92 0"),
         ("blink", "end 1500 1489 0"),
+        ("keys", "end 140 116 0"),
         ("short", "refused 21"),
         ("order", "refused 14"),
         ("level", "refused 13"),
