@@ -13,6 +13,7 @@ use Rattle.upd546.specs.OneMachineCycle.{cycle}
 use Rattle.upd546.specs.StateImage.{stateNumber}
 use Rattle.upd546.specs.TwoRunners.{upd546}
 use Rattle.laws.proofs.Sound.{accepted-valid, valid-accepted}
+use Rattle.laws.proofs.Stops.{begins-one}
 use Rattle.laws.proofs.Cycle.{debt, debt-small, cycle-keeps}
 
 pub chip-laws : CycleLaws upd546
@@ -20,6 +21,7 @@ chip-laws = record {
   debt = debt;
   debt-small = λ s. debt-small (s .core .owed);
   step = step;
+  begins-one = begins-one;
 }
   where
     step : (rom sched : List ℕ) (s t : State) (w : List ℕ) (b : ℕ) → Panel upd546 rom sched → stateNumber s ≡ 0 → s .cycle .0 < cycleLimit

@@ -157,15 +157,14 @@ room zero n over p q r = absurd (omega arith)
 room (suc zero) n over p q r = omega arith
 room (suc (suc k)) n over p q r = omega (arith, debt-owes (suc (suc k) - 1 + over) (omega arith))
 
-pub record Cycled (s t : State) (w : List ℕ) (b : ℕ) : Type 0 where
+pub record Cycled (s t : State) (w : List ℕ) : Type 0 where
   pub valid : Valid t
   pub rises : t .cycle .0 ≡ suc (s .cycle .0)
   pub records : length w + debt s ≤ 8 + debt t
-  pub begun : b ≤ 1
 
 abbrev Fine : State → Out State → Type 0
 Fine s (stop k) = Unit {0}
-Fine s (went t w b) = Cycled s t w b
+Fine s (went t w b) = Cycled s t w
 
 module _ (s : State) (v : Valid s) (h : s .cycle .0 < cycleLimit) where
   -- the state after a cycle
@@ -178,7 +177,6 @@ module _ (s : State) (v : Valid s) (h : s .cycle .0 < cycleLimit) where
         valid = ended-valid c (s .ram) (s .ports) vc (v .ram) (v .ports);
         rises = omega arith;
         records = omega (arith, debt-small (s .core .owed));
-        begun = omega arith;
       }
 
   module _ (rom : List ℕ) (l : Lines) (b : Bytes rom) (vl : ValidLines l) (c : Core) (vc : ValidCore c) where
@@ -224,7 +222,6 @@ module _ (s : State) (v : Valid s) (h : s .cycle .0 < cycleLimit) where
               (latched-valid (e .writes) (s .ports) (ve .writes) (v .ports));
           rises = omega arith;
           records = rw (records-length (s .cycle .0) (e .writes), ticked-owed core, z) (room (i .cycles) (length (e .writes)) over hc (k .two-cycles) (k .records g vg));
-          begun = omega arith;
         }
 
     -- a stop before any of it, or the instruction
@@ -261,5 +258,5 @@ module _ (s : State) (v : Valid s) (h : s .cycle .0 < cycleLimit) where
 
 -- THE LAW: a cycle that is begun at a valid state below the cycle limit
 pub cycle-keeps : (rom sched : List ℕ) (s t : State) (w : List ℕ) (b : ℕ) → Bytes rom → Bytes sched → panelNumber rom sched ≡ 0 → Valid s
-    → s .cycle .0 < cycleLimit → cycle rom sched s ≡ went t w b → Cycled s t w b
+    → s .cycle .0 < cycleLimit → cycle rom sched s ≡ went t w b → Cycled s t w
 cycle-keeps rom sched s t w b br bs p v h e = subst (Fine s) e (cycle-fine s v h rom sched br bs p)

@@ -26,29 +26,16 @@ use Rattle.laws.specs.Images.{SavedRestores, RestoredSaves, ImageOfSome,
 use Rattle.laws.proofs.Lists.{and-left, and-right}
 use Rattle.laws.proofs.Sound.{sound-valid, valid-sound, accepted-valid, valid-accepted}
 use Rattle.laws.proofs.Parts.{part-two, part-six, part-seven}
+use Rattle.laws.proofs.Digits.{bytes-back}
 use Rattle.laws.proofs.Packing.{words-length, length-packed, unpacked-packed, packed-unpacked}
 
 -- NUMBERS AND THEIR BYTES
 
 word-back : (w : ℕ) → w < 65536 → numberOf (bytesOf 2 w) ≡ w
-word-back w h = omega arith
-
--- six digits, each with what stands before it
-six-digits : (x₀ x₁ x₂ x₃ x₄ x₅ d₁ d₂ d₃ d₄ d₅ : ℕ) → d₁ ≡ 256 * x₀ + x₁ → d₂ ≡ 256 * d₁ + x₂ → d₃ ≡ 256 * d₂ + x₃ → d₄ ≡ 256 * d₃ + x₄ → d₅ ≡ 256 * d₄ + x₅
-    → numberOf (x₀ ∷ x₁ ∷ x₂ ∷ x₃ ∷ x₄ ∷ x₅ ∷ []) ≡ d₅
-six-digits x₀ x₁ x₂ x₃ x₄ x₅ d₁ d₂ d₃ d₄ d₅ e₁ e₂ e₃ e₄ e₅ = omega arith
+word-back w h = bytes-back 2 w h
 
 pub cycle-back : (n : ℕ) → n < 281474976710656 → numberOf (bytesOf 6 n) ≡ n
-cycle-back n h =
-    let top : n / 1099511627776 % 256 ≡ n / 1099511627776 = omega arith in
-    let e₁ : n / 4294967296 ≡ 256 * (n / 1099511627776) + n / 4294967296 % 256 = omega arith in
-    let e₂ : n / 16777216 ≡ 256 * (n / 4294967296) + n / 16777216 % 256 = omega arith in
-    let e₃ : n / 65536 ≡ 256 * (n / 16777216) + n / 65536 % 256 = omega arith in
-    let e₄ : n / 256 ≡ 256 * (n / 65536) + n / 256 % 256 = omega arith in
-    let one : n / 1 ≡ n = omega arith in
-    let e₅ : n ≡ 256 * (n / 256) + n % 256 = omega arith in
-    rw (top, one)
-    (six-digits (n / 1099511627776) (n / 4294967296 % 256) (n / 16777216 % 256) (n / 65536 % 256) (n / 256 % 256) (n % 256) _ _ _ _ _ e₁ e₂ e₃ e₄ e₅)
+cycle-back n h = bytes-back 6 n h
 
 word-bytes : (a b : ℕ) → a < 256 → b < 256 → bytesOf 2 (numberOf (a ∷ b ∷ [])) ≡ a ∷ b ∷ []
 word-bytes a b p q =

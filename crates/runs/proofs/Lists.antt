@@ -17,7 +17,7 @@ use Rattle.runs.proofs.Cut.{firstStop, joined, unbroken-cut, same-stop}
 use Rattle.runs.proofs.Calls.{Fit, run-fit, fit-run, fit-save, by-number, changes-nothing, run-same, restore-same}
 
 -- what holds of all holds of each
-each : {A : Type 0} (P : A → Type 0) → ((a : A) → P a) → (l : List A) → Each P l
+pub each : {A : Type 0} (P : A → Type 0) → ((a : A) → P a) → (l : List A) → Each P l
 each P h [] = tt
 each P h (a ∷ rest) = (h a, each P h rest)
 
@@ -49,6 +49,10 @@ module _ {S : Type 0} (M : Machine S) where
       go : (k : ℕ) → refusal M c ≡ k → AllTaken (notRefused M cs) → AllTaken (keep k c (notRefused M cs))
       go zero e h = (e, h)
       go (suc k) e h = h
+
+  -- a call that isn't refused stays
+  pub keeps : (c : Call S) (cs rest : List (Call S)) → refusal M c ≡ 0 → notRefused M cs ≡ rest → notRefused M (c ∷ cs) ≡ c ∷ rest
+  keeps c cs rest e q = ap (λ (k : ℕ). keep k c (notRefused M cs)) e ∙ ap (λ (z : List (Call S)). c ∷ z) q
 
   -- "A refused call counts for nothing"
   counts-nothing : (calls : List (Call S)) → SameCounts (runs M calls) (runs M (notRefused M calls))

@@ -8,15 +8,12 @@ use Rattle.runs.specs.Machine.{Machine}
 use Rattle.runs.specs.TwoRunners.{RestoreAnswer, unbroken, runNumber, saveAnswer, restoreAnswer}
 use Rattle.runs.specs.Refusals.{cycleLimit}
 use Rattle.runs.specs.Laws.{Panel, Laws}
-use Rattle.runs.specs.Lists.{Call, run, save, restore, keep, runAnswer, refusal, notRefused, WrittenBy, Lent, AllGet, asked, EndsAs}
+use Rattle.runs.specs.Lists.{Call, run, save, restore, runAnswer, refusal, notRefused, WrittenBy, Lent, AllGet, asked, EndsAs}
 use Rattle.runs.specs.Lists.{EndsAsOneRun, Slice, slicesAsk, Lendable, sliceCalls, SlicesEndAsOneRun, EveryListOfSlicesEndsAsOneRun}
 use Rattle.runs.proofs.Calls.{fit-run, fit-save, by-number, restore-same}
-use Rattle.runs.proofs.Lists.{advances, lists-end}
+use Rattle.runs.proofs.Lists.{keeps, advances, lists-end}
 
 module _ {S : Type 0} (M : Machine S) (L : Laws M) (rom sched : List ℕ) (p : Panel M rom sched) where
-  keeps : (c : Call S) (cs rest : List (Call S)) → refusal M c ≡ 0 → notRefused M cs ≡ rest → notRefused M (c ∷ cs) ≡ c ∷ rest
-  keeps c cs rest e q = ap (λ (k : ℕ). keep k c (notRefused M cs)) e ∙ ap (λ (z : List (Call S)). c ∷ z) q
-
   -- nothing is refused, and each call is given what a list meant gives it
   record RunThrough (s : S) (ps : List Slice) : Type 0 where
     all : notRefused M (sliceCalls M rom sched s ps) ≡ sliceCalls M rom sched s ps
@@ -46,9 +43,9 @@ module _ {S : Type 0} (M : Machine S) (L : Laws M) (rom sched : List ℕ) (p : P
       (omega (arith, x .far, ap (λ (z : S). M .at z) back-state)) (l .1) in
       record {
         all =
-            keeps the-run (the-save ∷ restore bytes ∷ rest) (the-save ∷ restore bytes ∷ rest) (by-number M the-run ∙ ok)
-            (keeps the-save (restore bytes ∷ rest) (restore bytes ∷ rest) save-taken
-            (keeps (restore bytes) rest rest (ap (λ (a : RestoreAnswer S). a .number) back) (ih .all)));
+            keeps M the-run (the-save ∷ restore bytes ∷ rest) (the-save ∷ restore bytes ∷ rest) (by-number M the-run ∙ ok)
+            (keeps M the-save (restore bytes ∷ rest) (restore bytes ∷ rest) save-taken
+            (keeps M (restore bytes) rest rest (ap (λ (a : RestoreAnswer S). a .number) back) (ih .all)));
         given = (lent, (refl, (wrote, ih .given)));
         asks = ap (λ (z : ℕ). slice .n + z) (ih .asks);
       }

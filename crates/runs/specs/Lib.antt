@@ -5,3 +5,4 @@ pub mod Numbers
 pub mod Reports
 pub mod Laws
 pub mod Lists
+pub mod EveryRun

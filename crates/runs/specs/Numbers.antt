@@ -1,5 +1,7 @@
 -- Document 01, "Numbers, by whose hand": the number of each case of an answer. Assumes nothing: these are definitions.
 use Prim.Native.Nat.{ℕ}
+use mathlib.Core.Bool.{Bool, _||_}
+use lib.Dec.{eqb}
 use Rattle.runs.specs.declared.Stop.{Stop}
 use Rattle.runs.specs.declared.Stop.the-variants.{LogFull, RomEnd, NoInstruction}
 use Rattle.runs.specs.declared.Refusal.{Refusal}
@@ -15,6 +17,10 @@ abbrev pub stopNumber : Stop → ℕ
 stopNumber LogFull = 3
 stopNumber RomEnd = 22
 stopNumber NoInstruction = 23
+
+-- "22, 23 and 3, in that order .. are stops": whether a number is a stop's
+abbrev pub isStop : ℕ → Bool
+isStop k = eqb k 3 || eqb k 22 || eqb k 23
 
 -- "1 image buffer under 81 bytes; 2 cycle number + n above 2^48 - 1";
 -- "12 over 40,960 bytes; 11 length no multiple of 10; then by record 13 bad INT or last byte, 14 cycle not above the last";

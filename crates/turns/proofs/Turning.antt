@@ -29,7 +29,7 @@ use Rattle.laws.specs.Valid.{Valid, ValidLines}
 use Rattle.laws.proofs.Sound.{accepted-valid}
 use Rattle.laws.proofs.Lines.{lines-valid}
 use Rattle.laws.proofs.Cycle.{Cycled, cycle-keeps}
-use Rattle.laws.proofs.Stops.{stop-number}
+use Rattle.laws.proofs.Stops.{stop-number, begins-one}
 use Rattle.laws.specs.Stops.{StopNumber}
 use Rattle.laws.proofs.Jump.{jump-within, jump-runs, jump-ticks, jump-in-room, jump-keeps}
 use Rattle.schedule.specs.declared.Cursor.{Cursor}
@@ -409,12 +409,15 @@ module _ {skips : Bool} {rom sched log₀ : List ℕ} {n : ℕ} {s : State} {log
               }
 
   module _ (g : r .stop ≡ 0) where
-    cycled : Cycled t (gone g .to) (gone g .x) (r .begun)
+    cycled : Cycled t (gone g .to) (gone g .x)
     cycled = cycle-keeps rom sched t (gone g .to) (gone g .x) (r .begun) (h .rom-bytes) (h .sched-bytes) (taken h .panel) (h .valid) (below h (k .more)) (gone g .cycle-is)
+
+    one : r .begun ≤ 1
+    one = begins-one rom sched t (gone g .to) (gone g .x) (r .begun) (gone g .cycle-is)
 
     -- one instruction is begun at most, and no more than the log holds is written
     pub counts : (r .begun ≤ 1) × (at + r .bytes ≤ length log₀)
-    counts = (cycled .begun, omega (arith, gone g .bytes-is, gone g .fits, h .place, h .room))
+    counts = (one, omega (arith, gone g .bytes-is, gone g .fits, h .place, h .room))
 
     pub goes-on : (next : Cursor) → Stands sched (t .cycle .0 + 1) next → {t′ : State} → t′ ≡ stateOf (r .core) ram ports (s .cycle .0 + (done + 1))
         → At skips rom sched log₀ n s (putMid at (length log - at) log part) t′ next (at + r .bytes) (done + 1) (begun + r .begun) spared
@@ -445,7 +448,7 @@ module _ {skips : Bool} {rom sched log₀ : List ℕ} {n : ℕ} {s : State} {log
           valid = cycled .valid;
           stands = subst (λ (c : ℕ). Stands sched c next) (omega (arith, cycled .rises)) stands;
           not-past = omega (arith, k .more);
-          few = omega (arith, h .few, cycled .begun);
+          few = omega (arith, h .few, one);
           place = ap₂ _+_ (h .place) (o .bytes-is) ∙ long;
           room = fits;
           size = ap length log-now ∙ length-append (h .w ++ x) (drop (length (h .w ++ x)) log₀) ∙ omega (arith, length-drop (length (h .w ++ x)) log₀, fits);
