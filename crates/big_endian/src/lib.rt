@@ -31,3 +31,18 @@ pub fn put_six(bytes: &mut [u8], n: u64)
     bytes[4] = (n / 256 % 256) as u8;
     bytes[5] = (n % 256) as u8;
 }
+
+// The eight bytes of a number, at the front of what is lent.
+pub fn put_eight(bytes: &mut [u8], n: u64)
+    requires { ⌜ 8 ≤ length (now bytes) ⌝ }
+    ensures { λ _. ⌜ now (bytes .exit) ≡ bytesOf 8 n ++ drop 8 (now (bytes .entry)) ⌝ }
+{
+    bytes[0] = (n / 72057594037927936 % 256) as u8;
+    bytes[1] = (n / 281474976710656 % 256) as u8;
+    bytes[2] = (n / 1099511627776 % 256) as u8;
+    bytes[3] = (n / 4294967296 % 256) as u8;
+    bytes[4] = (n / 16777216 % 256) as u8;
+    bytes[5] = (n / 65536 % 256) as u8;
+    bytes[6] = (n / 256 % 256) as u8;
+    bytes[7] = (n % 256) as u8;
+}
