@@ -1,0 +1,209 @@
+-- What holds of every call of the board. Assumes nothing.
+use mathlib.Core.Path.{_≡_, _∙_, refl, sym, ap, subst}
+use mathlib.Core.Bool.{Bool, true, false, cond}
+use mathlib.Core.List.{List, [], _∷_, append-nil}
+use mathlib.Core.Option.{Option, none, some}
+use Prim.Native.Nat.{ℕ, zero, suc, _^_, _<_}
+use native.Mathlib.Nat.{le-of-eq}
+use native.Mathlib.Omega.{arith}
+use lib.ListN.{length, take, drop-of-length-le}
+use lib.Seq.{take-all}
+use Rattle.runs.specs.Machine.{Machine}
+use Rattle.runs.specs.Refusals.{firstOf, unless}
+use Rattle.runs.specs.Numbers.{isStop}
+use Rattle.runs.specs.TwoRunners.{End, finished, stopped, refused, RunAnswer, SaveAnswer, endWith}
+use Rattle.runs.specs.TwoRunners.{within, strides, runNumber, told, stepwise, plain, skipping, saveAnswer, got, restoreAnswer}
+use Rattle.runs.specs.Laws.{ImageLaws, JumpLaws, NumberLaws, Laws}
+use Rattle.runs.specs.EveryRun.{CountsWithin, NumberTells}
+use Rattle.runs.specs.Lists.{Kind, plainOne, skippingOne, run, restore, refusalOf, runAnswer, WrittenBy}
+use Rattle.runs.proofs.Refusals.{first-at, last-one, passes}
+use Rattle.runs.proofs.Calls.{run-fit, fit-save, by-number, restore-same}
+use Rattle.runs.proofs.EveryRun.{runs-sound, counts-within, numbers-tell}
+use Rattle.upd546.specs.Bytes.{numberAt}
+use Rattle.laws.proofs.Digits.{bytes-back}
+use Rattle.calls.specs.Call.{BoardCall, BoardAnswer, kindOf, countBytes, reported, longEnough, onRestored, imageRun, runOf, onReport, callAnswer}
+use Rattle.calls.specs.EveryCall.{refusalWith, refusedReport, callRefusal, callNumber, ChangesNothing, AnswersItsRun}
+use Rattle.calls.specs.EveryCall.{EveryCallRewritesTheImage, EveryReportReadsBack, stop, refusal, endingBy, endingOf, EveryCallsNumberTells}
+use Rattle.calls.proofs.Call.{NoRefusal, ran-answer}
+
+module _ {S : Type 0} (M : Machine S) where
+  -- WHAT REFUSES A CALL
+
+  restored-number : (k : ℕ) (s : S) (kind : Kind) (rom sched log : List ℕ) (n : ℕ)
+      → refusalOf (onRestored M (got M k s .number) (got M k s .state) kind rom sched log n .end) ≡ firstOf (k ∷ runNumber M rom sched s n ∷ [])
+  unfolding firstOf
+  restored-number zero s kind rom sched log n = by-number M (run kind rom sched s log n) ∙ sym (last-one (runNumber M rom sched s n))
+  restored-number (suc k) s kind rom sched log n = refl
+
+  run-number : (c : BoardCall) → refusalOf (runOf M c .end) ≡ firstOf (M .imageNumber (c .image) ∷ runNumber M (c .rom) (c .sched) (M .ofImage (c .image)) (c .n) ∷ [])
+  unfolding imageRun restoreAnswer
+  run-number c = restored-number (M .imageNumber (c .image)) (M .ofImage (c .image)) (kindOf (c .runner)) (c .rom) (c .sched) (c .log) (c .n)
+
+  -- a call is refused where the documents refuse it, and with their number
+  pub call-number : (c : BoardCall) → callRefusal M c ≡ callNumber M c
+  unfolding firstOf
+  call-number c = go (longEnough c)
+    where
+      go : (b : Bool) → refusalWith b (runOf M c .end)
+          ≡ firstOf (unless b 1 ∷ M .imageNumber (c .image) ∷ runNumber M (c .rom) (c .sched) (M .ofImage (c .image)) (c .n) ∷ [])
+      go false = refl
+      go true = run-number c
+
+  -- WHAT A REFUSED CALL LEAVES
+
+  leaves : (c : BoardCall) (b : Bool) (e : End) (a : RunAnswer S) → longEnough c ≡ b → callAnswer M c ≡ onReport M b c e a
+      → ChangesNothing M (refusalWith b e) c
+  leaves c false e a q h = record {
+    number = ap (λ (z : BoardAnswer). z .number) h;
+    image = ap (λ (z : BoardAnswer). z .image) h;
+    log = ap (λ (z : BoardAnswer). z .log) h;
+    report = ap (λ (z : BoardAnswer). z .report) h ∙ ap (λ (b : Bool). refusedReport b (c .report)) (sym q);
+  }
+  leaves c true finished a q h = tt
+  leaves c true (stopped k) a q h = tt
+  leaves c true (refused zero) a q h = tt
+  leaves c true (refused (suc k)) a q h = record {
+    number = ap (λ (z : BoardAnswer). z .number) h;
+    image = ap (λ (z : BoardAnswer). z .image) h;
+    log = ap (λ (z : BoardAnswer). z .log) h;
+    report = ap (λ (z : BoardAnswer). z .report) h ∙ ap (λ (b : Bool). refusedReport b (c .report)) (sym q);
+  }
+
+  pub changes-nothing : (c : BoardCall) → ChangesNothing M (callRefusal M c) c
+  unfolding callAnswer
+  changes-nothing c = leaves c (longEnough c) (runOf M c .end) (runOf M c) refl refl
+
+  -- A CALL THAT ISN'T REFUSED
+
+  -- its image is restored, its run is the run from there, which no number refuses, and it answers that run
+  pub record Through (c : BoardCall) : Type 0 where
+    pub restored : restoreAnswer M (c .image) .number ≡ 0
+    pub same-run : runOf M c ≡ runAnswer M (kindOf (c .runner)) (c .rom) (c .sched) (restoreAnswer M (c .image) .state) (c .log) (c .n)
+    pub run-ok : runNumber M (c .rom) (c .sched) (restoreAnswer M (c .image) .state) (c .n) ≡ 0
+    pub answers : AnswersItsRun M c
+
+  ends : (o : Option ℕ) → NoRefusal (endWith o)
+  ends none = tt
+  ends (some k) = tt
+
+  run-ends : (kind : Kind) (rom sched : List ℕ) (s : S) (log : List ℕ) (n : ℕ) → runNumber M rom sched s n ≡ 0 → NoRefusal (runAnswer M kind rom sched s log n .end)
+  unfolding plain skipping
+  run-ends plainOne rom sched s log n z =
+      let q = stepwise M (within M rom sched (length log) n s) in
+      subst (λ (k : ℕ). NoRefusal (told M k q s log .end)) (sym z) (ends (q .ran .number))
+  run-ends skippingOne rom sched s log n z =
+      let q = strides M rom sched n (length log) n s in
+      subst (λ (k : ℕ). NoRefusal (told M k q s log .end)) (sym z) (ends (q .ran .number))
+
+  pub through : (c : BoardCall) → callRefusal M c ≡ 0 → Through c
+  unfolding imageRun restoreAnswer callAnswer
+  through c h =
+      let z : callNumber M c ≡ 0 = sym (call-number c) ∙ h in
+      let kind : Kind = kindOf (c .runner) in
+      let s : S = restoreAnswer M (c .image) .state in
+      let restored : restoreAnswer M (c .image) .number ≡ 0 = ap (λ (k : ℕ). got M k (M .ofImage (c .image)) .number) (first-at _ z 1) in
+      let same-state : s ≡ M .ofImage (c .image) = ap (λ (k : ℕ). got M k (M .ofImage (c .image)) .state) (first-at _ z 1) in
+      let ok : runNumber M (c .rom) (c .sched) s (c .n) ≡ 0 = ap (λ (t : S). runNumber M (c .rom) (c .sched) t (c .n)) same-state ∙ first-at _ z 2 in
+      let same : runOf M c ≡ runAnswer M kind (c .rom) (c .sched) s (c .log) (c .n)
+      = ap (λ (k : ℕ). onRestored M k s kind (c .rom) (c .sched) (c .log) (c .n)) restored in
+      let ran : NoRefusal (runOf M c .end)
+      = subst (λ (a : RunAnswer S). NoRefusal (a .end)) (sym same) (run-ends kind (c .rom) (c .sched) s (c .log) (c .n) ok) in
+      record {
+        restored = restored;
+        same-run = same;
+        run-ok = ok;
+        answers =
+            ap (λ (b : Bool). onReport M b c (runOf M c .end) (runOf M c)) (passes (longEnough c) 0 (first-at _ z 0))
+            ∙ ran-answer M c (runOf M c .end) (runOf M c) ran;
+      }
+
+  -- IMAGES
+
+  module _ (L : ImageLaws M) where
+    -- a save over an image
+    pub saves-over : (s : S) (b : List ℕ) → M .stateNumber s ≡ 0 → length b ≡ M .imageLength → saveAnswer M s b ≡ record { number = 0; buffer = M .image s }
+    unfolding saveAnswer
+    saves-over s b v h =
+        rw (fit-save M s b v (le-of-eq (sym h)), drop-of-length-le b (le-of-eq h), append-nil (M .image s))
+
+    pub written : (s : S) → M .stateNumber s ≡ 0 → WrittenBy M s (M .image s)
+    written s v =
+        let over = saves-over s (M .image s) v (L .image-length s v) in
+        record {
+          buffer = M .image s;
+          done = ap (λ (a : SaveAnswer). a .number) over;
+          same =
+              sym (take-all (M .imageLength) (M .image s) (le-of-eq (L .image-length s v)))
+              ∙ ap (λ (a : SaveAnswer). take (M .imageLength) (a .buffer)) (sym over);
+        }
+
+    -- the image of an accepted state is restored to that state
+    pub back : (s : S) (image : List ℕ) → M .stateNumber s ≡ 0 → image ≡ M .image s → restoreAnswer M image ≡ record { number = 0; state = s }
+    back s image v e = restore-same M L s image (subst (λ (i : List ℕ). WrittenBy M s i) (sym e) (written s v))
+
+-- "a finish or a stop rewrites it"
+pub call-rewrites : {S : Type 0} (M : Machine S) → Laws M → EveryCallRewritesTheImage M
+call-rewrites {S} M L c br bs long h =
+    let t = through M c h in
+    let s : S = restoreAnswer M (c .image) .state in
+    let kind : Kind = kindOf (c .runner) in
+    let f = run-fit M (c .rom) (c .sched) s (c .n) (t .run-ok) in
+    let sound : M .stateNumber (runOf M c .state) ≡ 0
+    = ap (λ (a : RunAnswer S). M .stateNumber (a .state)) (t .same-run) ∙ runs-sound M L kind (c .rom) (c .sched) s (c .log) (c .n) br bs (f .state) in
+    let over = saves-over M (L .images) (runOf M c .state) (c .image) sound long in
+    let left : callAnswer M c .image ≡ M .image (runOf M c .state)
+    = ap (λ (z : BoardAnswer). z .image) (t .answers) ∙ ap (λ (z : SaveAnswer). z .buffer) over in
+    record {
+      saved = ap (λ (z : SaveAnswer). z .number) over;
+      image = left;
+      restores = back M (L .images) (runOf M c .state) (callAnswer M c .image) sound left;
+    }
+
+-- THE COUNTS IN THE REPORT
+
+pub reports-read-back : {S : Type 0} (M : Machine S) → Laws M → EveryReportReadsBack M
+reports-read-back {S} M L c small h =
+    let t = through M c h in
+    let s : S = restoreAnswer M (c .image) .state in
+    let a : RunAnswer S = runOf M c in
+    let f = run-fit M (c .rom) (c .sched) s (c .n) (t .run-ok) in
+    let w : CountsWithin (c .log) (c .n) a
+    = subst (CountsWithin (c .log) (c .n)) (sym (t .same-run)) (counts-within M L (kindOf (c .runner)) (c .rom) (c .sched) s (c .log) (c .n)) in
+    let told : callAnswer M c .report ≡ reported (countBytes (a .cycles) (a .begun) (a .written) (a .steps)) (c .report)
+    = ap (λ (z : BoardAnswer). z .report) (t .answers) in
+    let cycles : a .cycles < 256 ^ 8 = omega (arith, w .cycles, f .limit) in
+    let begun : a .begun < 256 ^ 8 = omega (arith, w .begun, cycles) in
+    let written : a .written < 256 ^ 8 = omega (arith, w .written, small) in
+    let steps : a .steps < 256 ^ 8 = omega (arith, w .steps, cycles) in
+    record {
+      cycles = ap (λ (l : List ℕ). numberAt l 0 8) told ∙ bytes-back 8 (a .cycles) cycles;
+      begun = ap (λ (l : List ℕ). numberAt l 8 8) told ∙ bytes-back 8 (a .begun) begun;
+      written = ap (λ (l : List ℕ). numberAt l 16 8) told ∙ bytes-back 8 (a .written) written;
+      steps = ap (λ (l : List ℕ). numberAt l 24 8) told ∙ bytes-back 8 (a .steps) steps;
+    }
+
+-- WHAT THE NUMBER TELLS
+
+module _ {S : Type 0} (M : Machine S) where
+  restored-tells : JumpLaws M → NumberLaws M → (k : ℕ) (s : S) (kind : Kind) (rom sched log : List ℕ) (n : ℕ) → isStop k ≡ false
+      → NumberTells (onRestored M k s kind rom sched log n .end)
+  restored-tells J N zero s kind rom sched log n h = numbers-tell M J N kind rom sched s log n
+  restored-tells J N (suc k) s kind rom sched log n h = h
+
+  run-tells : JumpLaws M → NumberLaws M → (c : BoardCall) → NumberTells (runOf M c .end)
+  unfolding imageRun
+  run-tells J N c =
+      restored-tells J N (restoreAnswer M (c .image) .number) (restoreAnswer M (c .image) .state) (kindOf (c .runner)) (c .rom) (c .sched) (c .log) (c .n)
+      (ap isStop (by-number M (restore (c .image))) ∙ N .images (c .image))
+
+  ending-told : (c : BoardCall) (b : Bool) (e : End) (a : RunAnswer S) → NumberTells e → endingBy (onReport M b c e a .number) ≡ endingOf b e
+  ending-told c false e a h = refl
+  ending-told c true finished a h = refl
+  ending-told c true (stopped zero) a h = cc
+  ending-told c true (stopped (suc k)) a h = ap (λ (t : Bool). cond t stop refusal) h
+  ending-told c true (refused zero) a h = absurd h
+  ending-told c true (refused (suc k)) a h = ap (λ (t : Bool). cond t stop refusal) h
+
+  pub call-tells : JumpLaws M → NumberLaws M → EveryCallsNumberTells M
+  unfolding callAnswer
+  call-tells J N c = ending-told c (longEnough c) (runOf M c .end) (runOf M c) (run-tells J N c)
