@@ -18,7 +18,7 @@ use Rattle.laws.proofs.Demand3.{every-list}
 use Rattle.witness.specs.Calls.{rom, cut, kept, calls, carriedOut, ListFigures}
 use Rattle.witness.proofs.Opened.{opened}
 
-panel : Panel upd546 rom []
+pub panel : Panel upd546 rom []
 unfolding opened
 panel = record { rom-bytes = below-all 256 rom (lit< tt) refl; sched-bytes = λ i. lit< tt; not-refused = refl }
 
@@ -41,11 +41,11 @@ one-run : EndsAsOneRun upd546 rom [] fresh calls
 one-run = every-list rom [] fresh calls panel sound meant
 
 -- a stop is no finish
-a-stop : (k : ℕ) → some k ≡ none → ⊥
+pub a-stop : (k : ℕ) → some k ≡ none → ⊥
 a-stop k e = let z : _≡_ {A = ℕ} 0 1 = cc in omega arith
 
 -- stops that have the number of the unbroken run, which is 23
-all-23 : (l : List (RunAnswer State)) → StopsHave (some 23) l → Each (λ a. (k : ℕ) → a .end ≡ stopped k → k ≡ 23) l
+pub all-23 : (l : List (RunAnswer State)) → StopsHave (some 23) l → Each (λ a. (k : ℕ) → a .end ≡ stopped k → k ≡ 23) l
 all-23 [] h = tt
 all-23 (a ∷ l) h = (λ k e. let same = h .0 k e in cc, all-23 l (h .1))
 

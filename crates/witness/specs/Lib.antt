@@ -4,3 +4,4 @@ pub mod Images
 pub mod Records
 pub mod Day
 pub mod Waits
+pub mod Board
