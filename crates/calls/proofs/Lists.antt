@@ -12,7 +12,7 @@ use Rattle.runs.specs.Machine.{Machine}
 use Rattle.runs.specs.Refusals.{cycleLimit, unless}
 use Rattle.runs.specs.TwoRunners.{RunAnswer, SaveAnswer, unbroken, runNumber, saveAnswer, restoreAnswer}
 use Rattle.runs.specs.Laws.{Panel, Laws}
-use Rattle.runs.specs.Lists.{Kind, Call, run, save, restore, Each, runAnswer, refusal, notRefused, last, WrittenBy, Lent, AllGet}
+use Rattle.runs.specs.Lists.{Kind, Call, run, save, restore, Each, runAnswer, notRefused, last, WrittenBy, Lent, AllGet}
 use Rattle.runs.specs.Lists.{runs, joinedLog, cycleTotal, begunTotal, AllFinish, StopsHave, asked, EndsAs, GoesOn, EndsAsOneRun}
 use Rattle.runs.proofs.Refusals.{first-past, last-one}
 use Rattle.runs.proofs.Calls.{by-number}
@@ -41,7 +41,7 @@ module _ {S : Type 0} (M : Machine S) (L : Laws M) (rom sched : List ℕ) (p : P
   record RunThrough (held : S) (cs : List BoardCall) : Type 0 where
     all : notRefused M (slicesOf M cs) ≡ slicesOf M cs
     given : AllGet M rom sched held (slicesOf M cs)
-    asks : asked M (slicesOf M cs) ≡ callsAsk M cs
+    asks : asked M (slicesOf M cs) ≡ callsAsk cs
     same-runs : runs M (slicesOf M cs) ≡ callRuns M cs
     image : imageAfter M (M .image held) cs ≡ M .image (last M held (slicesOf M cs))
     sound : M .stateNumber (last M held (slicesOf M cs)) ≡ 0
@@ -59,7 +59,7 @@ module _ {S : Type 0} (M : Machine S) (L : Laws M) (rom sched : List ℕ) (p : P
       let y = through M c (t .0) in
       let the-run : Call S = run kind (c .rom) (c .sched) from (c .log) (c .n) in
       let lent : Lent M rom sched from (c .rom) (c .sched) from (c .log) (c .n) =
-      record { same-rom = g .0 .same-rom; same-sched = g .0 .same-sched; same-state = refl; room = g .0 .room } in
+      record { same-rom = g .0 .lent .same-rom; same-sched = g .0 .lent .same-sched; same-state = refl; room = g .0 .lent .room } in
       let x = advances M L rom sched p from kind (c .rom) (c .sched) from (c .log) (c .n) lent (y .run-ok) in
       let long : length (c .image) ≡ M .imageLength = ap length (g .0 .same-image) ∙ L .images .image-length held v in
       let over : saveAnswer M (a .state) (c .image) ≡ record { number = 0; buffer = M .image (a .state) } = saves-over M (L .images) (a .state) (c .image) (x .sound) long in
@@ -89,13 +89,13 @@ module _ {S : Type 0} (M : Machine S) (L : Laws M) (rom sched : List ℕ) (p : P
     stands : EndsAsOneRun M rom sched s (slicesOf M cs)
     stands = lists-end M L rom sched s (slicesOf M cs) p v (subst (λ (z : List (Call S)). AllGet M rom sched s z) (sym (r .all)) (r .given))
 
-    ends : CallsEndAs M s cs (unbroken M rom sched (callsAsk M cs) s)
+    ends : CallsEndAs M s cs (unbroken M rom sched (callsAsk cs) s)
     ends =
         let whole : EndsAs M s (slicesOf M cs) (unbroken M rom sched (asked M (slicesOf M cs)) s)
         = subst (λ (z : List (Call S)). EndsAs M s z (unbroken M rom sched (asked M z) s)) (r .all) (stands .ends) in
-        let e : EndsAs M s (slicesOf M cs) (unbroken M rom sched (callsAsk M cs) s)
+        let e : EndsAs M s (slicesOf M cs) (unbroken M rom sched (callsAsk cs) s)
         = subst (λ (z : ℕ). EndsAs M s (slicesOf M cs) (unbroken M rom sched z s)) (r .asks) whole in
-        let u = unbroken M rom sched (callsAsk M cs) s in
+        let u = unbroken M rom sched (callsAsk cs) s in
         let image : imageAfter M (M .image s) cs ≡ M .image (u .state) = r .image ∙ ap (λ (t : S). M .image t) (e .state) in
         let sound : M .stateNumber (u .state) ≡ 0 = sym (ap (λ (t : S). M .stateNumber t) (e .state)) ∙ r .sound in
         record {
@@ -108,8 +108,8 @@ module _ {S : Type 0} (M : Machine S) (L : Laws M) (rom sched : List ℕ) (p : P
           stops = subst (λ (z : List (RunAnswer S)). StopsHave (u .number) z) (r .same-runs) (e .stops);
         }
 
-    goes-on : (c : BoardCall) → CallLent M rom sched (imageAfter M (M .image s) cs) c → reportLength ≤ length (c .report)
-        → M .at s + (callsAsk M cs + c .n) ≤ cycleLimit → callRefusal M c ≡ 0
+    goes-on : (c : BoardCall) → CallLent rom sched (imageAfter M (M .image s) cs) c → reportLength ≤ length (c .report)
+        → M .at s + (callsAsk cs + c .n) ≤ cycleLimit → callRefusal M c ≡ 0
     goes-on c l h limit =
         let held : S = last M s (slicesOf M cs) in
         let kind : Kind = kindOf (c .runner) in
@@ -119,7 +119,7 @@ module _ {S : Type 0} (M : Machine S) (L : Laws M) (rom sched : List ℕ) (p : P
         let on = subst (λ (z : List (Call S)). GoesOn M rom sched (M .at s) (asked M z) (last M s z)) (r .all) (stands .goes-on) in
         let next : runNumber M rom sched held (c .n) ≡ 0
         = sym (by-number M (run kind rom sched held (c .log) (c .n))) ∙ on .next-run kind (c .log) (c .n) (omega (arith, r .asks)) in
-        let run-ok : runNumber M (c .rom) (c .sched) (M .ofImage (c .image)) (c .n) ≡ 0 = rw (l .same-rom, l .same-sched, state) next in
+        let run-ok : runNumber M (c .rom) (c .sched) (M .ofImage (c .image)) (c .n) ≡ 0 = rw (l .lent .same-rom, l .lent .same-sched, state) next in
         call-number M c
         ∙ first-past _ _ (ap (λ (b : Bool). unless b 1) (le-leb reportLength (length (c .report)) h))
         ∙ first-past _ _ accepted
@@ -163,9 +163,7 @@ module _ {S : Type 0} (M : Machine S) (rom sched : List ℕ) where
       go : OneImage (callAnswer M c .image) rest → (k : ℕ) → callRefusal M c ≡ k → ChangesNothing M k c → OneImage image (c ∷ rest)
       go ih zero e q =
           let kept : callsNotRefused M (c ∷ rest) ≡ c ∷ callsNotRefused M rest = ap (λ (k : ℕ). keepCall k c (callsNotRefused M rest)) e in
-          let lent = h .0 e in
-          let all : OnOneImage M rom sched image (c ∷ callsNotRefused M rest) =
-          (record { same-image = refl; same-rom = lent .same-rom; same-sched = lent .same-sched; room = lent .room }, ih .given) in
+          let all : OnOneImage M rom sched image (c ∷ callsNotRefused M rest) = (record { same-image = refl; lent = h .0 e }, ih .given) in
           record {
             given = subst (λ (z : List BoardCall). OnOneImage M rom sched image z) (sym kept) all;
             same = ih .same ∙ ap (λ (z : List BoardCall). imageAfter M image z) (sym kept);

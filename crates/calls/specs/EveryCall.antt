@@ -8,7 +8,7 @@ use lib.ListN.{length, replicate}
 use Rattle.runs.specs.Machine.{Machine}
 use Rattle.runs.specs.Refusals.{firstOf, unless}
 use Rattle.runs.specs.Numbers.{isStop}
-use Rattle.runs.specs.TwoRunners.{End, finished, stopped, refused, RunAnswer, runNumber, saveAnswer, restoreAnswer}
+use Rattle.runs.specs.TwoRunners.{End, finished, stopped, refused, runNumber, saveAnswer, restoreAnswer}
 use Rattle.runs.specs.Laws.{Bytes}
 use Rattle.runs.specs.Lists.{refusalOf}
 use Rattle.upd546.specs.Bytes.{numberAt}

@@ -12,9 +12,25 @@ use Rattle.runs.specs.TwoRunners.{logBound, RunAnswer, Ran, unbroken, restoreAn
 use Rattle.runs.specs.Laws.{Panel}
 use Rattle.runs.specs.Lists.{Call, run, save, restore, Each, runAnswer, notRefused, joinedLog, cycleTotal, begunTotal, AllFinish, StopsHave, EndsAsOneRun}
 use Rattle.calls.specs.Call.{BoardCall, kindOf, reportLength, runOf, callAnswer}
-use Rattle.calls.specs.EveryCall.{callRefusal, callNumber, ChangesNothing, AnswersItsRun, Rewrites, ReadsBack}
+use Rattle.calls.specs.EveryCall.{callRefusal, callNumber, ChangesNothing, AnswersItsRun, ReadsBack}
 
 -- THE LISTS MEANT
+
+-- "Every run not refused is lent the panel's ROM and schedule", and "a log of at least 8n + 8 bytes" (demand 3)
+pub record PanelLent (rom sched : List ℕ) (c : BoardCall) : Type 0 where
+  pub same-rom : c .rom ≡ rom
+  pub same-sched : c .sched ≡ sched
+  pub room : logBound (c .n) ≤ length (c .log)
+
+-- the same of a call on this image
+pub record CallLent (rom sched image : List ℕ) (c : BoardCall) : Type 0 where
+  pub same-image : c .image ≡ image
+  pub lent : PanelLent rom sched c
+
+-- "N machine cycles, the sum of what the runs not refused are asked for" (demand 3), of such calls
+abbrev pub callsAsk : List BoardCall → ℕ
+callsAsk [] = 0
+callsAsk (c ∷ cs) = c .n + callsAsk cs
 
 -- a call before others, dropped where it is refused
 abbrev pub keepCall : ℕ → BoardCall → List BoardCall → List BoardCall
@@ -32,24 +48,12 @@ module _ {S : Type 0} (M : Machine S) where
   imageAfter image [] = image
   imageAfter image (c ∷ cs) = imageAfter (callAnswer M c .image) cs
 
-  -- A call on this image, lent the panel's ROM and schedule and "a log of at least 8n + 8 bytes" (demand 3).
-  pub record CallLent (rom sched image : List ℕ) (c : BoardCall) : Type 0 where
-    pub same-image : c .image ≡ image
-    pub same-rom : c .rom ≡ rom
-    pub same-sched : c .sched ≡ sched
-    pub room : logBound (c .n) ≤ length (c .log)
-
   -- "on one image": each call is given what the one before it left
   abbrev pub OnOneImage : (rom sched image : List ℕ) → List BoardCall → Type 0
   OnOneImage rom sched image [] = Unit {0}
   OnOneImage rom sched image (c ∷ cs) = CallLent rom sched image c × OnOneImage rom sched (callAnswer M c .image) cs
 
   -- HOW A LIST ENDS
-
-  -- "N machine cycles, the sum of what the runs not refused are asked for" (demand 3), of such calls
-  abbrev pub callsAsk : List BoardCall → ℕ
-  callsAsk [] = 0
-  callsAsk (c ∷ cs) = c .n + callsAsk cs
 
   -- what the runs of the calls answer, in list order
   abbrev pub callRuns : List BoardCall → List (RunAnswer S)
@@ -120,12 +124,7 @@ module _ {S : Type 0} (M : Machine S) where
   onImage image [] = []
   onImage image (l ∷ ls) = callOn image l ∷ onImage (callAnswer M (callOn image l) .image) ls
 
-  -- "Every run not refused is lent the panel's ROM and schedule", and a log of at least 8n + 8 bytes
-  pub record PanelLent (rom sched : List ℕ) (c : BoardCall) : Type 0 where
-    pub same-rom : c .rom ≡ rom
-    pub same-sched : c .sched ≡ sched
-    pub room : logBound (c .n) ≤ length (c .log)
-
+  -- those not refused are lent the panel
   abbrev pub LentUnlessRefused : (rom sched : List ℕ) → List BoardCall → Type 0
   LentUnlessRefused rom sched = Each (λ c. callRefusal M c ≡ 0 → PanelLent rom sched c)
 
@@ -133,7 +132,7 @@ module _ {S : Type 0} (M : Machine S) where
   pub record ImageEndsAsOneRun (rom sched : List ℕ) (s : S) (ls : List Lending) : Type 0 where
     pub calls-end : CallsEndAsOneRun M rom sched s (onImage (M .image s) ls)
     pub image : imageAfter M (M .image s) (onImage (M .image s) ls)
-        ≡ M .image (unbroken M rom sched (callsAsk M (callsNotRefused M (onImage (M .image s) ls))) s .state)
+        ≡ M .image (unbroken M rom sched (callsAsk (callsNotRefused M (onImage (M .image s) ls))) s .state)
 
   abbrev pub EveryImageEndsAsOneRun : Type 0
   EveryImageEndsAsOneRun =

@@ -1,11 +1,11 @@
 -- The figures of the board's calls, clause by clause from the theorems. Assumes nothing.
 use mathlib.Core.Path.{_≡_, refl, sym, ap, ap₂}
 use mathlib.Core.List.{List, [], _∷_, map}
-use Prim.Native.Nat.{ℕ, suc}
+use Prim.Native.Nat.{ℕ, suc, _≤_}
 use native.Mathlib.Omega.{arith}
 use lib.Dec.{lit<, lit≤}
 use lib.ListN.{length}
-use Rattle.runs.specs.TwoRunners.{RestoreAnswer, restoreAnswer}
+use Rattle.runs.specs.TwoRunners.{logBound, RestoreAnswer, restoreAnswer}
 use Rattle.runs.specs.Lists.{Each}
 use Rattle.upd546.specs.declared.State.{State}
 use Rattle.upd546.specs.TheMachine.{fresh}
@@ -14,7 +14,7 @@ use Rattle.upd546.specs.TwoRunners.{upd546}
 use Rattle.laws.proofs.Lists.{below-all}
 use Rattle.calls.specs.Call.{BoardCall, BoardAnswer, longEnough, imageRun, callAnswer}
 use Rattle.calls.specs.EveryCall.{refusedReport, callRefusal, callNumber, Refuses, Rewrites}
-use Rattle.calls.specs.Lists.{callsNotRefused, OnOneImage, callRuns, CallsEndAsOneRun, callOn, onImage, LentUnlessRefused, ImageEndsAsOneRun}
+use Rattle.calls.specs.Lists.{PanelLent, callsNotRefused, OnOneImage, callRuns, CallsEndAsOneRun, callOn, onImage, LentUnlessRefused, ImageEndsAsOneRun}
 use Rattle.calls.proofs.Chip.{every-finish-or-stop-rewrites, every-calls-number-tells, every-list-of-calls, every-accepted-image}
 use Rattle.witness.specs.Calls.{rom, wantedImage}
 use Rattle.witness.specs.Board.{first, second, shortReport, badRom, start, between, onOther, calls, carriedOut, lendings, last, left, BoardFigures}
@@ -26,11 +26,15 @@ unfoldable called : Unit {0}
 unfolding opened imageRun callAnswer
 called = tt
 
+-- a call that is lent the panel
+on-panel : (c : BoardCall) → c .rom ≡ rom → c .sched ≡ [] → logBound (c .n) ≤ length (c .log) → PanelLent rom [] c
+on-panel c same-rom same-sched room = record { same-rom = same-rom; same-sched = same-sched; room = room }
+
 meant : OnOneImage upd546 rom [] start (callsNotRefused upd546 calls)
 unfolding called
 meant = (
-  record { same-image = refl; same-rom = refl; same-sched = refl; room = lit≤ tt },
-  (record { same-image = refl; same-rom = refl; same-sched = refl; room = lit≤ tt }, tt),
+  record { same-image = refl; lent = on-panel (callOn start first) refl refl (lit≤ tt) },
+  (record { same-image = refl; lent = on-panel (callOn between second) refl refl (lit≤ tt) }, tt),
 )
 
 -- THE POWER-OFF GUARANTEE, of this list
@@ -45,14 +49,8 @@ a-number e = omega arith
 lent : LentUnlessRefused upd546 rom [] (onImage upd546 start lendings)
 unfolding called
 lent = (
-  λ e. record { same-rom = refl; same-sched = refl; room = lit≤ tt },
-  (
-    λ e. absurd (a-number e),
-    (
-      λ e. absurd (a-number e),
-      (λ e. record { same-rom = refl; same-sched = refl; room = lit≤ tt }, tt),
-    ),
-  ),
+  λ e. on-panel (callOn start first) refl refl (lit≤ tt),
+  (λ e. absurd (a-number e), (λ e. absurd (a-number e), (λ e. on-panel (callOn between second) refl refl (lit≤ tt), tt))),
 )
 
 on-one-image : (start ≡ imageOf (restoreAnswer upd546 start .state)) × ImageEndsAsOneRun upd546 rom [] (restoreAnswer upd546 start .state) lendings
@@ -96,7 +94,7 @@ figures = record {
   by-1 = whole 1 (callOn between shortReport) (one-run .unchanged .1 .1 .0);
   by-21 = whole 21 (callOn between badRom) (one-run .unchanged .1 .1 .1 .0);
   next =
-      one-run .goes-on (callOn wantedImage last) (record { same-image = sym (one-run .ends .image); same-rom = refl; same-sched = refl; room = lit≤ tt }) (lit≤ tt)
+      one-run .goes-on (callOn wantedImage last) (record { same-image = sym (one-run .ends .image); lent = on-panel (callOn wantedImage last) refl refl (lit≤ tt) }) (lit≤ tt)
       (lit≤ tt);
   saved = rewrites .saved;
   owed-kept = ap (λ (r : RestoreAnswer State). r .state .core .owed) (rewrites .restores);

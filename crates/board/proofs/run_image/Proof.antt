@@ -2,7 +2,7 @@
 use mathlib.Core.Path.{_∙_, sym, ap}
 use denote.Ref.{now}
 use Rattle.runs.specs.declared.Outcome.{Outcome}
-use Rattle.runs.specs.Numbers.{refusalNumber, outcomeNumber}
+use Rattle.runs.specs.Numbers.{refusalNumber}
 use Rattle.upd546.specs.TwoRunners.{upd546, restoreOf}
 use Rattle.runs.specs.Lists.{Kind, runAnswer}
 use Rattle.calls.specs.Call.{kindOf}
