@@ -1,8 +1,9 @@
 //! A reference interpreter of the uPD546 as document 01 defines it: one machine cycle after the
-//! other, on a state that is changed in place. `waiting` is request R-1 of document 02. `case`,
-//! `codes`, `draw`, `maker`, `mnemonics` and `show` are no part of either: what the programs that make
-//! trials share, and the tests.
+//! other, on a state that is changed in place. `waiting` and `call` are requests of document
+//! 02. `case`, `codes`, `draw`, `maker`, `mnemonics` and `show` are no part of either: what the programs
+//! that make trials share, and the tests.
 
+pub mod call;
 pub mod case;
 pub mod codes;
 pub mod draw;

@@ -4,7 +4,7 @@
 pub const FINISHED: u8 = 0;
 
 // The caller.
-/// Refusal: image buffer under 81 bytes.
+/// Refusal: image buffer under 81 bytes; of request R-3's call, a report under 32 bytes.
 pub const SHORT_BUFFER: u8 = 1;
 /// Refusal: cycle number + n above 2^48 - 1.
 pub const CYCLE_LIMIT: u8 = 2;
