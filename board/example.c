@@ -1,0 +1,105 @@
+/* A board's program in small: the call lamp of samples/lamp.panel in slices of 50 machine cycles, with the building switched off after each
+   of them; a panel that stops; and what a damaged image answers. example.out has what it prints. */
+#include <inttypes.h>
+#include <stdio.h>
+#include <string.h>
+#include "wharfnettle.h"
+
+enum { CYCLES = 200, SLICE = 50 };
+
+/* samples/make tells this ROM and its schedule: bit 0 of port A is the button, bit 1 says that the car is here, bit 0 of port E is the
+   lamp. The rest of the ROM is NOPs. */
+static const uint8_t lamp_rom[WHARFNETTLE_ROM] = {0x54, 0xC3, 0x74, 0x55, 0xC0, 0x64, 0xC0};
+
+/* The button is pressed at cycle 20 and let go at 26; the car comes at 100 and leaves at 106. INT is high throughout. */
+static const uint8_t lamp_schedule[] = {
+    0, 0, 0, 0, 0, 20,  0x10, 0, 1, 0,
+    0, 0, 0, 0, 0, 26,  0x00, 0, 1, 0,
+    0, 0, 0, 0, 0, 100, 0x20, 0, 1, 0,
+    0, 0, 0, 0, 0, 106, 0x00, 0, 1, 0,
+};
+
+/* OCD A5, LI 3, OE, and code 1C, which is no instruction. */
+static const uint8_t stopping_rom[WHARFNETTLE_ROM] = {0x1E, 0xA5, 0x93, 0x44, 0x1C};
+
+/* The records of a call, and its counts. */
+static void print_call(const uint8_t *log, const uint8_t *report, uint8_t number)
+{
+    uint64_t bytes = wharfnettle_count(report, WHARFNETTLE_LOG_BYTES);
+    for (const uint8_t *record = log; record < log + bytes; record += 8) {
+        uint64_t cycle = 0;
+        for (int k = 0; k < 6; k++)
+            cycle = cycle << 8 | record[k];
+        printf("  cycle %" PRIu64 ": port %c = %X\n", cycle, 'A' + record[6], record[7]);
+    }
+    printf("  number %d: cycles %" PRIu64 ", instructions %" PRIu64 ", log bytes %" PRIu64 ", steps %" PRIu64 "\n", number,
+           wharfnettle_count(report, WHARFNETTLE_CYCLES), wharfnettle_count(report, WHARFNETTLE_INSTRUCTIONS), bytes,
+           wharfnettle_count(report, WHARFNETTLE_STEPS));
+}
+
+/* The panel in slices. Only `kept` outlasts a switch-off. */
+static void slices(void)
+{
+    uint8_t kept[WHARFNETTLE_IMAGE];
+    uint64_t instructions = 0;
+    wharfnettle_fresh(kept, sizeof kept);
+    for (unsigned done = 0; done < CYCLES; done += SLICE) {
+        uint8_t image[WHARFNETTLE_IMAGE], log[WHARFNETTLE_LOG(SLICE)], report[WHARFNETTLE_REPORT];
+        memcpy(image, kept, sizeof image);
+        /* the plain runner and the timer-skipping one in turn: it makes no difference */
+        uint8_t number = wharfnettle_call(image, sizeof image, lamp_rom, sizeof lamp_rom, lamp_schedule, sizeof lamp_schedule,
+                                          log, sizeof log, SLICE, done / SLICE % 2, report, sizeof report);
+        printf("slice from cycle %u\n", done);
+        print_call(log, report, number);
+        instructions += wharfnettle_count(report, WHARFNETTLE_INSTRUCTIONS);
+        memcpy(kept, image, sizeof kept);
+    }
+    printf("instructions of all slices: %" PRIu64 "\n", instructions);
+
+    /* One unbroken call ends with the same image. */
+    uint8_t image[WHARFNETTLE_IMAGE], log[WHARFNETTLE_LOG(CYCLES)], report[WHARFNETTLE_REPORT];
+    wharfnettle_fresh(image, sizeof image);
+    uint8_t number = wharfnettle_call(image, sizeof image, lamp_rom, sizeof lamp_rom, lamp_schedule, sizeof lamp_schedule,
+                                      log, sizeof log, CYCLES, 0, report, sizeof report);
+    printf("unbroken\n");
+    print_call(log, report, number);
+    printf("the images are %s\n", memcmp(image, kept, sizeof image) ? "NOT the same" : "the same");
+}
+
+/* A panel that stops for want of log, goes on with a new one, and stops at a code that is no instruction. */
+static void stops(void)
+{
+    uint8_t image[WHARFNETTLE_IMAGE], log[20], report[WHARFNETTLE_REPORT];
+    wharfnettle_fresh(image, sizeof image);
+    for (int k = 0; k < 3; k++) {
+        uint8_t number = wharfnettle_call(image, sizeof image, stopping_rom, sizeof stopping_rom, NULL, 0, log, sizeof log, 10, 0,
+                                          report, sizeof report);
+        printf("a log of 20 bytes\n");
+        print_call(log, report, number);
+    }
+}
+
+/* What a call answers with an image of this length in which a byte was changed, and whether it left the image alone. */
+static void damaged(const char *what, size_t length, size_t at, uint8_t byte)
+{
+    uint8_t image[WHARFNETTLE_IMAGE + 1] = {0}, before[WHARFNETTLE_IMAGE + 1], report[WHARFNETTLE_REPORT];
+    wharfnettle_fresh(image, sizeof image);
+    image[at] = byte;
+    memcpy(before, image, sizeof image);
+    uint8_t number = wharfnettle_call(image, length, lamp_rom, sizeof lamp_rom, NULL, 0, NULL, 0, 10, 0, report, sizeof report);
+    printf("%s: %s %d, image %s, cycles %" PRIu64 "\n", what, WHARFNETTLE_IS_REFUSAL(number) ? "refused" : "taken", number,
+           memcmp(before, image, sizeof image) ? "changed" : "as it was", wharfnettle_count(report, WHARFNETTLE_CYCLES));
+}
+
+int main(void)
+{
+    slices();
+    stops();
+    damaged("a sound image", 81, 14, 15);
+    damaged("an image of 80 bytes", 80, 14, 15);
+    damaged("an image of 82 bytes", 82, 14, 15);
+    damaged("an image that begins with u43", 81, 0, 'u');
+    damaged("an image of version 2", 81, 4, 2);
+    damaged("an image with an Acc of 16", 81, 14, 16);
+    return 0;
+}

@@ -1,0 +1,116 @@
+/*
+ * Wharfnettle for the board's C program: one call restores a panel from its image, runs it for n machine cycles, and saves it.
+ *
+ * A board keeps three things of a panel: its ROM, its line schedule and its image. The image is the panel itself, 81 bytes. Between two
+ * calls it may stand in a file, and the building may be switched off: slices end as one unbroken run ends, whichever cycles they are cut
+ * at and whichever runner each of them has. example.c makes the calls, keeper.c keeps a panel in files.
+ *
+ *     uint8_t image[WHARFNETTLE_IMAGE], log[WHARFNETTLE_LOG(1000)], report[WHARFNETTLE_REPORT];
+ *     wharfnettle_fresh(image, sizeof image);
+ *     uint8_t number = wharfnettle_call(image, sizeof image, rom, WHARFNETTLE_ROM, schedule, schedule_length,
+ *                                       log, sizeof log, 1000, 1, report, sizeof report);
+ *
+ * Link with libwharfnettle.a, which board/build makes (x86-64 Linux). It needs no other library, not even the C library.
+ */
+#ifndef WHARFNETTLE_H
+#define WHARFNETTLE_H
+
+#include <stddef.h>
+#include <stdint.h>
+
+#ifdef __cplusplus
+extern "C" {
+#endif
+
+/* Lengths in bytes. */
+#define WHARFNETTLE_IMAGE 81          /* exactly, else 31 */
+#define WHARFNETTLE_ROM 2000          /* exactly, else 21 */
+#define WHARFNETTLE_SCHEDULE 40960    /* at most, 4,096 records of 10 bytes, else 12; none is fine */
+#define WHARFNETTLE_REPORT 32         /* at least, else 1 */
+
+/* A log of so many bytes is never too short for n cycles, so 3 isn't answered. */
+#define WHARFNETTLE_LOG(n) (8 * (size_t)(n) + 8)
+
+/*
+ * What the call answers.
+ *
+ *   number   whose hand                  what it says
+ *   0                                    all n cycles are done
+ *   1        the caller                  the report has under 32 bytes; of wharfnettle_fresh, the image has under 81
+ *   2        the caller                  the panel's cycle number and n together pass 2^48 - 1
+ *   3        the caller                  a stop: the log lacks the 8 or 16 bytes of the next instruction
+ *   11       whoever wrote the schedule  its length is no multiple of 10
+ *   12       whoever wrote the schedule  it has over 40,960 bytes
+ *   13       whoever wrote the schedule  a record's INT level isn't 0 or 1, or its last byte isn't 0
+ *   14       whoever wrote the schedule  a record's cycle isn't above the last one's
+ *   21       whoever read the ROM        it hasn't 2,000 bytes
+ *   22       whoever read the ROM        a stop: a byte above address 7CF is needed
+ *   23       whoever read the ROM        a stop: code 1C or 45 is due, which is no instruction
+ *   31       whoever kept the image      it hasn't 81 bytes
+ *   32       whoever kept the image      it doesn't begin with U43
+ *   33       whoever kept the image      its version isn't 1
+ *   34       whoever kept the image      a field is above its width or against its rule
+ *
+ * A stop (3, 22, 23) leaves the panel before the instruction that wasn't begun. Image, log and report are those of the cycles up to
+ * there, and a call may go on: after 3 with a new log, after 22 and 23 it stops at once again.
+ *
+ * The others above 0 are refusals. Image and log stay as they were, and the report has 32 zeros; with 1 it stays as it was. With several
+ * faults the first of this order is answered: 1, 31, 32, 33, 34, 21, 12, 11, then by record 13 and 14, then 2.
+ */
+#define WHARFNETTLE_IS_STOP(number) ((number) == 3 || (number) == 22 || (number) == 23)
+#define WHARFNETTLE_IS_REFUSAL(number) ((number) != 0 && !WHARFNETTLE_IS_STOP(number))
+
+/*
+ * image      read, and written unless the call is refused
+ * rom        read
+ * schedule   read; records of 10 bytes
+ * log        written from its first byte on, records of 8 bytes; bytes past them stay
+ * n          how many machine cycles; 0 is allowed and changes nothing
+ * runner     0 the plain one; any other number the timer-skipping one, which jumps over timer waits and does the same
+ * report     written: cycles, instructions, log bytes and steps of this call, 8 bytes each, big-endian; bytes past the 32 stay.
+ *            Steps tell how much work it was; the other three don't depend on the runner.
+ *
+ * Whatever the bytes and the numbers are, the call returns and does what is written here: that is proved. What it can't see is the
+ * caller's to see to:
+ *
+ *   - each pointer leads to as many bytes as its length says; where the length is 0 it isn't used, and may be NULL;
+ *   - image, log and report overlap neither each other nor rom or schedule;
+ *   - while the call runs nobody else writes any of them, or reads image, log or report;
+ *   - there are 2 KiB of stack.
+ *
+ * The call allocates nothing, calls nothing and keeps nothing, so calls with different buffers may run at the same time. The time that
+ * it takes grows with n and with the schedule, which is checked whole at each call.
+ */
+uint8_t wharfnettle_call(uint8_t *image, size_t image_length,
+                         const uint8_t *rom, size_t rom_length,
+                         const uint8_t *schedule, size_t schedule_length,
+                         uint8_t *log, size_t log_length,
+                         uint64_t n, uint64_t runner,
+                         uint8_t *report, size_t report_length);
+
+/*
+ * Writes the image of a panel that was never run: cycle 0, all zero, INT high. Answers 0; or 1 where the buffer has under 81 bytes, which
+ * then stay as they were. Bytes past the 81 stay.
+ */
+uint8_t wharfnettle_fresh(uint8_t *image, size_t image_length);
+
+/* The counts of a report. */
+enum wharfnettle_count {
+    WHARFNETTLE_CYCLES,
+    WHARFNETTLE_INSTRUCTIONS,
+    WHARFNETTLE_LOG_BYTES,
+    WHARFNETTLE_STEPS
+};
+
+static inline uint64_t wharfnettle_count(const uint8_t *report, enum wharfnettle_count which)
+{
+    uint64_t count = 0;
+    for (int k = 0; k < 8; k++)
+        count = count << 8 | report[8 * (int)which + k];
+    return count;
+}
+
+#ifdef __cplusplus
+}
+#endif
+#endif
