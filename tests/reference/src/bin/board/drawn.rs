@@ -1,0 +1,290 @@
+//! How the calls are drawn. A panel gets some dozens of them, one after the other on its image; most
+//! are sound, and some have a part that is damaged.
+
+use reference::call::fresh;
+use reference::case::{record, Case, FEW_JCP, FEW_JUMPS, INSIDE, NO_STOPS};
+use reference::draw::Draw;
+use reference::{restore, save};
+
+const IMAGE: usize = 81;
+const ROM: usize = 2_000;
+const REPORT: usize = 32;
+const LAST_CYCLE: u64 = (1 << 48) - 1;
+
+/// All that a call is given.
+#[derive(Clone)]
+pub struct Drawn {
+    pub fresh: bool,
+    /// Whether a part of length 0 has a null pointer.
+    pub null: bool,
+    pub image: Vec<u8>,
+    pub rom: Vec<u8>,
+    pub schedule: Vec<u8>,
+    pub log: usize,
+    pub n: u64,
+    pub runner: u64,
+    pub report: usize,
+    pub fill: u8,
+}
+
+/// A panel, and how many calls it still gets.
+pub struct Calls {
+    draw: Draw,
+    image: Vec<u8>,
+    rom: Vec<u8>,
+    schedule: Vec<u8>,
+    left: u64,
+}
+
+impl Calls {
+    pub fn new(seed: u64) -> Calls {
+        Calls {
+            draw: Draw::new(seed.wrapping_add(1)),
+            image: Vec::new(),
+            rom: Vec::new(),
+            schedule: Vec::new(),
+            left: 0,
+        }
+    }
+
+    pub fn next(&mut self) -> Drawn {
+        if self.left == 0 {
+            self.new_panel();
+        }
+        self.left -= 1;
+        let draw = &mut self.draw;
+        let mut drawn = Drawn {
+            fresh: draw.one_in(50),
+            null: draw.one_in(2),
+            image: self.image.clone(),
+            rom: self.rom.clone(),
+            schedule: self.schedule.clone(),
+            log: 0,
+            n: 0,
+            runner: draw.of(&[0, 0, 0, 1, 1, 2, 256, 1 << 32, 1 << 63, u64::MAX]),
+            report: REPORT,
+            fill: draw.byte(),
+        };
+        if drawn.fresh {
+            drawn.image = bytes(draw, 2 * IMAGE as u64 / 3 + 60);
+        }
+        if draw.one_in(12) {
+            drawn.report = draw.below(2 * REPORT as u64 + 1) as usize;
+        }
+        if draw.one_in(6) {
+            damage_image(draw, &mut drawn.image);
+        }
+        if draw.one_in(20) {
+            damage_rom(draw, &mut drawn.rom);
+        }
+        if draw.one_in(8) {
+            damage_schedule(draw, &mut drawn.schedule);
+        }
+        drawn.n = cycles(draw, &drawn.image);
+        drawn.log = log_length(draw, drawn.n);
+        drawn
+    }
+
+    /// What a call answered: the panel goes on from its image, also from one that was changed and is
+    /// still a panel's.
+    pub fn answered(&mut self, drawn: &Drawn, number: u8, image: Vec<u8>) {
+        if !drawn.fresh && matches!(number, 0 | 3 | 22 | 23) {
+            self.image = image;
+        }
+        // A panel that stopped for good gets few calls more.
+        if matches!(number, 22 | 23) && self.draw.one_in(2) {
+            self.left = 0;
+        }
+    }
+
+    fn new_panel(&mut self) {
+        let draw = &mut self.draw;
+        self.left = 1 + draw.below(60);
+        self.rom = rom(draw);
+        self.image = match draw.below(4) {
+            0 if self.image.len() == IMAGE => self.image.clone(),
+            0 | 1 => {
+                let mut image = vec![0; IMAGE];
+                fresh(&mut image);
+                image
+            }
+            _ => {
+                let mut state = draw.state();
+                state.ram.fill_with(|| draw.word());
+                if draw.one_in(8) {
+                    state.pc = 0x7C0 + draw.below(0x40) as u16;
+                }
+                if draw.one_in(16) {
+                    state.cycle = LAST_CYCLE - draw.below(200);
+                }
+                let mut image = vec![0; IMAGE];
+                save(&state, &mut image);
+                image
+            }
+        };
+        self.schedule = schedule(draw, cycle_of(&self.image));
+    }
+}
+
+fn bytes(draw: &mut Draw, below: u64) -> Vec<u8> {
+    (0..draw.below(below)).map(|_| draw.byte()).collect()
+}
+
+/// The cycle number of an image; 0 where it is too short to have one.
+fn cycle_of(image: &[u8]) -> u64 {
+    match image.get(75..IMAGE) {
+        Some(bytes) => bytes.iter().fold(0, |n, &byte| n << 8 | u64::from(byte)),
+        None => 0,
+    }
+}
+
+/// Any bytes; code that lasts; and short loops of a timer and of ports laid over either.
+fn rom(draw: &mut Draw) -> Vec<u8> {
+    let filter = draw.of(&[
+        0,
+        NO_STOPS,
+        NO_STOPS | INSIDE,
+        NO_STOPS | FEW_JCP | INSIDE | FEW_JUMPS,
+    ]);
+    let mut rom = Case::new("").made_rom(draw.seed(), filter).made_rom_bytes();
+    let over: &[u8] = match draw.below(8) {
+        // LDZ 5, STM 3, TTM, JCP 003, CMA, OP, JCP 001.
+        0 => &[0x85, 0x14, 0x83, 0x05, 0xC3, 0x10, 0x0E, 0xC1],
+        // EI, STM 63, TTM, JCP 003, OE, JCP 000.
+        1 => &[0x31, 0x14, 0xBF, 0x05, 0xC3, 0x44, 0xC0],
+        // OCD, INC, NOP, OE, JCP 000.
+        2 => &[0x1E, 0x96, 0x0D, 0x00, 0x44, 0xC0],
+        // IA, OE, EI, JCP 000.
+        3 => &[0x40, 0x44, 0x31, 0xC0],
+        _ => &[],
+    };
+    rom[..over.len()].copy_from_slice(over);
+    rom
+}
+
+/// Records around a cycle and after it, as many as there may be at times.
+fn schedule(draw: &mut Draw, around: u64) -> Vec<u8> {
+    let records = match draw.below(40) {
+        0 => 4_096,
+        1..=9 => 0,
+        10..=19 => draw.below(60),
+        _ => draw.below(8),
+    };
+    let gap = draw.of(&[1, 2, 20, 200]);
+    let mut cycle = around.saturating_sub(draw.below(2 * gap));
+    let mut schedule = Vec::new();
+    for _ in 0..records {
+        if cycle > LAST_CYCLE {
+            break;
+        }
+        schedule.extend(record(cycle, draw.byte(), draw.byte(), draw.upto(1)));
+        cycle += 1 + draw.below(gap);
+    }
+    schedule
+}
+
+fn damage_image(draw: &mut Draw, image: &mut Vec<u8>) {
+    let length = image.len() as u64;
+    match draw.below(8) {
+        0 => image.resize(draw.of(&[0, 80, 82, 2 * IMAGE]), 0),
+        1 => *image = bytes(draw, 150),
+        2 if length > 2 => image[draw.below(3) as usize] = draw.byte(),
+        3 if length > 4 => image[3 + draw.below(2) as usize] = draw.upto(3),
+        4 if length > 0 => {
+            let at = draw.below(length) as usize;
+            image[at] = draw.of(&[0, 1, 3, 4, 7, 8, 15, 16, 63, 64, 128, 255]);
+        }
+        _ => {
+            // Bits, mostly past mark and version.
+            for _ in 0..1 + draw.below(3) {
+                let at = 5 + draw.below(76) as usize;
+                if let Some(byte) = image.get_mut(at) {
+                    *byte ^= 1 << draw.below(8);
+                }
+            }
+        }
+    }
+    // A cycle number near the limit.
+    if draw.one_in(12) && restore(image).0 == 0 {
+        let cycle = LAST_CYCLE - draw.below(60);
+        image[75..IMAGE].copy_from_slice(&cycle.to_be_bytes()[2..]);
+    }
+}
+
+fn damage_rom(draw: &mut Draw, rom: &mut Vec<u8>) {
+    match draw.below(3) {
+        0 => rom.resize(draw.of(&[0, 1, ROM - 1, ROM + 1, ROM + 48]), 0),
+        1 => rom.truncate(draw.below(ROM as u64) as usize),
+        _ => {
+            for _ in 0..5 {
+                rom[draw.below(ROM as u64) as usize] = draw.byte();
+            }
+        }
+    }
+}
+
+fn damage_schedule(draw: &mut Draw, schedule: &mut Vec<u8>) {
+    let length = schedule.len();
+    let record = |draw: &mut Draw| 10 * draw.below(length as u64 / 10) as usize;
+    match draw.below(8) {
+        0 => schedule.truncate(length.saturating_sub(1 + draw.below(12) as usize)),
+        1 => schedule.extend(bytes(draw, 30)),
+        2 if draw.one_in(4) => schedule.resize(draw.of(&[40_960, 40_961, 40_970, 41_000]), 0),
+        3 if length > 0 => {
+            let at = record(draw) + 8;
+            schedule[at] = draw.byte();
+        }
+        4 if length > 0 => {
+            let at = record(draw) + 9;
+            schedule[at] = draw.upto(2);
+        }
+        5 if length > 10 => {
+            let (one, other) = (record(draw), record(draw));
+            for place in 0..10 {
+                schedule.swap(one + place, other + place);
+            }
+        }
+        6 if length > 10 => {
+            let (one, other) = (record(draw), record(draw));
+            schedule.copy_within(one..one + 10, other);
+        }
+        _ if length > 0 => {
+            let at = draw.below(length as u64) as usize;
+            schedule[at] ^= 1 << draw.below(8);
+        }
+        _ => {}
+    }
+}
+
+/// Few cycles as a rule. Many only where that is refused, so that the call returns soon: at 2^48 - 1
+/// itself just where it is near.
+fn cycles(draw: &mut Draw, image: &[u8]) -> u64 {
+    let left = LAST_CYCLE - cycle_of(image);
+    match draw.below(40) {
+        0 => left + 1 + draw.below(2),
+        1 => draw.of(&[
+            1 << 48,
+            1 << 63,
+            u64::MAX,
+            u64::MAX - LAST_CYCLE,
+            (1 << 48) + 5,
+        ]),
+        2 if left < 300 => left,
+        3 => draw.below(3_000),
+        4..=7 => 0,
+        8..=19 => draw.below(300),
+        _ => draw.below(20),
+    }
+}
+
+/// As long as n cycles may need, or shorter, or none.
+fn log_length(draw: &mut Draw, n: u64) -> usize {
+    let whole = if n < 3_000 { 8 * n + 8 } else { 64 };
+    match draw.below(8) {
+        0 => 0,
+        1 => draw.below(40) as usize,
+        2 => draw.below(whole) as usize,
+        3 => (whole + draw.below(40)) as usize,
+        _ => whole as usize,
+    }
+}

@@ -1,0 +1,233 @@
+//! Drawn calls of the board, with what has to come of each: for board/fuzz.c, which makes them of the
+//! archive.
+//!
+//! `board CALLS SEED` writes so many calls to standard output. `board show SEED K` tells all of call K
+//! of a seed, from 0 on.
+//!
+//! # The stream
+//!
+//! Numbers have 8 bytes, big-endian. First the seed and how many calls there are; then the calls.
+//! A call is 11 numbers and bytes:
+//!
+//! | number | what |
+//! |---|---|
+//! | 0 | 1 for `wharfnettle_fresh`, else 0; plus 2 where a ROM follows, 4 where a schedule follows, 8 where a part of length 0 has a null pointer |
+//! | 1 to 5 | lengths of image, ROM, schedule, log and report |
+//! | 6, 7 | n, runner |
+//! | 8 | f: before the call, byte i of log and report is (7 i + f) modulo 256 |
+//! | 9 | the number due |
+//! | 10 | w: the log's bytes from w on are due as they were |
+//!
+//! The bytes are the image given; the ROM and the schedule, where they follow, else they are those of
+//! the call before; then what is due: the image, the report, the first w bytes of the log.
+
+mod drawn;
+
+use std::env;
+use std::io::{self, BufWriter, Write};
+use std::process::ExitCode;
+
+use drawn::{Calls, Drawn};
+use reference::call::{call, fresh};
+use reference::lent::Lent;
+use reference::{restore, Runner};
+
+/// What a call answers and leaves.
+struct Due {
+    number: u8,
+    image: Vec<u8>,
+    log: Vec<u8>,
+    report: Vec<u8>,
+}
+
+fn filled(length: usize, fill: u8) -> Vec<u8> {
+    (0..length)
+        .map(|place| (7 * place) as u8)
+        .map(|byte| byte.wrapping_add(fill))
+        .collect()
+}
+
+fn due(drawn: &Drawn) -> Due {
+    let mut image = drawn.image.clone();
+    let mut log = filled(drawn.log, drawn.fill);
+    let mut report = filled(drawn.report, drawn.fill);
+    let number = if drawn.fresh {
+        fresh(&mut image)
+    } else {
+        call(
+            &mut image,
+            &drawn.rom,
+            &drawn.schedule,
+            &mut log,
+            drawn.n,
+            drawn.runner,
+            &mut report,
+        )
+    };
+    Due {
+        number,
+        image,
+        log,
+        report,
+    }
+}
+
+fn write_calls(count: u64, seed: u64, out: &mut impl Write) -> io::Result<()> {
+    let mut calls = Calls::new(seed);
+    let (mut rom, mut schedule) = (Vec::new(), Vec::new());
+    put(out, &[seed, count])?;
+    for _ in 0..count {
+        let drawn = calls.next();
+        let due = due(&drawn);
+        let new_rom = drawn.rom != rom;
+        let new_schedule = drawn.schedule != schedule;
+        let before = filled(drawn.log, drawn.fill);
+        let same = before
+            .iter()
+            .rev()
+            .zip(due.log.iter().rev())
+            .take_while(|(before, after)| before == after)
+            .count();
+        let written = drawn.log - same;
+        put(
+            out,
+            &[
+                u64::from(drawn.fresh)
+                    | u64::from(new_rom) << 1
+                    | u64::from(new_schedule) << 2
+                    | u64::from(drawn.null) << 3,
+                drawn.image.len() as u64,
+                drawn.rom.len() as u64,
+                drawn.schedule.len() as u64,
+                drawn.log as u64,
+                drawn.report as u64,
+                drawn.n,
+                drawn.runner,
+                u64::from(drawn.fill),
+                u64::from(due.number),
+                written as u64,
+            ],
+        )?;
+        out.write_all(&drawn.image)?;
+        if new_rom {
+            out.write_all(&drawn.rom)?;
+        }
+        if new_schedule {
+            out.write_all(&drawn.schedule)?;
+        }
+        out.write_all(&due.image)?;
+        out.write_all(&due.report)?;
+        out.write_all(&due.log[..written])?;
+        calls.answered(&drawn, due.number, due.image);
+        (rom, schedule) = (drawn.rom, drawn.schedule);
+    }
+    out.flush()
+}
+
+fn put(out: &mut impl Write, numbers: &[u64]) -> io::Result<()> {
+    numbers
+        .iter()
+        .try_for_each(|number| out.write_all(&number.to_be_bytes()))
+}
+
+/// All of one call: what is given, what is due, and the run of it where the image is a panel's.
+fn told(seed: u64, place: u64) -> String {
+    let mut calls = Calls::new(seed);
+    for _ in 0..place {
+        let drawn = calls.next();
+        let due = due(&drawn);
+        calls.answered(&drawn, due.number, due.image);
+    }
+    let drawn = calls.next();
+    let due = due(&drawn);
+    let name = if drawn.fresh {
+        "wharfnettle_fresh"
+    } else {
+        "wharfnettle_call"
+    };
+    let mut text = format!(
+        "call {place} of seed {seed}: {name}, the number due is {}\n\
+         lengths: image {}, ROM {}, schedule {}, log {}, report {}; n {}, runner {}\n\
+         image given {}\nimage due   {}\nreport due  {}\n",
+        due.number,
+        drawn.image.len(),
+        drawn.rom.len(),
+        drawn.schedule.len(),
+        drawn.log,
+        drawn.report,
+        drawn.n,
+        drawn.runner,
+        hex(&drawn.image),
+        hex(&due.image),
+        hex(&due.report),
+    );
+    let (number, state) = restore(&drawn.image);
+    if !drawn.fresh && number == 0 {
+        let runner = if drawn.runner == 0 {
+            Runner::Plain
+        } else {
+            Runner::Skipping
+        };
+        let lent = Lent {
+            runner,
+            rom: drawn.rom,
+            schedule: drawn.schedule,
+            state,
+            log: filled(drawn.log, drawn.fill),
+            n: drawn.n,
+        };
+        text += "\n";
+        text += &lent.told();
+    }
+    text
+}
+
+fn hex(bytes: &[u8]) -> String {
+    bytes.iter().map(|byte| format!("{byte:02X}")).collect()
+}
+
+fn main() -> ExitCode {
+    let words: Vec<String> = env::args().skip(1).collect();
+    let number = |word: &String| word.parse::<u64>().ok();
+    let done = match words.as_slice() {
+        [word, seed, place] if word == "show" => match (number(seed), number(place)) {
+            (Some(seed), Some(place)) => io::stdout().write_all(told(seed, place).as_bytes()),
+            _ => Err(io::Error::other("a seed and a place are wanted")),
+        },
+        [count, seed] => match (number(count), number(seed)) {
+            (Some(count), Some(seed)) => {
+                write_calls(count, seed, &mut BufWriter::new(io::stdout().lock()))
+            }
+            _ => Err(io::Error::other("a number of calls and a seed are wanted")),
+        },
+        _ => Err(io::Error::other("CALLS SEED or show SEED K is wanted")),
+    };
+    match done {
+        Ok(()) => ExitCode::SUCCESS,
+        Err(error) => {
+            eprintln!("board: {error}");
+            ExitCode::FAILURE
+        }
+    }
+}
+
+#[cfg(test)]
+mod tests {
+    use super::*;
+
+    #[test]
+    fn every_number_is_drawn() {
+        let mut calls = Calls::new(1);
+        let mut ended = [0; 256];
+        for _ in 0..20_000 {
+            let drawn = calls.next();
+            let due = due(&drawn);
+            ended[usize::from(due.number)] += 1;
+            calls.answered(&drawn, due.number, due.image);
+        }
+        for number in [0, 1, 2, 3, 11, 12, 13, 14, 21, 22, 23, 31, 32, 33, 34] {
+            assert!(ended[number] >= 20, "{number}: {}", ended[number]);
+        }
+        assert!(ended[0] > 5_000, "{}", ended[0]);
+    }
+}
