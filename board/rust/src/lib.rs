@@ -1,0 +1,161 @@
+//! The board's call for Rust programs. What the C header asks of a caller, the types see to here: a
+//! slice has its length, and slices that are written overlap nothing.
+//!
+//! ```
+//! use wharfnettle::{call, fresh_image, log_bytes, End, Runner};
+//!
+//! // OCD A5, LI 3, OE, and code 1C, which is no instruction.
+//! let mut rom = [0; wharfnettle::ROM];
+//! rom[..5].copy_from_slice(&[0x1E, 0xA5, 0x93, 0x44, 0x1C]);
+//! let mut image = fresh_image();
+//! let mut log = vec![0; log_bytes(10)];
+//! let answer = call(&mut image, &rom, &[], &mut log, 10, Runner::Skipping);
+//! assert_eq!(answer.end, End::Stopped(23));
+//! assert_eq!(answer.counts.cycles, 5);
+//! assert_eq!(log[..8], [0, 0, 0, 0, 0, 0, 2, 5]);
+//! ```
+
+#![warn(missing_docs)]
+
+/// The bytes of an image.
+pub const IMAGE: usize = 81;
+/// The bytes of a ROM.
+pub const ROM: usize = 2_000;
+const REPORT: usize = 32;
+
+/// An image: the panel as bytes, to be kept while the building is switched off.
+pub type Image = [u8; IMAGE];
+
+/// The bytes of log with which a call for n cycles never stops with 3.
+pub const fn log_bytes(n: usize) -> usize {
+    8 * n + 8
+}
+
+/// Which runner. They do the same; the timer-skipping one takes fewer steps.
+#[derive(Clone, Copy, PartialEq, Eq, Debug)]
+pub enum Runner {
+    /// A step for each machine cycle.
+    Plain,
+    /// Jumps over timer waits.
+    Skipping,
+}
+
+/// How a call ended, with the number that `wharfnettle.h` explains.
+#[derive(Clone, Copy, PartialEq, Eq, Debug)]
+pub enum End {
+    /// All n cycles are done.
+    Finished,
+    /// 3, 22 or 23: the panel stands before an instruction that wasn't begun.
+    Stopped(u8),
+    /// Image and log are as they were, and the counts are 0.
+    Refused(u8),
+}
+
+impl End {
+    /// The number: 0, that of the stop or that of the refusal.
+    pub fn number(self) -> u8 {
+        match self {
+            End::Finished => 0,
+            End::Stopped(number) | End::Refused(number) => number,
+        }
+    }
+}
+
+/// What one call did.
+#[derive(Clone, Copy, PartialEq, Eq, Debug, Default)]
+pub struct Counts {
+    /// Machine cycles.
+    pub cycles: u64,
+    /// Instructions begun.
+    pub instructions: u64,
+    /// Bytes written to the log, from its first one on.
+    pub log_bytes: u64,
+    /// Steps of the runner.
+    pub steps: u64,
+}
+
+/// What a call answers.
+#[derive(Clone, Copy, PartialEq, Eq, Debug)]
+pub struct Answer {
+    /// How it ended.
+    pub end: End,
+    /// What it did.
+    pub counts: Counts,
+}
+
+mod c {
+    extern "C" {
+        pub fn wharfnettle_call(
+            image: *mut u8,
+            image_length: usize,
+            rom: *const u8,
+            rom_length: usize,
+            schedule: *const u8,
+            schedule_length: usize,
+            log: *mut u8,
+            log_length: usize,
+            n: u64,
+            runner: u64,
+            report: *mut u8,
+            report_length: usize,
+        ) -> u8;
+        pub fn wharfnettle_fresh(image: *mut u8, image_length: usize) -> u8;
+    }
+}
+
+/// Restores the panel of an image, runs it for n machine cycles and saves it. Slices of any length and
+/// content may be given: what is wrong with them is refused. An `Image` has the right length; bytes
+/// that were read from somewhere may be given as they are.
+pub fn call(
+    image: &mut [u8],
+    rom: &[u8],
+    schedule: &[u8],
+    log: &mut [u8],
+    n: u64,
+    runner: Runner,
+) -> Answer {
+    let mut report = [0; REPORT];
+    // SAFETY: each pointer leads to as many bytes as the length behind it says. `image`, `log` and
+    // `report` are borrowed to be written, so they overlap nothing and nobody else uses them.
+    let number = unsafe {
+        c::wharfnettle_call(
+            image.as_mut_ptr(),
+            image.len(),
+            rom.as_ptr(),
+            rom.len(),
+            schedule.as_ptr(),
+            schedule.len(),
+            log.as_mut_ptr(),
+            log.len(),
+            n,
+            u64::from(runner == Runner::Skipping),
+            report.as_mut_ptr(),
+            report.len(),
+        )
+    };
+    let end = match number {
+        0 => End::Finished,
+        3 | 22 | 23 => End::Stopped(number),
+        _ => End::Refused(number),
+    };
+    let count = |place: usize| {
+        let bytes = &report[8 * place..8 * place + 8];
+        bytes.iter().fold(0, |n, &byte| n << 8 | u64::from(byte))
+    };
+    let counts = Counts {
+        cycles: count(0),
+        instructions: count(1),
+        log_bytes: count(2),
+        steps: count(3),
+    };
+    Answer { end, counts }
+}
+
+/// The image of a panel that was never run.
+pub fn fresh_image() -> Image {
+    let mut image = [0; IMAGE];
+    // SAFETY: the pointer leads to as many bytes as the length says, and nobody else uses them.
+    let number = unsafe { c::wharfnettle_fresh(image.as_mut_ptr(), image.len()) };
+    assert_eq!(number, 0, "81 bytes are enough for an image");
+    image
+}

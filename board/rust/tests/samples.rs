@@ -1,0 +1,196 @@
+//! The sample panels of the repository, and what the other interpreter printed of them: in one call, and
+//! in slices of many lengths.
+
+use std::fs;
+use std::path::{Path, PathBuf};
+
+use wharfnettle::{call, fresh_image, log_bytes, Answer, Counts, End, Image, Runner, ROM};
+
+fn sample(name: &str) -> PathBuf {
+    Path::new(env!("CARGO_MANIFEST_DIR"))
+        .join("../../samples")
+        .join(name)
+}
+
+/// A panel as program `trace` reads it.
+struct Panel {
+    n: u64,
+    rom: Vec<u8>,
+    schedule: Vec<u8>,
+}
+
+fn panel(name: &str) -> Panel {
+    let bytes = fs::read(sample(&format!("{name}.panel"))).unwrap();
+    let (n, rest) = bytes.split_at(4);
+    let (rom, schedule) = rest.split_at(ROM.min(rest.len()));
+    Panel {
+        n: n.iter().fold(0, |n, &byte| n << 8 | u64::from(byte)),
+        rom: rom.to_vec(),
+        schedule: schedule.to_vec(),
+    }
+}
+
+impl Panel {
+    /// One call for all cycles.
+    fn whole(&self, runner: Runner) -> (Answer, Image, Vec<u8>) {
+        let mut image = fresh_image();
+        let mut log = vec![0; log_bytes(self.n as usize)];
+        let answer = call(
+            &mut image,
+            &self.rom,
+            &self.schedule,
+            &mut log,
+            self.n,
+            runner,
+        );
+        log.truncate(answer.counts.log_bytes as usize);
+        (answer, image, log)
+    }
+
+    /// Slices of this length on one image, by the runners in turn.
+    fn slices(&self, length: u64) -> (Answer, Image, Vec<u8>) {
+        let (mut image, mut log) = (fresh_image(), Vec::new());
+        let (mut counts, mut end, mut done) = (Counts::default(), End::Finished, 0);
+        while done < self.n {
+            let n = length.min(self.n - done);
+            let runner = [Runner::Plain, Runner::Skipping][(done / length % 2) as usize];
+            let mut part = vec![0; log_bytes(n as usize)];
+            let answer = call(&mut image, &self.rom, &self.schedule, &mut part, n, runner);
+            log.extend_from_slice(&part[..answer.counts.log_bytes as usize]);
+            counts.cycles += answer.counts.cycles;
+            counts.instructions += answer.counts.instructions;
+            counts.log_bytes += answer.counts.log_bytes;
+            end = answer.end;
+            done += n;
+        }
+        (Answer { end, counts }, image, log)
+    }
+}
+
+/// What `trace` prints of a call from the fresh state.
+fn text(answer: Answer, log: &[u8]) -> String {
+    if let End::Refused(number) = answer.end {
+        return format!("refused {number}\n");
+    }
+    let mut text = String::from("cycle port value\n");
+    for record in log.chunks_exact(8) {
+        let cycle = record[..6]
+            .iter()
+            .fold(0, |n, &byte| n << 8 | u64::from(byte));
+        let port = char::from(b'A' + record[6]);
+        text += &format!("{cycle} {port} {:X}\n", record[7]);
+    }
+    let Counts {
+        cycles,
+        instructions,
+        ..
+    } = answer.counts;
+    text + &format!("end {cycles} {instructions} {}\n", answer.end.number())
+}
+
+#[test]
+fn every_sample_prints_as_it_has_to() {
+    let names = [
+        "lamp", "call", "blink", "lobby", "order", "level", "torn", "long",
+    ];
+    for name in names {
+        let due = fs::read_to_string(sample(&format!("{name}.text"))).unwrap();
+        for runner in [Runner::Plain, Runner::Skipping] {
+            let (answer, _, log) = panel(name).whole(runner);
+            assert_eq!(text(answer, &log), due, "{name}");
+        }
+    }
+    let (answer, _, _) = panel("short").whole(Runner::Plain);
+    assert_eq!(answer.end, End::Refused(21));
+}
+
+#[test]
+fn slices_end_as_one_call() {
+    for name in ["lamp", "call", "blink", "lobby"] {
+        let panel = panel(name);
+        let (mut whole, image, log) = panel.whole(Runner::Plain);
+        whole.counts.steps = 0;
+        for length in (1..100).chain([333, panel.n]) {
+            let sliced = panel.slices(length);
+            assert_eq!(sliced, (whole, image, log.clone()), "{name} by {length}");
+        }
+    }
+}
+
+#[test]
+fn the_skipping_runner_takes_fewer_steps() {
+    let (plain, ..) = panel("blink").whole(Runner::Plain);
+    let (skipping, ..) = panel("blink").whole(Runner::Skipping);
+    assert_eq!(plain.counts.steps, 1_500);
+    assert!(skipping.counts.steps < 150);
+}
+
+#[test]
+fn a_log_that_is_too_short_stops_and_may_go_on() {
+    let panel = panel("lobby");
+    let (_, image, log) = panel.whole(Runner::Plain);
+    let (mut small, mut joined, mut done) = (fresh_image(), Vec::new(), 0);
+    let mut stops = 0;
+    loop {
+        let mut part = [0; 8];
+        let left = panel.n - done;
+        let answer = call(
+            &mut small,
+            &panel.rom,
+            &panel.schedule,
+            &mut part,
+            left,
+            Runner::Skipping,
+        );
+        joined.extend_from_slice(&part[..answer.counts.log_bytes as usize]);
+        done += answer.counts.cycles;
+        match answer.end {
+            End::Finished => break,
+            end => assert_eq!(end, End::Stopped(3)),
+        }
+        stops += 1;
+    }
+    assert_eq!((small, joined, done), (image, log, 1_200));
+    assert_eq!(stops, 10);
+}
+
+#[test]
+fn a_damaged_image_is_refused_and_left() {
+    let panel = panel("lamp");
+    let refusal = |image: &mut [u8]| {
+        let before = image.to_vec();
+        let answer = call(
+            image,
+            &panel.rom,
+            &panel.schedule,
+            &mut [],
+            10,
+            Runner::Plain,
+        );
+        assert_eq!(image, before);
+        assert_eq!(answer.counts, Counts::default());
+        answer.end
+    };
+    let changed = |at: usize, byte| {
+        let mut image = fresh_image();
+        image[at] = byte;
+        image
+    };
+    assert_eq!(refusal(&mut []), End::Refused(31));
+    assert_eq!(refusal(&mut fresh_image()[..80]), End::Refused(31));
+    assert_eq!(refusal(&mut [0; 82]), End::Refused(31));
+    assert_eq!(refusal(&mut changed(2, b'4')), End::Refused(32));
+    assert_eq!(refusal(&mut changed(3, 1)), End::Refused(33));
+    assert_eq!(refusal(&mut changed(16, 4)), End::Refused(34));
+}
+
+#[test]
+fn the_cycle_number_has_an_end() {
+    let panel = panel("lamp");
+    let mut image = fresh_image();
+    for n in [1 << 48, u64::MAX] {
+        let answer = call(&mut image, &panel.rom, &[], &mut [], n, Runner::Plain);
+        assert_eq!(answer.end, End::Refused(2));
+    }
+    assert_eq!(image, fresh_image());
+}
