@@ -1,0 +1,149 @@
+/* What a call costs.
+
+       cost          prints the time of a call, in nanoseconds
+       cost stack    prints the stack that a call takes, and fails above the 2 KiB that the header names
+
+   board/build DIR && gcc -std=c11 -O2 board/cost.c -I DIR -L DIR -lwharfnettle -o DIR/cost && DIR/cost */
+#define _DEFAULT_SOURCE
+#include <inttypes.h>
+#include <stdio.h>
+#include <string.h>
+#include <time.h>
+#include <ucontext.h>
+#include "wharfnettle.h"
+
+enum { RECORDS = 4096, SLICE = 100, STACK = 64 * 1024, ALLOWED = 2048, UNUSED = 0xA5 };
+
+/* Four landings, as in samples/make: the first two bytes of each look at a button. And a timer that turns port F over. */
+static const uint8_t lobby[] = {0x54, 0xC4, 0x85, 0x70, 0x81, 0x50, 0xC9, 0x85, 0x60, 0x55, 0xCD, 0x85, 0x71, 0x81, 0x51, 0xD2, 0x85, 0x61, 0xC0};
+static const uint8_t blink[] = {0x85, 0x14, 0xBF, 0x05, 0xC3, 0x10, 0x0E, 0xC1};
+
+static uint8_t image[WHARFNETTLE_IMAGE], rom[WHARFNETTLE_ROM], schedule[10 * RECORDS], log_bytes[WHARFNETTLE_LOG(SLICE)];
+static uint8_t report[WHARFNETTLE_REPORT];
+static size_t schedule_length;
+static uint64_t n, runner;
+static uint8_t number;
+
+static void call(void)
+{
+    number = wharfnettle_call(image, sizeof image, rom, sizeof rom, schedule, schedule_length, log_bytes, sizeof log_bytes, n, runner,
+                              report, sizeof report);
+}
+
+/* A fresh panel with this ROM, and so many records from a cycle on, each a cycle after the last. */
+static void begin(const uint8_t *code, size_t length, size_t records, uint64_t first)
+{
+    wharfnettle_fresh(image, sizeof image);
+    memset(rom, 0, sizeof rom);
+    memcpy(rom, code, length);
+    schedule_length = 10 * records;
+    for (size_t k = 0; k < records; k++) {
+        uint8_t *record = schedule + 10 * k;
+        for (int i = 0; i < 6; i++)
+            record[i] = (uint8_t)((first + k) >> (40 - 8 * i));
+        record[6] = (uint8_t)(k * 37);
+        record[7] = 0;
+        record[8] = 1;
+        record[9] = 0;
+    }
+}
+
+static uint64_t now(void)
+{
+    struct timespec time;
+    clock_gettime(CLOCK_MONOTONIC, &time);
+    return (uint64_t)time.tv_sec * 1000000000 + (uint64_t)time.tv_nsec;
+}
+
+/* The least time of a call, over some rounds of about ten milliseconds. */
+static double nanoseconds(void)
+{
+    double least = 1e18;
+    for (int round = 0; round < 10; round++) {
+        uint64_t calls = 0, start = now(), taken;
+        do {
+            for (int k = 0; k < 64; k++)
+                call();
+            calls += 64;
+            taken = now() - start;
+        } while (taken < 10000000);
+        if ((double)taken / (double)calls < least)
+            least = (double)taken / (double)calls;
+    }
+    return least;
+}
+
+/* No records; 4,096 that lie ahead of the panel; 4,096 that lie behind it. */
+static void line(const char *name, const uint8_t *code, size_t length)
+{
+    for (runner = 0; runner < 2; runner++)
+        for (n = 0; n <= SLICE; n += SLICE) {
+            printf("%-6s %-8s %3" PRIu64, name, runner ? "skipping" : "plain", n);
+            for (int records = 0; records < 3; records++) {
+                begin(code, length, records ? RECORDS : 0, records == 1 ? (uint64_t)1 << 47 : 0);
+                if (records == 2) {
+                    uint64_t wanted = n;
+                    n = SLICE;
+                    for (int k = 0; k <= RECORDS / SLICE; k++)
+                        call();
+                    n = wanted;
+                }
+                printf(" %12.0f", nanoseconds());
+                if (number)
+                    printf(" (number %d)", number);
+            }
+            printf("\n");
+        }
+}
+
+static ucontext_t caller, callee;
+static uint8_t stack[STACK];
+
+static void nothing(void) {}
+
+/* The bytes of a stack of its own that a function touches. */
+static size_t depth_of(void (*function)(void))
+{
+    memset(stack, UNUSED, sizeof stack);
+    getcontext(&callee);
+    callee.uc_stack.ss_sp = stack;
+    callee.uc_stack.ss_size = sizeof stack;
+    callee.uc_link = &caller;
+    makecontext(&callee, function, 0);
+    swapcontext(&caller, &callee);
+    size_t unused = 0;
+    while (unused < sizeof stack && stack[unused] == UNUSED)
+        unused++;
+    return sizeof stack - unused;
+}
+
+static int print_stack(void)
+{
+    size_t base = depth_of(nothing), deepest = 0;
+    uint64_t drawn = 1;
+    for (int round = 0; round < 2000; round++) {
+        begin(blink, sizeof blink, (size_t)(round % 50), (uint64_t)round);
+        if (round % 3)
+            for (size_t k = 0; k < sizeof rom; k++)
+                rom[k] = (uint8_t)((drawn = drawn * 6364136223846793005 + 1442695040888963407) >> 56);
+        for (runner = 0; runner < 2; runner++)
+            for (n = 0; n <= SLICE; n += SLICE) {
+                size_t depth = depth_of(call);
+                deepest = depth > deepest ? depth : deepest;
+            }
+    }
+    size_t taken = deepest > base ? deepest - base : 0;
+    printf("stack: a call takes %zu bytes, %d are allowed\n", taken, ALLOWED);
+    return taken > ALLOWED;
+}
+
+int main(int count, char **words)
+{
+    if (count == 2 && !strcmp(words[1], "stack"))
+        return print_stack();
+    printf("nanoseconds of a call; records: none, 4096 ahead of the panel, 4096 behind it\n");
+    printf("panel  runner     n         none        ahead       behind\n");
+    line("lobby", lobby, sizeof lobby);
+    line("blink", blink, sizeof blink);
+    return 0;
+}
