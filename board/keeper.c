@@ -297,5 +297,6 @@ int main(int count, char **words)
     }
     printf("cycles %" PRIu64 " instructions %" PRIu64 " log %" PRIu64 " number %d\n", state.cycles, state.instructions, state.log_bytes,
            number);
-    return 0;
+    free(records);
+    return fflush(stdout) ? 1 : 0;
 }
