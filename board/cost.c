@@ -14,7 +14,7 @@
 
 enum { RECORDS = 4096, SLICE = 100, STACK = 64 * 1024, ALLOWED = 2048, UNUSED = 0xA5 };
 
-/* Four landings, as in samples/make: the first two bytes of each look at a button. And a timer that turns port F over. */
+/* The first two landings of samples/lobby.panel, in a loop. And a timer of STM 63 that turns port F over when it has run out. */
 static const uint8_t lobby[] = {0x54, 0xC4, 0x85, 0x70, 0x81, 0x50, 0xC9, 0x85, 0x60, 0x55, 0xCD, 0x85, 0x71, 0x81, 0x51, 0xD2, 0x85, 0x61, 0xC0};
 static const uint8_t blink[] = {0x85, 0x14, 0xBF, 0x05, 0xC3, 0x10, 0x0E, 0xC1};
 
@@ -55,18 +55,18 @@ static uint64_t now(void)
     return (uint64_t)time.tv_sec * 1000000000 + (uint64_t)time.tv_nsec;
 }
 
-/* The least time of a call, over some rounds of about ten milliseconds. */
+/* The least time of a call over many rounds of about a millisecond, so that other work on the machine counts little. */
 static double nanoseconds(void)
 {
     double least = 1e18;
-    for (int round = 0; round < 10; round++) {
+    for (int round = 0; round < 150; round++) {
         uint64_t calls = 0, start = now(), taken;
         do {
-            for (int k = 0; k < 64; k++)
+            for (int k = 0; k < 16; k++)
                 call();
-            calls += 64;
+            calls += 16;
             taken = now() - start;
-        } while (taken < 10000000);
+        } while (taken < 1000000);
         if ((double)taken / (double)calls < least)
             least = (double)taken / (double)calls;
     }
