@@ -62,27 +62,56 @@ static void die_of(const char *what)
    environment's KEEPER_KILL_AT names. With KEEPER_POWER set as well, bytes that weren't on the disk yet are lost first, as they may be when
    the power fails. board/test_keeper uses both. */
 #ifdef KEEPER_KILL_AT
+enum { PIECE = 7 }; /* writes go in small pieces, with a step after each */
 static int log_file = -1, new_file = -1;
 static off_t log_on_disk;
+static off_t size_of(int file)
+{
+    struct stat found;
+    if (fstat(file, &found))
+        die_of("a file");
+    return found.st_size;
+}
 static void step(void)
 {
     static long done;
     const char *at = getenv("KEEPER_KILL_AT");
-    struct stat log;
     if (!at || ++done != atol(at))
         return;
     if (getenv("KEEPER_POWER")) {
-        if (log_file >= 0 && !fstat(log_file, &log) && log.st_size > log_on_disk && ftruncate(log_file, log_on_disk))
+        if (log_file >= 0 && size_of(log_file) > log_on_disk && ftruncate(log_file, log_on_disk))
             die_of("log");
         if (new_file >= 0 && ftruncate(new_file, 0))
             die_of("state.new");
     }
     raise(SIGKILL);
 }
-enum { PIECE = 7 }; /* writes go in small pieces, with a step after each */
+/* A log whose bytes are on the disk as it is now; a state whose bytes aren't yet, and may be lost under any name. */
+static void opened_log(int file)
+{
+    log_file = file;
+    log_on_disk = size_of(file);
+}
+static void opened_new(int file)
+{
+    new_file = dup(file);
+}
+static void synced(int file)
+{
+    struct stat one, other;
+    if (file == log_file)
+        log_on_disk = size_of(file);
+    if (new_file >= 0 && !fstat(file, &one) && !fstat(new_file, &other) && one.st_ino == other.st_ino) {
+        close(new_file);
+        new_file = -1;
+    }
+}
 #else
-static void step(void) {}
 enum { PIECE = 1 << 30 };
+static void step(void) {}
+static void opened_log(int file) { (void)file; }
+static void opened_new(int file) { (void)file; }
+static void synced(int file) { (void)file; }
 #endif
 
 static void write_at(int file, const char *name, const uint8_t *bytes, size_t length, uint64_t at)
@@ -104,6 +133,7 @@ static void sync_file(int file, const char *name)
 {
     if (fsync(file))
         die_of(name);
+    synced(file);
     step();
 }
 
@@ -169,17 +199,10 @@ static void write_state(int dir, const struct state *state)
     int file = openat(dir, "state.new", O_WRONLY | O_CREAT | O_TRUNC, 0666);
     if (file < 0)
         die_of("state.new");
-#ifdef KEEPER_KILL_AT
-    new_file = file;
-#endif
+    opened_new(file);
     step();
     write_at(file, "state.new", bytes, sizeof bytes, 0);
-    if (fsync(file))
-        die_of("state.new");
-#ifdef KEEPER_KILL_AT
-    new_file = -1;
-#endif
-    step();
+    sync_file(file, "state.new");
     if (close(file))
         die_of("state.new");
     if (renameat(dir, "state.new", dir, "state"))
@@ -272,10 +295,7 @@ int main(int count, char **words)
         die("the state file has %" PRIu64 " log bytes, and the log has %" PRIu64, state.log_bytes, (uint64_t)found.st_size);
     if (ftruncate(log, (off_t)state.log_bytes))
         die_of("log");
-#ifdef KEEPER_KILL_AT
-    log_file = log;
-    log_on_disk = (off_t)state.log_bytes;
-#endif
+    opened_log(log);
     step();
 
     uint8_t number = 0;
@@ -286,9 +306,6 @@ int main(int count, char **words)
         if (bytes) {
             write_at(log, "log", records, bytes, state.log_bytes);
             sync_file(log, "log");
-#ifdef KEEPER_KILL_AT
-            log_on_disk = (off_t)(state.log_bytes + bytes);
-#endif
         }
         state.log_bytes += bytes;
         state.cycles += wharfnettle_count(report, WHARFNETTLE_CYCLES);
