@@ -2,7 +2,7 @@
 use mathlib.Core.Path.{_≡_}
 use mathlib.Core.Bool.{cond}
 use mathlib.Core.List.{List}
-use Prim.Native.Nat.{ℕ, zero, suc, _≤_, _<_}
+use Prim.Native.Nat.{ℕ, zero, suc, _+_, _≤_, _<_}
 use lib.Dec.{ltb}
 use Rattle.upd546.specs.declared.Lines.{Lines}
 use Rattle.upd546.specs.TheLineSchedule.{recordCount, recordCycle, recordLines, quietLines, linesAt}
@@ -15,6 +15,11 @@ noCycle = 18446744073709551615
 -- the cycle of record i, or noCycle where there is none
 unfoldable pub nextCycle : List ℕ → ℕ → ℕ
 nextCycle sched i = cond (ltb i (recordCount sched)) (recordCycle sched i) noCycle
+
+-- the least cycle that record i may have: "14 cycle not above the last"
+unfoldable pub leastCycle : List ℕ → ℕ → ℕ
+leastCycle sched zero = 0
+leastCycle sched (suc i) = recordCycle sched i + 1
 
 -- the lines once the first i records have been taken
 unfoldable pub linesAfter : List ℕ → ℕ → Lines

@@ -6,11 +6,11 @@ use runs::Refusal;
 use upd546::CYCLE_BYTES;
 use upd546::Lines;
 ghost use mathlib.Core.Path.{_≡_};
-ghost use Prim.Native.Nat.{_+_, _<_, _≤_};
+ghost use Prim.Native.Nat.{_+_, _<_, _≤_, _^_};
 ghost use Rattle.runs.specs.Numbers.{outcomeNumber};
 ghost use Rattle.runs.specs.Refusals.{cycleLimit};
 ghost use Rattle.upd546.specs.TheLineSchedule.{recordLength, recordCount, recordByte, recordCycle, recordLines, recordNumber, scheduleNumber};
-ghost use Rattle.schedule.specs.Cursor.{nextCycle, linesAfter, Counted, Stands};
+ghost use Rattle.schedule.specs.Cursor.{leastCycle, nextCycle, linesAfter, Counted, Stands};
 
 // A record's bytes: 0 to 5 the cycle, 6 ports A and B, 7 ports C and D, 8 the INT level, 9 zero.
 const RECORD_LENGTH: usize = 10;
@@ -41,7 +41,7 @@ fn byte_at(sched: &[u8], i: usize, k: usize) -> u8
 // The cycle of record i.
 fn cycle_at(sched: &[u8], i: usize) -> u64
     requires { ⌜ i < recordCount (now sched) ⌝ }
-    ensures { λ r. ⌜ r ≡ recordCycle (now (sched .entry)) i ⌝ }
+    ensures { λ r. ⌜ (r ≡ recordCycle (now (sched .entry)) i) × (r < 2 ^ 48) ⌝ }
 {
     big_endian::number_at(sched, RECORD_LENGTH * i, CYCLE_BYTES)
 }
@@ -63,9 +63,9 @@ fn lines_at(sched: &[u8], i: usize) -> Lines
     }
 }
 
-// Whether record i is accepted, where those before it are.
-fn record_check(sched: &[u8], i: usize) -> Outcome
-    requires { ⌜ i < recordCount (now sched) ⌝ }
+// Whether record i, which has this cycle, is accepted, where those before it are; `least` is the least cycle that it may have.
+fn record_check(sched: &[u8], i: usize, cycle: u64, least: u64) -> Outcome
+    requires { ⌜ (i < recordCount (now sched)) × (cycle ≡ recordCycle (now sched) i) × (least ≡ leastCycle (now sched) i) ⌝ }
     ensures { λ r. ⌜ outcomeNumber r ≡ recordNumber (now (sched .entry)) i ⌝ }
 {
     if 1 < byte_at(sched, i, 8) {
@@ -74,16 +74,13 @@ fn record_check(sched: &[u8], i: usize) -> Outcome
     if byte_at(sched, i, 9) != 0 {
         return Outcome::Refused(Refusal::RecordBytes);
     }
-    if i == 0 {
-        return Outcome::Done;
-    }
-    if cycle_at(sched, i) <= cycle_at(sched, i - 1) {
+    if cycle < least {
         return Outcome::Refused(Refusal::RecordOrder);
     }
     Outcome::Done
 }
 
-// Whether a schedule is accepted, and if not, why.
+// Whether a schedule is accepted, and if not, why. The cycle of each record is read once.
 pub fn check(sched: &[u8]) -> Outcome
     ensures { λ r. ⌜ outcomeNumber r ≡ scheduleNumber (now (sched .entry)) ⌝ }
 {
@@ -94,12 +91,15 @@ pub fn check(sched: &[u8]) -> Outcome
         return Outcome::Refused(Refusal::ScheduleLength);
     }
     let count = sched.len() / RECORD_LENGTH;
+    let mut least: u64 = 0;
     let mut i = 0;
     while i < count {
-        let found = record_check(sched, i);
+        let cycle = cycle_at(sched, i);
+        let found = record_check(sched, i, cycle, least);
         if runs::outcome_number(found) != 0 {
             return found;
         }
+        least = cycle + 1;
         i += 1;
     }
     Outcome::Done

@@ -1,19 +1,21 @@
--- `check` answers the number of its schedule. The loop has passed i records that no number refuses. Assumes nothing.
+-- `check` answers the number of its schedule. The loop has passed i records that no number refuses, and keeps the
+-- least cycle that the next may have. Assumes nothing.
 use mathlib.Core.Path.{_≡_, _∙_, sym, ap}
 use Prim.Native.Nat.{_-_, _≤_}
 use native.Mathlib.Omega.{arith}
 use denote.Ref.{now}
 use borrow.Author.Needs.{needs}
 use Rattle.upd546.specs.TheLineSchedule.{recordCount, recordsNumber}
-use Rattle.schedule.proofs.Records.{too-long, no-multiple, by-records, one-more, refused-at, none-refused}
+use Rattle.schedule.specs.Cursor.{leastCycle}
+use Rattle.schedule.proofs.Records.{too-long, no-multiple, by-records, one-more, refused-at, none-refused, least-first, least-next}
 use Rattle.schedule.proofs.check.Statement.{statement}
 use Rattle.schedule.proofs.check.Tie as tie
 
 abbrev Inv-loop : tie.InvT-loop
-Inv-loop sched count i₀ i = (i ≤ recordCount sched) × (recordsNumber sched i ≡ 0)
+Inv-loop sched count least₀ i₀ least i = (i ≤ recordCount sched) × (recordsNumber sched i ≡ 0) × (least ≡ leastCycle sched i)
 
 abbrev μ-loop : tie.MeasureT-loop
-μ-loop sched count i₀ i = count - i
+μ-loop sched count least₀ i₀ least i = count - i
 
 returns : tie.Need-returns Inv-loop μ-loop
 returns c = sym (too-long _ (omega arith))
@@ -22,10 +24,13 @@ returns-2 : tie.Need-returns-2 Inv-loop μ-loop
 returns-2 c = sym (no-multiple _ (omega arith) (omega arith))
 
 loop-holds : tie.Need-loop-holds Inv-loop μ-loop
-loop-holds c = (omega arith, none-refused _)
+loop-holds c = (omega arith, none-refused _, least-first _)
+
+cycle-at-requires : tie.Need-cycle-at-requires Inv-loop μ-loop
+cycle-at-requires c κs = search needs
 
 record-check-requires : tie.Need-record-check-requires Inv-loop μ-loop
-record-check-requires c κs = search needs
+record-check-requires c κs = (omega arith, c .cycle-at .ensures .0, c .before .before .loop .inv .2)
 
 outcome-number-requires : tie.Need-outcome-number-requires Inv-loop μ-loop
 outcome-number-requires c κs = search needs
@@ -33,7 +38,10 @@ outcome-number-requires c κs = search needs
 returns-3 : tie.Need-returns-3 Inv-loop μ-loop
 returns-3 c =
     c .before .before .record-check .ensures
-    ∙ sym (refused-at _ _ (omega arith) (omega arith) (omega arith) (c .before .before .before .before .loop .inv .1) (omega arith))
+    ∙ sym (refused-at _ _ (omega arith) (omega arith) (omega arith) (c .before .before .before .before .before .loop .inv .1) (omega arith))
+
+add-least : tie.Need-add-least Inv-loop μ-loop
+add-least c = omega arith
 
 add-i : tie.Need-add-i Inv-loop μ-loop
 add-i c = search needs
@@ -42,7 +50,9 @@ loop-less : tie.Need-loop-less Inv-loop μ-loop
 loop-less c = search needs
 
 loop-again : tie.Need-loop-again Inv-loop μ-loop
-loop-again c = (omega arith, one-more _ _ (c .before .before .before .before .loop .inv .1) ∙ omega arith)
+loop-again c =
+    let turn = c .before .before .before .before .before .loop in
+    (omega arith, one-more _ _ (turn .inv .1) ∙ omega arith, least-next _ (turn .i) (c .before .before .before .cycle-at .ensures .0))
 
 returns-4 : tie.Need-returns-4 Inv-loop μ-loop
 returns-4 c =
@@ -59,9 +69,11 @@ check-spec =
     returns
     returns-2
     loop-holds
+    cycle-at-requires
     record-check-requires
     outcome-number-requires
     returns-3
+    add-least
     add-i
     loop-less
     loop-again
