@@ -1,4 +1,5 @@
-// The calls of the board's C program: restore, run and save in one, and the image of a fresh state. It may not know how a restore, a
+// The calls of the board's C program: restore, run and save in one, and the image of a fresh state; for programs in Rattle, what a
+// call's number tells. It may not know how a restore, a
 // run or a save goes, nor the image's layout.
 use runs::ClockCycles;
 use runs::MachineCycles;
@@ -14,9 +15,10 @@ ghost use Rattle.upd546.specs.Bytes.{bytesOf};
 ghost use Rattle.upd546.specs.TheMachine.{fresh};
 ghost use Rattle.upd546.specs.TwoRunners.{upd546, answerOf};
 ghost use Rattle.calls.specs.Call.{kindOf, reportLength, countBytes, reported, imageRun, callAnswer};
+ghost use Rattle.calls.specs.EveryCall.{ranBy};
 
 // The bytes of a report.
-const REPORT_LENGTH: usize = 32;
+pub const REPORT_LENGTH: usize = 32;
 
 // A count's eight bytes, from a place on.
 fn put_count(report: &mut [u8], at: usize, n: u64)
@@ -102,4 +104,11 @@ pub extern "C" fn wharfnettle_fresh(image: &mut [u8]) -> u8
     ensures { λ r. ⌜ record { number = r; buffer = now (image .exit) } ≡ saveAnswer upd546 fresh (now (image .entry)) ⌝ }
 {
     runs::outcome_number(save::save(upd546::fresh_state(), image))
+}
+
+// Whether the number of a call is that of a finish or a stop, and no refusal's.
+pub fn ran(number: u8) -> bool
+    ensures { λ r. ⌜ r ≡ ranBy number ⌝ }
+{
+    (number == 0) | ((number == 3) | (number == 22) | (number == 23))
 }

@@ -19,12 +19,12 @@ NoRefusal (refused k) = ⊥
 
 module _ {S : Type 0} (M : Machine S) where
   -- a run that counted nothing and left the log
-  record Idle (lent : List ℕ) (a : RunAnswer S) : Type 0 where
-    cycles : a .cycles ≡ 0
-    begun : a .begun ≡ 0
-    written : a .written ≡ 0
-    steps : a .steps ≡ 0
-    log : a .log ≡ lent
+  pub record Idle (lent : List ℕ) (a : RunAnswer S) : Type 0 where
+    pub cycles : a .cycles ≡ 0
+    pub begun : a .begun ≡ 0
+    pub written : a .written ≡ 0
+    pub steps : a .steps ≡ 0
+    pub log : a .log ≡ lent
 
   restored-idle : (k : ℕ) (s : S) (kind : Kind) (rom sched log : List ℕ) (n j : ℕ) → onRestored M k s kind rom sched log n .end ≡ refused (suc j)
       → Idle log (onRestored M k s kind rom sched log n)
@@ -40,7 +40,7 @@ module _ {S : Type 0} (M : Machine S) where
       }
   restored-idle (suc k) s kind rom sched log n j e = record { cycles = refl; begun = refl; written = refl; steps = refl; log = refl }
 
-  idle : (c : BoardCall) (j : ℕ) → runOf M c .end ≡ refused (suc j) → Idle (c .log) (runOf M c)
+  pub idle : (c : BoardCall) (j : ℕ) → runOf M c .end ≡ refused (suc j) → Idle (c .log) (runOf M c)
   unfolding imageRun
   idle c j e =
       restored-idle (restoreAnswer M (c .image) .number) (restoreAnswer M (c .image) .state) (kindOf (c .runner)) (c .rom) (c .sched) (c .log) (c .n) j e

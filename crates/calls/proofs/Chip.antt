@@ -15,10 +15,10 @@ use Rattle.upd546.specs.TwoRunners.{upd546}
 use Rattle.laws.proofs.Images.{accepted-exactly}
 use Rattle.laws.proofs.Numbers.{number-laws}
 use Rattle.laws.proofs.Demand3.{jump-laws, laws}
-use Rattle.calls.specs.EveryCall.{EveryReportReadsBack, EveryCallsNumberTells}
+use Rattle.calls.specs.EveryCall.{EveryReportReadsBack, EveryCallTellsItsRun, EveryCallsNumberTells}
 use Rattle.calls.specs.Lists.{onImage, LentUnlessRefused, EveryListOfCallsEndsAsOneRun, EveryImageEndsAsOneRun}
 use Rattle.calls.specs.Chip.{EveryFinishOrStopRewrites, EveryAcceptedImageEndsAsOneRun}
-use Rattle.calls.proofs.EveryCall.{through, back, call-rewrites, reports-read-back, call-tells}
+use Rattle.calls.proofs.EveryCall.{through, back, call-rewrites, reports-read-back, call-tells-run, call-tells}
 use Rattle.calls.proofs.Lists.{calls-end, image-ends}
 
 -- EVERY CALL
@@ -35,6 +35,9 @@ every-finish-or-stop-rewrites c br bs h =
 
 pub every-report-reads-back : EveryReportReadsBack upd546
 every-report-reads-back = reports-read-back upd546 laws
+
+pub every-call-tells-its-run : EveryCallTellsItsRun upd546
+every-call-tells-its-run = call-tells-run upd546 laws
 
 pub every-calls-number-tells : EveryCallsNumberTells upd546
 every-calls-number-tells = call-tells upd546 jump-laws number-laws

@@ -3,10 +3,11 @@ use mathlib.Core.Path.{_≡_, _∙_, refl, sym, ap, subst}
 use mathlib.Core.Bool.{Bool, true, false, cond}
 use mathlib.Core.List.{List, [], _∷_, append-nil}
 use mathlib.Core.Option.{Option, none, some}
-use Prim.Native.Nat.{ℕ, zero, suc, _^_, _<_}
+use Prim.Native.Nat.{ℕ, zero, suc, _^_, _<_, _≤_}
 use native.Mathlib.Nat.{le-of-eq}
 use native.Mathlib.Omega.{arith}
-use lib.ListN.{length, take, drop-of-length-le}
+use lib.ListN.{length, take, replicate, drop-of-length-le}
+use borrow.Author.Tests.{le-leb}
 use lib.Seq.{take-all}
 use Rattle.runs.specs.Machine.{Machine}
 use Rattle.runs.specs.Refusals.{firstOf, unless}
@@ -21,10 +22,10 @@ use Rattle.runs.proofs.Calls.{run-fit, fit-save, by-number, restore-same}
 use Rattle.runs.proofs.EveryRun.{runs-sound, counts-within, numbers-tell}
 use Rattle.upd546.specs.Bytes.{numberAt}
 use Rattle.laws.proofs.Digits.{bytes-back}
-use Rattle.calls.specs.Call.{BoardCall, BoardAnswer, kindOf, countBytes, reported, longEnough, onRestored, imageRun, runOf, onReport, callAnswer}
-use Rattle.calls.specs.EveryCall.{refusalWith, refusedReport, callRefusal, callNumber, ChangesNothing, AnswersItsRun}
+use Rattle.calls.specs.Call.{BoardCall, BoardAnswer, kindOf, reportLength, countBytes, reported, longEnough, onRestored, imageRun, runOf, onReport, callAnswer}
+use Rattle.calls.specs.EveryCall.{numberOfEnd, refusalWith, refusedReport, callRefusal, callNumber, Refuses, ChangesNothing, AnswersItsRun, TellsItsRun, EveryCallTellsItsRun}
 use Rattle.calls.specs.EveryCall.{EveryCallRewritesTheImage, EveryReportReadsBack, stop, refusal, endingBy, endingOf, EveryCallsNumberTells}
-use Rattle.calls.proofs.Call.{NoRefusal, ran-answer}
+use Rattle.calls.proofs.Call.{NoRefusal, idle, ran-answer}
 
 module _ {S : Type 0} (M : Machine S) where
   -- WHAT REFUSES A CALL
@@ -181,6 +182,47 @@ reports-read-back {S} M L c small h =
       written = ap (λ (l : List ℕ). numberAt l 16 8) told ∙ bytes-back 8 (a .written) written;
       steps = ap (λ (l : List ℕ). numberAt l 24 8) told ∙ bytes-back 8 (a .steps) steps;
     }
+
+-- WHAT A CALL TELLS OF ITS RUN
+
+-- an end that refuses, by its number
+refused-end : (e : End) (k : ℕ) → refusalOf e ≡ suc k → e ≡ refused (suc k)
+refused-end finished k h = cc
+refused-end (stopped j) k h = cc
+refused-end (refused j) k h = ap refused h
+
+module _ {S : Type 0} (M : Machine S) where
+  refused-tells : (c : BoardCall) (k : ℕ) → reportLength ≤ length (c .report) → callRefusal M c ≡ suc k → TellsItsRun M c
+  refused-tells c k long h =
+      let enough : longEnough c ≡ true = le-leb reportLength (length (c .report)) long in
+      let left : Refuses M (suc k) c = subst (λ (j : ℕ). ChangesNothing M j c) h (changes-nothing M c) in
+      let end : runOf M c .end ≡ refused (suc k) = refused-end (runOf M c .end) k (sym (ap (λ (b : Bool). refusalWith b (runOf M c .end)) enough) ∙ h) in
+      let none = idle M c k end in
+      let zeros : callAnswer M c .report ≡ reported (replicate reportLength 0) (c .report)
+      = left .report ∙ ap (λ (b : Bool). refusedReport b (c .report)) enough in
+      record {
+        number = left .number ∙ sym (ap numberOfEnd end);
+        log = left .log ∙ sym (none .log);
+        counts = record {
+          cycles = ap (λ (l : List ℕ). numberAt l 0 8) zeros ∙ sym (none .cycles);
+          begun = ap (λ (l : List ℕ). numberAt l 8 8) zeros ∙ sym (none .begun);
+          written = ap (λ (l : List ℕ). numberAt l 16 8) zeros ∙ sym (none .written);
+          steps = ap (λ (l : List ℕ). numberAt l 24 8) zeros ∙ sym (none .steps);
+        };
+      }
+
+  pub call-tells-run : Laws M → EveryCallTellsItsRun M
+  call-tells-run L c small long = go (callRefusal M c) refl
+    where
+      go : (k : ℕ) → callRefusal M c ≡ k → TellsItsRun M c
+      go zero h =
+          let answers = through M c h .answers in
+          record {
+            number = ap (λ (z : BoardAnswer). z .number) answers;
+            log = ap (λ (z : BoardAnswer). z .log) answers;
+            counts = reports-read-back M L c small h;
+          }
+      go (suc k) h = refused-tells c k long h
 
 -- WHAT THE NUMBER TELLS
 

@@ -1,9 +1,10 @@
 -- What holds of every call of the board, over any machine: what refuses it, what it answers and leaves, and what its number and its
 -- report tell. Assumes nothing: these are definitions.
-use Prim.Native.Nat.{ℕ, zero, suc, _^_, _<_}
+use Prim.Native.Nat.{ℕ, zero, suc, _^_, _<_, _≤_}
 use mathlib.Core.Path.{_≡_}
-use mathlib.Core.Bool.{Bool, true, false, cond}
+use mathlib.Core.Bool.{Bool, true, false, _||_, cond}
 use mathlib.Core.List.{List, [], _∷_}
+use lib.Dec.{eqb}
 use lib.ListN.{length, replicate}
 use Rattle.runs.specs.Machine.{Machine}
 use Rattle.runs.specs.Refusals.{firstOf, unless}
@@ -82,12 +83,26 @@ module _ {S : Type 0} (M : Machine S) where
   abbrev pub EveryReportReadsBack : Type 0
   EveryReportReadsBack = (c : BoardCall) → length (c .log) < 2 ^ 64 → callRefusal c ≡ 0 → ReadsBack c
 
+  -- What a call tells of its run, also where that was refused: the number of its end, its log, and its counts, which then are zeros.
+  pub record TellsItsRun (c : BoardCall) : Type 0 where
+    pub number : callAnswer M c .number ≡ numberOfEnd (runOf M c .end)
+    pub log : callAnswer M c .log ≡ runOf M c .log
+    pub counts : ReadsBack c
+
+  -- every call with a report of 32 bytes
+  abbrev pub EveryCallTellsItsRun : Type 0
+  EveryCallTellsItsRun = (c : BoardCall) → length (c .log) < 2 ^ 64 → reportLength ≤ length (c .report) → TellsItsRun c
+
 -- WHAT THE NUMBER TELLS
 
 pub data Ending : Type 0 where
   finish : Ending
   stop : Ending
   refusal : Ending
+
+-- whether a number is that of a finish or a stop
+abbrev pub ranBy : ℕ → Bool
+ranBy k = eqb k 0 || isStop k
 
 -- by the number alone: 0 is a finish, 3, 22 and 23 are stops, every other number is a refusal
 abbrev pub endingBy : ℕ → Ending

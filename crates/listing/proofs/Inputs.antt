@@ -55,7 +55,7 @@ reads-enough k h input = go (leb (length input) k) refl
 pub buffer-enough : ReadsEnough 65536
 buffer-enough = reads-enough 65536 (lit< tt)
 
-sound : stateNumber fresh ≡ 0
+pub sound : stateNumber fresh ≡ 0
 unfolding stateNumber stateSound coreSound registersSound flowSound interruptSound timerSound portsSound ramSound allOf
 sound = refl
 

@@ -2,3 +2,4 @@ pub mod Writing
 pub mod Records
 pub mod Texts
 pub mod Inputs
+pub mod Calls

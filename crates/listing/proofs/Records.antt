@@ -1,20 +1,20 @@
 -- The log of a run can be written as lines: its records have ports C to I and values of 4 bits. Assumes nothing.
-use mathlib.Core.Path.{_≡_, sym, subst}
+use mathlib.Core.Path.{_≡_, subst}
 use mathlib.Core.List.{List, _++_}
 use Prim.Native.Nat.{ℕ, zero, suc, _+_, _*_, _<_, _≤_}
 use native.Mathlib.Omega.{arith}
 use lib.ListN.{length, getD, take, drop, length-append, length-take, take-append-drop}
-use Rattle.runs.specs.TwoRunners.{Ran, within, runNumber, told, stepwise, plain}
-use Rattle.runs.specs.TwoRunners as runners
+use Rattle.runs.specs.TwoRunners.{RunAnswer, Ran, within, runNumber, told, stepwise, plain}
 use Rattle.runs.specs.Laws.{Bytes}
 use Rattle.runs.specs.Lists.{plainOne}
 use Rattle.upd546.specs.declared.State.{State}
-use Rattle.upd546.specs.declared.RunAnswer.{RunAnswer}
 use Rattle.upd546.specs.Ports.{portI}
-use Rattle.upd546.specs.TwoRunners.{upd546, answerOf}
+use Rattle.upd546.specs.TwoRunners.{upd546}
 use Rattle.laws.specs.Records.{Records}
 use Rattle.laws.proofs.Records.{port-at, value-at, every-run-writes-records}
+use Rattle.listing.specs.declared.Ended.{Ended}
 use Rattle.listing.specs.Records.{Recorded}
+use Rattle.listing.specs.Texts.{EndsAs}
 
 -- so many bytes of a log that are records
 record-log : {a b : ℕ} (written : ℕ) (log : List ℕ) → written ≤ length log → Records a b (take written log) → Recorded written log
@@ -50,7 +50,6 @@ module _ (rom sched : List ℕ) (br : Bytes rom) (bs : Bytes sched) (s : State) 
   pub recorded : Recorded (plain upd546 rom sched s log n .written) (plain upd546 rom sched s log n .log)
   recorded = record-log _ _ fits (every-run-writes-records plainOne rom sched s log n br bs)
 
--- the same of a run that answers as it
-pub by-answer : (a : RunAnswer) {log′ : List ℕ} {b : runners.RunAnswer State} → answerOf a log′ ≡ b → Recorded (b .written) (b .log)
-    → Recorded (a .written) log′
-by-answer a e p = subst (λ (b : runners.RunAnswer State). Recorded (b .written) (b .log)) (sym e) p
+-- the same of what a call tells of a run
+pub by-end : {b : RunAnswer State} {ended : Ended} {log′ : List ℕ} → EndsAs b ended log′ → Recorded (b .written) (b .log) → Recorded (ended .written) log′
+by-end e p = rw (e .written, e .same-log) p

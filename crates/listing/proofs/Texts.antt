@@ -21,26 +21,6 @@ use Rattle.text.specs.Writing.{Appended}
 use Rattle.listing.specs.Texts.{Traced}
 use Rattle.text.proofs.Writing.{counted}
 
--- HOW A RUN ENDED
-
-module _ (a : RunAnswer) (log : List ℕ) where
-  pub finished-text : a .end ≡ Finished → reportText (answerOf a log) 0 ≡ onEnd (endOf (a .end)) (answerOf a log)
-  finished-text e = rw e
-
-  pub stopped-text : (why : Stop) {k : ℕ} → a .end ≡ Stopped why → k ≡ stopNumber why
-      → reportText (answerOf a log) k ≡ onEnd (endOf (a .end)) (answerOf a log)
-  stopped-text why e p = rw (e, p)
-
-  pub refused-text : (why : Refusal) {k : ℕ} → a .end ≡ Refused why → k ≡ refusalNumber why
-      → refusedText k ≡ onEnd (endOf (a .end)) (answerOf a log)
-  refused-text why e p = rw (e, p)
-
--- the answer of a run has the run's text
-pub run-text : (rom sched log : List ℕ) (n : ℕ) (a : RunAnswer) {log′ : List ℕ} → answerOf a log′ ≡ plain upd546 rom sched fresh log n
-    → onEnd (endOf (a .end)) (answerOf a log′) ≡ runText rom sched log n
-unfolding runText
-run-text rom sched log n a e = ap (λ (b : runners.RunAnswer State). onEnd (b .end) b) e
-
 -- THE INPUT
 
 module _ (input : List ℕ) where

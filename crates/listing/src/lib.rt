@@ -1,24 +1,24 @@
-// The report of a panel: the input of program `trace` split into n, ROM and schedule, a fresh state run on the plain runner, and
-// the text of what it answers. It may not know how a run goes, nor where input comes from and text goes to.
+// The report of a panel: the input of program `trace` split into n, ROM and schedule, the board's call on a fresh panel with the plain
+// runner, and the text of what it answers. It may not know how a run goes, nor where input comes from and text goes to.
+use board::REPORT_LENGTH;
 use runs::MachineCycles;
-use runs::RunEnd;
 use upd546::CYCLE_BYTES;
 use upd546::LOG_RECORD;
 use upd546::ROM_LENGTH;
-use upd546::RunAnswer;
+use upd546::layout::IMAGE_LENGTH;
 ghost use mathlib.Core.Path.{_≡_};
 ghost use Prim.Native.Nat.{_+_, _*_, _/_, _<_, _≤_};
 ghost use lib.ListN.{length, replicate};
-ghost use Rattle.runs.specs.Numbers.{endOf};
 ghost use Rattle.runs.specs.TwoRunners.{plain};
 ghost use Rattle.upd546.specs.TheMachine.{fresh};
 ghost use Rattle.upd546.specs.Ports.{portI, logRecordLength};
-ghost use Rattle.upd546.specs.TwoRunners.{upd546, answerOf};
-ghost use Rattle.upd546.specs.Reports.{portLetter, hexDigit, recordText, recordsText, reportText, onEnd, traceLog, runText};
+ghost use Rattle.upd546.specs.TwoRunners.{upd546};
+ghost use Rattle.upd546.specs.Reports.{portLetter, hexDigit, recordText, recordsText, traceLog, runText};
+ghost use Rattle.calls.specs.Call.{reportLength};
 ghost use Rattle.text.specs.Writing.{Appended};
 ghost use Rattle.listing.specs.Writing.{lineLength, endLength, textLength, endLine};
 ghost use Rattle.listing.specs.Records.{Legible, Recorded};
-ghost use Rattle.listing.specs.Texts.{Reportable, Traced};
+ghost use Rattle.listing.specs.Texts.{EndsAs, endedBy, endedText, answerText, Reportable, Traced};
 
 // "n (4 bytes, big-endian)"
 const COUNT_LENGTH: usize = 4;
@@ -29,8 +29,19 @@ const SCHEDULE_AT: usize = COUNT_LENGTH + ROM_LENGTH;
 // "a log of 16,384 bytes"
 const LOG_LENGTH: usize = 16384;
 
+// The bytes of a count in the call's report.
+const COUNT_BYTES: usize = 8;
+
 // Every text fits this many bytes; `textLength` is the same number.
 pub const TEXT_LENGTH: usize = 65536;
+
+// How a call ended: its number, and the counts of its report that the text shows.
+struct Ended {
+    number: u8,
+    cycles: MachineCycles,
+    begun: u64,
+    written: usize,
+}
 
 fn port_letter(port: u8) -> u8
     requires { ⌜ port ≤ portI ⌝ }
@@ -86,37 +97,51 @@ fn put_end(out: &mut [u8], at: usize, cycles: MachineCycles, begun: u64, number:
     text::put_number(out, told, number as u64, b'\n')
 }
 
-// The text of a run that isn't refused.
-fn put_report(out: &mut [u8], answer: RunAnswer, log: &[u8], number: u8) -> usize
-    requires { ⌜ Reportable answer (now log) (now out) ⌝ }
-    ensures { λ r. ⌜ Appended (now (out .entry)) 0 (reportText (answerOf answer (now (log .entry))) number) (now (out .exit)) r ⌝ }
+// The text of a run that finished or stopped.
+fn put_report(out: &mut [u8], ended: Ended, log: &[u8]) -> usize
+    requires { ⌜ Reportable ended (now log) (now out) ⌝ }
+    ensures { λ r. ⌜ Appended (now (out .entry)) 0 (endedText ended (now (log .entry))) (now (out .exit)) r ⌝ }
 {
     let headed = text::put(out, 0, b"cycle port value\n");
-    let listed = put_lines(out, headed, log, answer.written / LOG_RECORD);
-    let cycles = answer.cycles;
-    put_end(out, listed, cycles, answer.begun, number)
+    let listed = put_lines(out, headed, log, ended.written / LOG_RECORD);
+    let cycles = ended.cycles;
+    put_end(out, listed, cycles, ended.begun, ended.number)
 }
 
-// The text of a run.
-fn put_answer(out: &mut [u8], answer: RunAnswer, log: &[u8]) -> usize
-    requires { ⌜ Reportable answer (now log) (now out) ⌝ }
-    ensures { λ r. ⌜ Appended (now (out .entry)) 0 (onEnd (endOf (answer .end)) (answerOf answer (now (log .entry)))) (now (out .exit)) r ⌝ }
+// The text of a call.
+fn put_answer(out: &mut [u8], ended: Ended, log: &[u8]) -> usize
+    requires { ⌜ Reportable ended (now log) (now out) ⌝ }
+    ensures { λ r. ⌜ Appended (now (out .entry)) 0 (answerText ended (now (log .entry))) (now (out .exit)) r ⌝ }
 {
-    let end = answer.end;
-    match end {
-        RunEnd::Finished => put_report(out, answer, log, 0),
-        RunEnd::Stopped(why) => put_report(out, answer, log, runs::stop_number(why)),
-        RunEnd::Refused(why) => text::put_refused(out, runs::refusal_number(why)),
+    if board::ran(ended.number) {
+        return put_report(out, ended, log);
     }
+    text::put_refused(out, ended.number)
 }
 
-// "runs a fresh state on the plain runner"
-fn run_fresh(rom: &[u8], sched: &[u8], log: &mut [u8], n: MachineCycles) -> RunAnswer
-    ensures { λ r. ⌜ answerOf r (now (log .exit)) ≡ plain upd546 (now (rom .entry)) (now (sched .entry)) fresh (now (log .entry)) (n .0) ⌝ }
+// "runs a fresh state on the plain runner": the board's call on the image of a fresh state.
+fn call_fresh(rom: &[u8], sched: &[u8], log: &mut [u8], n: MachineCycles) -> Ended
+    ensures { λ r. ⌜ EndsAs (plain upd546 (now (rom .entry)) (now (sched .entry)) fresh (now (log .entry)) (n .0)) r (now (log .exit)) ⌝ }
     ensures { λ r. ⌜ Recorded (r .written) (now (log .exit)) ⌝ }
 {
-    let state = upd546::fresh_state();
-    runner::run_plain(rom, sched, state, log, n)
+    let mut image = [0u8; IMAGE_LENGTH];
+    board::wharfnettle_fresh(&mut image);
+    let mut report = [0u8; REPORT_LENGTH];
+    let number = board::wharfnettle_call(&mut image, rom, sched, log, n.0, 0, &mut report);
+    told(number, &report)
+}
+
+// What a report tells of its run.
+fn told(number: u8, report: &[u8]) -> Ended
+    requires { ⌜ reportLength ≤ length (now report) ⌝ }
+    ensures { λ r. ⌜ r ≡ endedBy number (now (report .entry)) ⌝ }
+{
+    Ended {
+        number,
+        cycles: MachineCycles(big_endian::number_at(report, 0, COUNT_BYTES)),
+        begun: big_endian::number_at(report, 8, COUNT_BYTES),
+        written: big_endian::number_at(report, 16, COUNT_BYTES) as usize,
+    }
 }
 
 // The text of n cycles of a panel, on a log of 16,384 bytes.
@@ -124,8 +149,8 @@ fn put_run(out: &mut [u8], rom: &[u8], sched: &[u8], log: &mut [u8], n: MachineC
     requires { ⌜ (length (now log) ≡ traceLog) × (textLength ≤ length (now out)) ⌝ }
     ensures { λ r. ⌜ Appended (now (out .entry)) 0 (runText (now (rom .entry)) (now (sched .entry)) (now (log .entry)) (n .0)) (now (out .exit)) r ⌝ }
 {
-    let answer = run_fresh(rom, sched, log, n);
-    put_answer(out, answer, log)
+    let ended = call_fresh(rom, sched, log, n);
+    put_answer(out, ended, log)
 }
 
 // "a log of 16,384 bytes"; the length is what lending it as a slice asks.

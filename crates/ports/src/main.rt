@@ -1,12 +1,11 @@
 // Program `ports`: reads a panel as `trace` does, and writes the bytes of its port log, of all its cycles. The panel runs in slices
-// from the fresh state, each on a log that has room for all its records; their logs, one behind the other, are the log of one
-// unbroken run (demand 3). A refusal is told as `trace` tells it. It may not know how a run goes.
+// from the fresh state, each a call of the board on a log that has room for all its records; their logs, one behind the other, are the
+// log of one unbroken run (demand 3). A refusal is told as `trace` tells it. It may not know how a run goes, nor what an image holds.
+use board::REPORT_LENGTH;
 use libc::STDIN_FILENO;
 use libc::STDOUT_FILENO;
-use runs::MachineCycles;
-use runs::RunEnd;
 use upd546::ROM_LENGTH;
-use upd546::State;
+use upd546::layout::IMAGE_LENGTH;
 ghost use mathlib.Core.Path.{_≡_};
 ghost use Prim.Native.Nat.{_-_, _≤_, min};
 
@@ -20,11 +19,10 @@ const SLICE_CYCLES: u64 = 2047;
 
 const LOG_LENGTH: usize = 16384;
 
-// What a slice leaves: the state, and the cycles that are still to be run.
-struct Left {
-    state: State,
-    cycles: u64,
-}
+// The place and the bytes of the count of log bytes in a report.
+const WRITTEN_AT: usize = 16;
+
+const COUNT_BYTES: usize = 8;
 
 // The buffer holds more than every input that isn't refused, so what is behind it need not be read.
 fn main() {
@@ -44,37 +42,34 @@ fn panel(input: &[u8]) {
 
 // All slices; one at least, so that a refusal is told for n = 0 too.
 fn all(rom: &[u8], sched: &[u8], n: u64) {
-    let state = upd546::fresh_state();
-    let mut left = slice(rom, sched, Left { state, cycles: n });
-    while 0 < left.cycles {
-        left = slice(rom, sched, left);
+    let mut image = [0u8; IMAGE_LENGTH];
+    board::wharfnettle_fresh(&mut image);
+    let mut left = slice(&mut image, rom, sched, n);
+    while 0 < left {
+        left = slice(&mut image, rom, sched, left);
     }
 }
 
-// One slice, its log bytes written to standard output. After a stop or a refusal no cycles are left.
-fn slice(rom: &[u8], sched: &[u8], left: Left) -> Left
-    ensures { λ r. ⌜ r .cycles ≤ left .cycles - 1 ⌝ }
+// One slice of the cycles that are left: a call of the board, its log bytes written to standard output. After a stop or a refusal no cycles
+// are left.
+fn slice(image: &mut [u8; IMAGE_LENGTH], rom: &[u8], sched: &[u8], left: u64) -> u64
+    ensures { λ r. ⌜ r ≤ left - 1 ⌝ }
 {
-    let asked = least(left.cycles, SLICE_CYCLES);
+    let asked = least(left, SLICE_CYCLES);
     let mut log = [0u8; LOG_LENGTH];
-    let state = left.state;
-    let answer = runner::run_skipping(rom, sched, state, &mut log, MachineCycles(asked));
-    if answer.written <= LOG_LENGTH {
-        io::write_all(STDOUT_FILENO, &log[..answer.written]);
+    let mut report = [0u8; REPORT_LENGTH];
+    let number = board::wharfnettle_call(image, rom, sched, &mut log, asked, 1, &mut report);
+    let written = big_endian::number_at(&report, WRITTEN_AT, COUNT_BYTES) as usize;
+    if written <= LOG_LENGTH {
+        io::write_all(STDOUT_FILENO, &log[..written]);
     }
-    let state = answer.state;
-    let end = answer.end;
-    match end {
-        RunEnd::Finished => Left {
-            state,
-            cycles: left.cycles - asked,
-        },
-        RunEnd::Stopped(_) => Left { state, cycles: 0 },
-        RunEnd::Refused(why) => {
-            refused(runs::refusal_number(why));
-            Left { state, cycles: 0 }
-        }
+    if number == 0 {
+        return left - asked;
     }
+    if !board::ran(number) {
+        refused(number);
+    }
+    0
 }
 
 fn least(a: u64, b: u64) -> u64

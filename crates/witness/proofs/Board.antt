@@ -13,9 +13,9 @@ use Rattle.upd546.specs.StateImage.{imageOf}
 use Rattle.upd546.specs.TwoRunners.{upd546}
 use Rattle.laws.proofs.Lists.{below-all}
 use Rattle.calls.specs.Call.{BoardCall, BoardAnswer, longEnough, imageRun, callAnswer}
-use Rattle.calls.specs.EveryCall.{refusedReport, callRefusal, callNumber, Refuses, Rewrites}
+use Rattle.calls.specs.EveryCall.{refusedReport, callRefusal, callNumber, Refuses, Rewrites, TellsItsRun}
 use Rattle.calls.specs.Lists.{PanelLent, callsNotRefused, OnOneImage, callRuns, CallsEndAsOneRun, callOn, onImage, LentUnlessRefused, ImageEndsAsOneRun}
-use Rattle.calls.proofs.Chip.{every-finish-or-stop-rewrites, every-calls-number-tells, every-list-of-calls, every-accepted-image}
+use Rattle.calls.proofs.Chip.{every-finish-or-stop-rewrites, every-call-tells-its-run, every-calls-number-tells, every-list-of-calls, every-accepted-image}
 use Rattle.witness.specs.Calls.{rom, wantedImage}
 use Rattle.witness.specs.Board.{first, second, shortReport, badRom, start, between, onOther, calls, carriedOut, lendings, last, left, BoardFigures}
 use Rattle.witness.proofs.Opened.{opened}
@@ -66,6 +66,9 @@ by-numbers : (l : List BoardCall) → Each (λ c. callRefusal upd546 c ≡ callN
 by-numbers [] h = refl
 by-numbers (c ∷ l) h = ap₂ (λ (k : ℕ) (ks : List ℕ). k ∷ ks) (h .0) (by-numbers l (h .1))
 
+tells : TellsItsRun upd546 (callOn between badRom)
+tells = every-call-tells-its-run (callOn between badRom) (lit< tt) (lit≤ tt)
+
 rewrites : Rewrites upd546 (callOn start first)
 unfolding called
 rewrites = every-finish-or-stop-rewrites (callOn start first) (panel .rom-bytes) (panel .sched-bytes) refl
@@ -98,6 +101,10 @@ figures = record {
       (lit≤ tt);
   saved = rewrites .saved;
   owed-kept = ap (λ (r : RestoreAnswer State). r .state .core .owed) (rewrites .restores);
+  refused-number = tells .number;
+  refused-log = tells .log;
+  refused-cycles = tells .counts .cycles;
+  refused-written = tells .counts .written;
   told-stop = every-calls-number-tells (callOn between second);
   told-refusal = every-calls-number-tells (callOn between badRom);
   same-bytes = on-one-image .0;

@@ -99,6 +99,11 @@ pub record BoardFigures : Type 0 where
   -- `EveryFinishOrStopRewrites`: in the middle of OCD
   pub saved : saveAnswer upd546 (restoreAnswer upd546 between .state) start .number ≡ 0
   pub owed-kept : restoreAnswer upd546 between .state .core .owed ≡ 1
+  -- `EveryCallTellsItsRun`: a refusal, with counts of zero
+  pub refused-number : callAnswer upd546 (callOn between badRom) .number ≡ 21
+  pub refused-log : callAnswer upd546 (callOn between badRom) .log ≡ 6 ∷ 6 ∷ []
+  pub refused-cycles : numberAt (callAnswer upd546 (callOn between badRom) .report) 0 8 ≡ 0
+  pub refused-written : numberAt (callAnswer upd546 (callOn between badRom) .report) 16 8 ≡ 0
   -- `EveryCallsNumberTells`
   pub told-stop : endingBy (callAnswer upd546 (callOn between second) .number) ≡ stop
   pub told-refusal : endingBy (callAnswer upd546 (callOn between badRom) .number) ≡ refusal

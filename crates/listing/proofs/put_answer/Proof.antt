@@ -1,34 +1,20 @@
--- A finish, a stop and a refusal. Assumes nothing.
+-- A run that finished or stopped, and a refusal. Assumes nothing.
+use mathlib.Core.Path.{_≡_, _∙_, sym, ap}
+use mathlib.Core.Bool.{Bool, true, false, cond}
 use denote.Ref.{now}
+use Rattle.upd546.specs.Reports.{refusedText}
 use Rattle.text.proofs.Writing.{told}
-use Rattle.listing.proofs.Texts.{finished-text, stopped-text, refused-text}
+use Rattle.calls.specs.EveryCall.{ranBy}
+use Rattle.listing.specs.Texts.{endedText}
 use borrow.Author.Needs.{needs}
 use Rattle.listing.proofs.put_answer.Statement.{statement}
 use Rattle.listing.proofs.put_answer.Tie as tie
 
-enum-told : tie.Need-enum-told
-enum-told c = search needs
+ran-requires : tie.Need-ran-requires
+ran-requires c κs = search needs
 
 put-report-requires : tie.Need-put-report-requires
 put-report-requires c κs = search needs
-
-enum-known-end : tie.Need-enum-known-end
-enum-known-end c = search needs
-
-stop-number-requires : tie.Need-stop-number-requires
-stop-number-requires c κs = search needs
-
-put-report-requires-2 : tie.Need-put-report-requires-2
-put-report-requires-2 c κs = search needs
-
-enum-known-end-2 : tie.Need-enum-known-end-2
-enum-known-end-2 c = search needs
-
-refusal-number-requires : tie.Need-refusal-number-requires
-refusal-number-requires c κs = search needs
-
-put-refused-requires : tie.Need-put-refused-requires
-put-refused-requires c κs = search needs
 
 same-length : tie.Need-same-length
 same-length c = search needs
@@ -36,47 +22,33 @@ same-length c = search needs
 returns : tie.Need-returns
 returns c =
     let at-report = c .before .before in
-    let at-told = at-report .before .before in
-    let a = at-told .before .before .before .before .args in
-    told (finished-text (a .answer) (now (a .log)) (at-told .enum-told .given .1)) (at-report .put-report .ensures)
+    let at-if1 = at-report .before .before in
+    let a = at-if1 .before .before .before .before .args in
+    let yes : ranBy (a .ended .number) ≡ true = sym (at-if1 .before .ran .ensures) ∙ at-if1 .if1 .taken in
+    told (sym (ap (λ (b : Bool). cond b (endedText (a .ended) (now (a .log))) (refusedText (a .ended .number))) yes)) (at-report .put-report .ensures)
+
+put-refused-requires : tie.Need-put-refused-requires
+put-refused-requires c κs = search needs
 
 same-length-2 : tie.Need-same-length-2
 same-length-2 c = search needs
 
 returns-2 : tie.Need-returns-2
 returns-2 c =
-    let at-report = c .before .before in
-    let at-number = at-report .before in
-    let at-end = at-number .before .before .before in
-    let a = at-end .before .before .before .before .args in
-    told (stopped-text (a .answer) (now (a .log)) _ (at-end .end .given .1) (at-number .stop-number .ensures)) (at-report .put-report2 .ensures)
-
-same-length-3 : tie.Need-same-length-3
-same-length-3 c = search needs
-
-returns-3 : tie.Need-returns-3
-returns-3 c =
     let at-refused = c .before .before in
-    let at-number = at-refused .before in
-    let at-end = at-number .before .before .before in
-    let a = at-end .before .before .before .before .args in
-    told (refused-text (a .answer) (now (a .log)) _ (at-end .end2 .given .1) (at-number .refusal-number .ensures)) (at-refused .put-refused .ensures)
+    let at-if1 = at-refused .before .before in
+    let a = at-if1 .before .before .before .before .args in
+    let no : ranBy (a .ended .number) ≡ false = sym (at-if1 .before .ran .ensures) ∙ at-if1 .if1 .left in
+    told (sym (ap (λ (b : Bool). cond b (endedText (a .ended) (now (a .log))) (refusedText (a .ended .number))) no)) (at-refused .put-refused .ensures)
 
 pub put-answer-spec : {M : Type 1} → statement M
 put-answer-spec =
     tie.close
     (tie.spec
-    enum-told
+    ran-requires
     put-report-requires
-    enum-known-end
-    stop-number-requires
-    put-report-requires-2
-    enum-known-end-2
-    refusal-number-requires
-    put-refused-requires
     same-length
     returns
+    put-refused-requires
     same-length-2
-    returns-2
-    same-length-3
-    returns-3)
+    returns-2)

@@ -4,13 +4,16 @@ use Rattle.ports.proofs.all.Statement.{statement}
 use Rattle.ports.proofs.all.Tie as tie
 
 abbrev Inv-loop : tie.InvT-loop
-Inv-loop rom sched n left₀ left = Unit {0}
+Inv-loop rom sched n image₀ left₀ image left = Unit {0}
 
 abbrev μ-loop : tie.MeasureT-loop
-μ-loop rom sched n left₀ left = left .cycles
+μ-loop rom sched n image₀ left₀ image left = left
 
-fresh-state-requires : tie.Need-fresh-state-requires Inv-loop μ-loop
-fresh-state-requires c κs = search needs
+slice-aggregate-wharfnettle-fresh : tie.Need-slice-aggregate-wharfnettle-fresh Inv-loop μ-loop
+slice-aggregate-wharfnettle-fresh c = search needs
+
+wharfnettle-fresh-requires : tie.Need-wharfnettle-fresh-requires Inv-loop μ-loop
+wharfnettle-fresh-requires c κs = search needs
 
 slice-requires : tie.Need-slice-requires Inv-loop μ-loop
 slice-requires c κs = search needs
@@ -36,7 +39,8 @@ all-spec =
     (tie.spec
     Inv-loop
     μ-loop
-    fresh-state-requires
+    slice-aggregate-wharfnettle-fresh
+    wharfnettle-fresh-requires
     slice-requires
     loop-holds
     slice-requires-2

@@ -8,11 +8,20 @@ use Rattle.ports.proofs.slice.Tie as tie
 least-requires : tie.Need-least-requires
 least-requires c κs = search needs
 
-slice-aggregate-run-skipping : tie.Need-slice-aggregate-run-skipping
-slice-aggregate-run-skipping c = search needs
+slice-aggregate-wharfnettle-call : tie.Need-slice-aggregate-wharfnettle-call
+slice-aggregate-wharfnettle-call c = search needs
 
-run-skipping-requires : tie.Need-run-skipping-requires
-run-skipping-requires c κs = search needs
+slice-aggregate-wharfnettle-call-2 : tie.Need-slice-aggregate-wharfnettle-call-2
+slice-aggregate-wharfnettle-call-2 c = search needs
+
+wharfnettle-call-requires : tie.Need-wharfnettle-call-requires
+wharfnettle-call-requires c κs = search needs
+
+slice-aggregate-number-at : tie.Need-slice-aggregate-number-at
+slice-aggregate-number-at c = search needs
+
+number-at-requires : tie.Need-number-at-requires
+number-at-requires c κs = search needs
 
 array-share-prefix-log : tie.Need-array-share-prefix-log
 array-share-prefix-log c = search needs
@@ -23,26 +32,17 @@ slice-aggregate-write-all c = sym (length-take-le _ _ (search needs))
 write-all-requires : tie.Need-write-all-requires
 write-all-requires c κs = search needs
 
-enum-told : tie.Need-enum-told
-enum-told c = search needs
-
-sub-t19 : tie.Need-sub-t19
-sub-t19 c = search needs
-
-enum-told-2 : tie.Need-enum-told-2
-enum-told-2 c = search needs
-
-enum-known-end : tie.Need-enum-known-end
-enum-known-end c = search needs
-
-refusal-number-requires : tie.Need-refusal-number-requires
-refusal-number-requires c κs = search needs
-
-refused-requires : tie.Need-refused-requires
-refused-requires c κs = search needs
+sub-result : tie.Need-sub-result
+sub-result c = search needs
 
 returns : tie.Need-returns
 returns c = search needs
+
+ran-requires : tie.Need-ran-requires
+ran-requires c κs = search needs
+
+refused-requires : tie.Need-refused-requires
+refused-requires c κs = search needs
 
 returns-2 : tie.Need-returns-2
 returns-2 c = search needs
@@ -55,17 +55,17 @@ slice-spec =
     tie.close
     (tie.spec
     least-requires
-    slice-aggregate-run-skipping
-    run-skipping-requires
+    slice-aggregate-wharfnettle-call
+    slice-aggregate-wharfnettle-call-2
+    wharfnettle-call-requires
+    slice-aggregate-number-at
+    number-at-requires
     array-share-prefix-log
     slice-aggregate-write-all
     write-all-requires
-    enum-told
-    sub-t19
-    enum-told-2
-    enum-known-end
-    refusal-number-requires
-    refused-requires
+    sub-result
     returns
+    ran-requires
+    refused-requires
     returns-2
     returns-3)
