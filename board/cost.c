@@ -2,11 +2,14 @@
 
        cost          prints the time of a call, in nanoseconds
        cost stack    prints the stack that a call takes, and fails above the 2 KiB that the header names
+       cost calls COUNT RECORDS N
+                     makes so many calls of n cycles with so many records ahead, and prints nothing: for counting instructions
 
    board/build DIR && gcc -std=c11 -O2 board/cost.c -I DIR -L DIR -lwharfnettle -o DIR/cost && DIR/cost */
 #define _DEFAULT_SOURCE
 #include <inttypes.h>
 #include <stdio.h>
+#include <stdlib.h>
 #include <string.h>
 #include <time.h>
 #include <ucontext.h>
@@ -137,8 +140,20 @@ static int print_stack(void)
     return taken > ALLOWED;
 }
 
+/* So many calls of the first panel on the plain runner. */
+static int make_calls(unsigned long count, size_t records, uint64_t cycles)
+{
+    begin(lobby, sizeof lobby, records < RECORDS ? records : RECORDS, (uint64_t)1 << 47);
+    n = cycles < SLICE ? cycles : SLICE;
+    while (count--)
+        call();
+    return number;
+}
+
 int main(int count, char **words)
 {
+    if (count == 5 && !strcmp(words[1], "calls"))
+        return make_calls(strtoul(words[2], NULL, 10), strtoul(words[3], NULL, 10), strtoull(words[4], NULL, 10));
     if (count == 2 && !strcmp(words[1], "stack"))
         return print_stack();
     printf("nanoseconds of a call; records: none, 4096 ahead of the panel, 4096 behind it\n");
