@@ -12,7 +12,7 @@ use borrow.Author.Tests.{ltb-true, lt-ltb, le-ltb, le-leb, lt-leb, eq-eqb, ne-eq
 use Rattle.runs.specs.Refusals.{firstOf, unless}
 use Rattle.runs.proofs.Refusals.{first-at, first-past, first-here, last-one, passes}
 use Rattle.upd546.specs.TheLineSchedule.{recordLength, maxRecords, recordCount, recordByte, recordCycle, bytesNumber, orderNumber, recordNumber, recordsNumber, scheduleNumber}
-use Rattle.schedule.specs.Cursor.{leastCycle}
+use Rattle.schedule.specs.Cursor.{lastCycle}
 
 -- one record: its bytes, then its order
 pub bad-level : (sched : List ℕ) (i : ℕ) → 1 < recordByte sched i 8 → recordNumber sched i ≡ 13
@@ -27,24 +27,28 @@ pub by-order : (sched : List ℕ) (i : ℕ) → recordByte sched i 8 ≤ 1 → r
 unfolding bytesNumber firstOf
 by-order sched i h e = rw (le-leb (recordByte sched i 8) 1 h, eq-eqb (recordByte sched i 9) 0 e) (last-one (orderNumber sched i))
 
--- the order, by the least cycle that record i may have
-pub order-not : (sched : List ℕ) (i : ℕ) → recordCycle sched i < leastCycle sched i → orderNumber sched i ≡ 14
-unfolding orderNumber leastCycle
-order-not sched zero h = absurd (omega arith)
-order-not sched (suc i) h = rw (le-ltb (recordCycle sched i) (recordCycle sched (suc i)) (omega arith))
+-- the order, by the cycle of the record before record i; the first has none before it
+pub order-first : (sched : List ℕ) (i : ℕ) → i ≡ 0 → orderNumber sched i ≡ 0
+unfolding orderNumber
+order-first sched i e = rw e
 
-pub order-kept : (sched : List ℕ) (i : ℕ) → leastCycle sched i ≤ recordCycle sched i → orderNumber sched i ≡ 0
-unfolding orderNumber leastCycle
+pub order-not : (sched : List ℕ) (i : ℕ) → (i ≡ 0 → ⊥) → recordCycle sched i ≤ lastCycle sched i → orderNumber sched i ≡ 14
+unfolding orderNumber lastCycle
+order-not sched zero n h = absurd (n refl)
+order-not sched (suc i) n h = rw (le-ltb (recordCycle sched i) (recordCycle sched (suc i)) h)
+
+pub order-kept : (sched : List ℕ) (i : ℕ) → lastCycle sched i < recordCycle sched i → orderNumber sched i ≡ 0
+unfolding orderNumber lastCycle
 order-kept sched zero h = refl
-order-kept sched (suc i) h = rw (lt-ltb (recordCycle sched i) (recordCycle sched (suc i)) (omega arith))
+order-kept sched (suc i) h = rw (lt-ltb (recordCycle sched i) (recordCycle sched (suc i)) h)
 
-pub least-first : (sched : List ℕ) → 0 ≡ leastCycle sched 0
-unfolding leastCycle
-least-first sched = refl
+pub last-first : (sched : List ℕ) → 0 ≡ lastCycle sched 0
+unfolding lastCycle
+last-first sched = refl
 
-pub least-next : (sched : List ℕ) (i : ℕ) {cycle : ℕ} → cycle ≡ recordCycle sched i → cycle + 1 ≡ leastCycle sched (i + 1)
-unfolding leastCycle
-least-next sched i e = rw (add-one i, e)
+pub last-next : (sched : List ℕ) (i : ℕ) {cycle : ℕ} → cycle ≡ recordCycle sched i → cycle ≡ lastCycle sched (i + 1)
+unfolding lastCycle
+last-next sched i e = rw (add-one i, e)
 
 -- the tests of the length
 pub too-long : (sched : List ℕ) → recordLength * maxRecords < length sched → scheduleNumber sched ≡ 12

@@ -16,10 +16,10 @@ noCycle = 18446744073709551615
 unfoldable pub nextCycle : List ℕ → ℕ → ℕ
 nextCycle sched i = cond (ltb i (recordCount sched)) (recordCycle sched i) noCycle
 
--- the least cycle that record i may have: "14 cycle not above the last"
-unfoldable pub leastCycle : List ℕ → ℕ → ℕ
-leastCycle sched zero = 0
-leastCycle sched (suc i) = recordCycle sched i + 1
+-- the cycle of the record before record i, 0 where there is none
+unfoldable pub lastCycle : List ℕ → ℕ → ℕ
+lastCycle sched zero = 0
+lastCycle sched (suc i) = recordCycle sched i
 
 -- the lines once the first i records have been taken
 unfoldable pub linesAfter : List ℕ → ℕ → Lines

@@ -10,7 +10,7 @@ ghost use Prim.Native.Nat.{_+_, _<_, _≤_, _^_};
 ghost use Rattle.runs.specs.Numbers.{outcomeNumber};
 ghost use Rattle.runs.specs.Refusals.{cycleLimit};
 ghost use Rattle.upd546.specs.TheLineSchedule.{recordLength, recordCount, recordByte, recordCycle, recordLines, recordNumber, scheduleNumber};
-ghost use Rattle.schedule.specs.Cursor.{leastCycle, nextCycle, linesAfter, Counted, Stands};
+ghost use Rattle.schedule.specs.Cursor.{lastCycle, nextCycle, linesAfter, Counted, Stands};
 
 // A record's bytes: 0 to 5 the cycle, 6 ports A and B, 7 ports C and D, 8 the INT level, 9 zero.
 const RECORD_LENGTH: usize = 10;
@@ -63,9 +63,9 @@ fn lines_at(sched: &[u8], i: usize) -> Lines
     }
 }
 
-// Whether record i, which has this cycle, is accepted, where those before it are; `least` is the least cycle that it may have.
-fn record_check(sched: &[u8], i: usize, cycle: u64, least: u64) -> Outcome
-    requires { ⌜ (i < recordCount (now sched)) × (cycle ≡ recordCycle (now sched) i) × (least ≡ leastCycle (now sched) i) ⌝ }
+// Whether record i, which has this cycle, is accepted, where those before it are; `last` is the cycle of the record before it.
+fn record_check(sched: &[u8], i: usize, cycle: u64, last: u64) -> Outcome
+    requires { ⌜ (i < recordCount (now sched)) × (cycle ≡ recordCycle (now sched) i) × (last ≡ lastCycle (now sched) i) ⌝ }
     ensures { λ r. ⌜ outcomeNumber r ≡ recordNumber (now (sched .entry)) i ⌝ }
 {
     if 1 < byte_at(sched, i, 8) {
@@ -74,7 +74,10 @@ fn record_check(sched: &[u8], i: usize, cycle: u64, least: u64) -> Outcome
     if byte_at(sched, i, 9) != 0 {
         return Outcome::Refused(Refusal::RecordBytes);
     }
-    if cycle < least {
+    if i == 0 {
+        return Outcome::Done;
+    }
+    if cycle <= last {
         return Outcome::Refused(Refusal::RecordOrder);
     }
     Outcome::Done
@@ -91,15 +94,15 @@ pub fn check(sched: &[u8]) -> Outcome
         return Outcome::Refused(Refusal::ScheduleLength);
     }
     let count = sched.len() / RECORD_LENGTH;
-    let mut least: u64 = 0;
+    let mut last: u64 = 0;
     let mut i = 0;
     while i < count {
         let cycle = cycle_at(sched, i);
-        let found = record_check(sched, i, cycle, least);
+        let found = record_check(sched, i, cycle, last);
         if runs::outcome_number(found) != 0 {
             return found;
         }
-        least = cycle + 1;
+        last = cycle;
         i += 1;
     }
     Outcome::Done

@@ -1,21 +1,21 @@
 -- `check` answers the number of its schedule. The loop has passed i records that no number refuses, and keeps the
--- least cycle that the next may have. Assumes nothing.
+-- cycle of the last. Assumes nothing.
 use mathlib.Core.Path.{_≡_, _∙_, sym, ap}
 use Prim.Native.Nat.{_-_, _≤_}
 use native.Mathlib.Omega.{arith}
 use denote.Ref.{now}
 use borrow.Author.Needs.{needs}
 use Rattle.upd546.specs.TheLineSchedule.{recordCount, recordsNumber}
-use Rattle.schedule.specs.Cursor.{leastCycle}
-use Rattle.schedule.proofs.Records.{too-long, no-multiple, by-records, one-more, refused-at, none-refused, least-first, least-next}
+use Rattle.schedule.specs.Cursor.{lastCycle}
+use Rattle.schedule.proofs.Records.{too-long, no-multiple, by-records, one-more, refused-at, none-refused, last-first, last-next}
 use Rattle.schedule.proofs.check.Statement.{statement}
 use Rattle.schedule.proofs.check.Tie as tie
 
 abbrev Inv-loop : tie.InvT-loop
-Inv-loop sched count least₀ i₀ least i = (i ≤ recordCount sched) × (recordsNumber sched i ≡ 0) × (least ≡ leastCycle sched i)
+Inv-loop sched count last₀ i₀ last i = (i ≤ recordCount sched) × (recordsNumber sched i ≡ 0) × (last ≡ lastCycle sched i)
 
 abbrev μ-loop : tie.MeasureT-loop
-μ-loop sched count least₀ i₀ least i = count - i
+μ-loop sched count last₀ i₀ last i = count - i
 
 returns : tie.Need-returns Inv-loop μ-loop
 returns c = sym (too-long _ (omega arith))
@@ -24,7 +24,7 @@ returns-2 : tie.Need-returns-2 Inv-loop μ-loop
 returns-2 c = sym (no-multiple _ (omega arith) (omega arith))
 
 loop-holds : tie.Need-loop-holds Inv-loop μ-loop
-loop-holds c = (omega arith, none-refused _, least-first _)
+loop-holds c = (omega arith, none-refused _, last-first _)
 
 cycle-at-requires : tie.Need-cycle-at-requires Inv-loop μ-loop
 cycle-at-requires c κs = search needs
@@ -40,9 +40,6 @@ returns-3 c =
     c .before .before .record-check .ensures
     ∙ sym (refused-at _ _ (omega arith) (omega arith) (omega arith) (c .before .before .before .before .before .loop .inv .1) (omega arith))
 
-add-least : tie.Need-add-least Inv-loop μ-loop
-add-least c = omega arith
-
 add-i : tie.Need-add-i Inv-loop μ-loop
 add-i c = search needs
 
@@ -52,7 +49,7 @@ loop-less c = search needs
 loop-again : tie.Need-loop-again Inv-loop μ-loop
 loop-again c =
     let turn = c .before .before .before .before .before .loop in
-    (omega arith, one-more _ _ (turn .inv .1) ∙ omega arith, least-next _ (turn .i) (c .before .before .before .cycle-at .ensures .0))
+    (omega arith, one-more _ _ (turn .inv .1) ∙ omega arith, last-next _ (turn .i) (c .before .before .before .cycle-at .ensures .0))
 
 returns-4 : tie.Need-returns-4 Inv-loop μ-loop
 returns-4 c =
@@ -73,7 +70,6 @@ check-spec =
     record-check-requires
     outcome-number-requires
     returns-3
-    add-least
     add-i
     loop-less
     loop-again
