@@ -26,10 +26,10 @@ fn main() {
         io::write_all(STDOUT_FILENO, b"the input is cut short\n");
         return;
     }
-    let seed = test_cases::long(&input, 0);
+    let seed = test_stream::long(&input, 0);
     let load = input[4];
     let runner = input[5];
-    let slices = test_cases::word(&input, 6);
+    let slices = test_stream::word(&input, 6);
     if runner > 1 {
         io::write_all(STDOUT_FILENO, b"no such runner\n");
         return;
@@ -50,8 +50,8 @@ fn make_rom(seed: u32, load: u8, rom: &mut [u8; 2000]) -> u32 {
     let mut s = seed;
     let mut i: usize = 0;
     while i < 2000 {
-        s = test_cases::next(s);
-        rom[i] = staying(code(load, test_cases::top(s)));
+        s = test_stream::next(s);
+        rom[i] = staying(code(load, test_stream::top(s)));
         i += 1;
     }
     if load == 2 {
@@ -96,15 +96,15 @@ fn make_schedule(seed: u32, schedule: &mut [u8; 40960]) {
     let mut cycle: u32 = 0;
     let mut i: usize = 0;
     while i < 4096 {
-        let gap = test_cases::next(s);
-        let a = test_cases::next(gap);
-        let b = test_cases::next(a);
-        s = test_cases::next(b);
+        let gap = test_stream::next(s);
+        let a = test_stream::next(gap);
+        let b = test_stream::next(a);
+        s = test_stream::next(b);
         cycle = cycle + 1 + 16 * (gap / 16777216);
         put_cycle(schedule, 10 * i, cycle);
-        schedule[10 * i + 6] = test_cases::top(a);
-        schedule[10 * i + 7] = test_cases::top(b);
-        schedule[10 * i + 8] = test_cases::top(s) % 2;
+        schedule[10 * i + 6] = test_stream::top(a);
+        schedule[10 * i + 7] = test_stream::top(b);
+        schedule[10 * i + 8] = test_stream::top(s) % 2;
         i += 1;
     }
 }
@@ -113,7 +113,7 @@ fn make_schedule(seed: u32, schedule: &mut [u8; 40960]) {
 fn put_cycle(schedule: &mut [u8; 40960], at: usize, cycle: u32)
     requires { ⌜ at ≤ 40950 ⌝ }
 {
-    schedule[at + 2] = test_cases::top(cycle);
+    schedule[at + 2] = test_stream::top(cycle);
     schedule[at + 3] = (cycle / 65536 % 256) as u8;
     schedule[at + 4] = (cycle / 256 % 256) as u8;
     schedule[at + 5] = (cycle % 256) as u8;
@@ -171,7 +171,7 @@ fn digest(sum: u32, log: &[u8; 808008], written: usize) -> u32 {
     if written > 808008 {
         return sum;
     }
-    let last = test_cases::two(log[written - 3], log[written - 1]);
+    let last = test_stream::two(log[written - 3], log[written - 1]);
     (((sum as u64) * 31 + (last as u64)) % 1000000007) as u32
 }
 

@@ -33,7 +33,7 @@ fn main() {
         cut_short();
         return;
     }
-    all(test_cases::word(&head, 0));
+    all(test_stream::word(&head, 0));
 }
 
 fn all(count: u16) {
@@ -81,7 +81,7 @@ fn one(before: Carried) -> Tried {
     if got < HEAD {
         return not_there();
     }
-    let size = test_cases::word(&head, 1) as usize;
+    let size = test_stream::word(&head, 1) as usize;
     if head[0] == GIVEN {
         let part = io::read_full(STDIN_FILENO, &mut given);
         if part < CARRIED_BYTES {

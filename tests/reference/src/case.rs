@@ -1,5 +1,20 @@
-//! One case of the comparisons: how it is told, laid out in a file, and run; and the generator and
-//! the digests that their files share. `bin/cases/main.rs` tells the layout.
+//! One case of the comparisons: how it is told, and run; and the generator and the digests that they
+//! share.
+//!
+//! The generator goes from s to 1664525 s + 1013904223 modulo 2^32; x is the top eight bits of the
+//! new s and y the eight below. Where a seed is 0, all bytes are 0.
+//!
+//! A ROM byte is x, passed through these filters in this order:
+//!
+//! - 2: if it is C0 or more and y % 8 isn't 0, 64 (1 + y % 3) less;
+//! - 8: if it is 41, 48, 49 or A0 to BF and y % 8 isn't 0, y % 64;
+//! - 16: if it is 0E, 1E, 44, 60 to 67 or 70 to 77, 80 + y % 32;
+//! - 1: if it is 1C or 45, 0;
+//! - 4: at 7CE A0, elsewhere from 7C0 on 0, and if it is A7 or AF, 0.
+//!
+//! A schedule record takes two numbers: x and y of the first are the ports, the top bit of the
+//! second is the INT level. The next record is 1 + z cycles later, where z is the top half of the
+//! second number modulo the gap, 0 if the gap is 0. A RAM word is the top four bits of x.
 
 use crate::lent::Lent;
 use crate::machine::State;
@@ -15,12 +30,6 @@ pub const NO_PORTS: u8 = 16;
 /// ROM bytes and log bytes where a case says nothing else.
 const ROM: u16 = 2_000;
 const LOG: u32 = 64;
-
-/// A run of a list of patches has at most so many bytes.
-const RUN: usize = 250;
-
-/// The longest case that a reader takes.
-const LONGEST: usize = 65_536;
 
 /// A run of bytes at an address.
 type Patch = (u16, Vec<u8>);
@@ -93,7 +102,7 @@ impl Case {
     }
 
     pub fn rom(mut self, address: u16, bytes: &[u8]) -> Case {
-        self.rom_patches.extend(runs(address, bytes));
+        self.rom_patches.push((address, bytes.to_vec()));
         self
     }
 
@@ -106,7 +115,7 @@ impl Case {
     pub fn schedule(mut self, records: &[(u64, u8, u8, u8)]) -> Case {
         let bytes = schedule(records);
         self.schedule_length = bytes.len() as u16;
-        self.schedule_patches = runs(0, &bytes);
+        self.schedule_patches = vec![(0, bytes)];
         self
     }
 
@@ -120,7 +129,7 @@ impl Case {
     }
 
     pub fn schedule_bytes(mut self, address: u16, bytes: &[u8]) -> Case {
-        self.schedule_patches.extend(runs(address, bytes));
+        self.schedule_patches.push((address, bytes.to_vec()));
         self
     }
 
@@ -140,7 +149,7 @@ impl Case {
     }
 
     pub fn ram(mut self, place: u16, words: &[u8]) -> Case {
-        self.ram_patches.extend(runs(place, words));
+        self.ram_patches.push((place, words.to_vec()));
         self
     }
 
@@ -183,32 +192,6 @@ impl Case {
     /// Runs the case, and answers its log too.
     pub fn run(&self, coverage: &mut Coverage) -> (Answer, Vec<u8>) {
         self.lent().run_observed(coverage)
-    }
-
-    /// The case as the file has it.
-    pub fn bytes(&self) -> Vec<u8> {
-        let lists = [&self.rom_patches, &self.schedule_patches, &self.ram_patches]
-            .map(|patches| list(patches));
-        let mut bytes = vec![u8::from(self.runner == Runner::Skipping), self.filter];
-        bytes.extend(self.rom_length.to_be_bytes());
-        bytes.extend(self.rom_seed.to_be_bytes());
-        bytes.extend(self.schedule_length.to_be_bytes());
-        bytes.extend(self.gap.to_be_bytes());
-        bytes.extend(self.schedule_seed.to_be_bytes());
-        bytes.extend(self.first.to_be_bytes());
-        bytes.extend(self.ram_seed.to_be_bytes());
-        bytes.extend(self.log_length.to_be_bytes());
-        bytes.extend(self.n.to_be_bytes());
-        bytes.extend(self.state.cycle.to_be_bytes());
-        bytes.extend(registers(&self.state));
-        bytes.extend(self.state.ports);
-        for list in &lists {
-            let length = u16::try_from(list.len()).expect("a list's length has two bytes");
-            bytes.extend(length.to_be_bytes());
-        }
-        bytes.extend(lists.concat());
-        assert!(bytes.len() <= LONGEST, "{}", self.name);
-        bytes
     }
 
     pub fn made_rom_bytes(&self) -> Vec<u8> {
@@ -325,24 +308,6 @@ fn filtered(s: u32, filter: u8, at: usize) -> u8 {
     x
 }
 
-fn runs(address: u16, bytes: &[u8]) -> Vec<Patch> {
-    bytes
-        .chunks(RUN)
-        .enumerate()
-        .map(|(place, run)| (address + (place * RUN) as u16, run.to_vec()))
-        .collect()
-}
-
-fn list(patches: &[Patch]) -> Vec<u8> {
-    let mut bytes = Vec::new();
-    for (address, run) in patches {
-        bytes.extend(address.to_be_bytes());
-        bytes.push(run.len() as u8);
-        bytes.extend(run);
-    }
-    bytes
-}
-
 fn lay(target: &mut [u8], patches: &[Patch]) {
     for (address, run) in patches {
         for (place, &byte) in run.iter().enumerate() {
@@ -389,7 +354,7 @@ pub fn highest() -> State {
     }
 }
 
-/// The bytes of a state that are digested.
+/// A state as a value, the bytes of its fields: PC, stack, the 13 registers, ports, RAM and cycle number.
 pub fn state_bytes(state: &State) -> Vec<u8> {
     let mut bytes = registers(state);
     bytes.extend(state.ports);
@@ -399,7 +364,12 @@ pub fn state_bytes(state: &State) -> Vec<u8> {
 }
 
 pub fn digest(bytes: &[u8]) -> u64 {
+    digest_from(0, bytes)
+}
+
+/// The digest of bytes, of which those before have the digest h.
+pub fn digest_from(h: u64, bytes: &[u8]) -> u64 {
     bytes
         .iter()
-        .fold(0, |h, &x| (257 * h + u64::from(x) + 1) % 1_000_000_007)
+        .fold(h, |h, &x| (257 * h + u64::from(x) + 1) % 1_000_000_007)
 }

@@ -16,8 +16,7 @@ pub struct Input {
 /// OCD, LI, OE and a code that is no instruction: document 01's example.
 const EXAMPLE: [u8; 5] = [0x1E, 0xA5, 0x93, 0x44, 0x1C];
 
-/// Those of the stored file.
-pub fn stored() -> Vec<Input> {
+pub fn all() -> Vec<Input> {
     let mut inputs = short();
     inputs.extend(schedule_lengths());
     inputs.extend(records());
@@ -26,12 +25,13 @@ pub fn stored() -> Vec<Input> {
     inputs.extend(stops());
     inputs.extend(lines());
     inputs.extend(samples());
+    inputs.extend(long());
     inputs
 }
 
-/// Those that the built program alone is given, for their length: schedules of 40 KB and more, some
-/// of them longer than its buffer of 65,536 bytes. The records rise, and no two neighbours are alike.
-pub fn long() -> Vec<Input> {
+/// Schedules of 40 KB and more, some of them longer than the program's buffer of 65,536 bytes. The records
+/// rise, and no two neighbours are alike.
+fn long() -> Vec<Input> {
     let records: Vec<u8> = (0..20_000)
         .flat_map(|k| record(k, 37 * k as u8, 0, 1))
         .collect();

@@ -1,0 +1,93 @@
+-- The commands: the buffers keep their lengths. Assumes nothing.
+use borrow.Author.Needs.{needs}
+use Prim.Native.Nat.{_≤_, _-_}
+use mathlib.Core.Path.{_≡_}
+use lib.ListN.{length}
+use Rattle.test_values.proofs.main.Statement.{statement}
+use Rattle.test_values.proofs.main.Tie as tie
+
+abbrev Inv-loop : tie.InvT-loop
+Inv-loop rom₀ schedule₀ value₀ kept₀ image₀ log₀ s₀ k₀ rom schedule value kept image log s k =
+    (k ≤ 70368744177664) × (4096 ≡ length rom) × (65536 ≡ length schedule) × (132 ≡ length value) × (132 ≡ length kept) × (512 ≡ length image) × (65536 ≡ length log)
+
+abbrev μ-loop : tie.MeasureT-loop
+μ-loop rom₀ schedule₀ value₀ kept₀ image₀ log₀ s₀ k₀ rom schedule value kept image log s k = 70368744177664 - k
+
+buffer-requires : tie.Need-buffer-requires Inv-loop μ-loop
+buffer-requires c κs = search needs
+
+large-buffer-requires : tie.Need-large-buffer-requires Inv-loop μ-loop
+large-buffer-requires c κs = search needs
+
+large-buffer-requires-2 : tie.Need-large-buffer-requires-2 Inv-loop μ-loop
+large-buffer-requires-2 c κs = search needs
+
+begin-requires : tie.Need-begin-requires Inv-loop μ-loop
+begin-requires c κs = search needs
+
+loop-holds : tie.Need-loop-holds Inv-loop μ-loop
+loop-holds c = search needs
+
+read-command-requires : tie.Need-read-command-requires Inv-loop μ-loop
+read-command-requires c κs = search needs
+
+slice-aggregate-one : tie.Need-slice-aggregate-one Inv-loop μ-loop
+slice-aggregate-one c = search needs
+
+slice-aggregate-one-2 : tie.Need-slice-aggregate-one-2 Inv-loop μ-loop
+slice-aggregate-one-2 c = search needs
+
+slice-aggregate-one-3 : tie.Need-slice-aggregate-one-3 Inv-loop μ-loop
+slice-aggregate-one-3 c = search needs
+
+slice-aggregate-one-4 : tie.Need-slice-aggregate-one-4 Inv-loop μ-loop
+slice-aggregate-one-4 c = search needs
+
+slice-aggregate-one-5 : tie.Need-slice-aggregate-one-5 Inv-loop μ-loop
+slice-aggregate-one-5 c = search needs
+
+slice-aggregate-one-6 : tie.Need-slice-aggregate-one-6 Inv-loop μ-loop
+slice-aggregate-one-6 c = search needs
+
+one-requires : tie.Need-one-requires Inv-loop μ-loop
+one-requires c κs = search needs
+
+add-k : tie.Need-add-k Inv-loop μ-loop
+add-k c = search needs
+
+loop-less : tie.Need-loop-less Inv-loop μ-loop
+loop-less c = search needs
+
+loop-again : tie.Need-loop-again Inv-loop μ-loop
+loop-again c = search needs
+
+returns : tie.Need-returns Inv-loop μ-loop
+returns c = search needs
+
+returns-2 : tie.Need-returns-2 Inv-loop μ-loop
+returns-2 c = search needs
+
+pub main-spec : {M : Type 1} → statement M
+main-spec =
+    tie.close
+    (tie.spec
+    Inv-loop
+    μ-loop
+    buffer-requires
+    large-buffer-requires
+    large-buffer-requires-2
+    begin-requires
+    loop-holds
+    read-command-requires
+    slice-aggregate-one
+    slice-aggregate-one-2
+    slice-aggregate-one-3
+    slice-aggregate-one-4
+    slice-aggregate-one-5
+    slice-aggregate-one-6
+    one-requires
+    add-k
+    loop-less
+    loop-again
+    returns
+    returns-2)

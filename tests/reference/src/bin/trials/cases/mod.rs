@@ -1,0 +1,208 @@
+//! The cases: a ROM, a schedule, a state, a log, n and a runner. Those with a sound state are calls on its
+//! image too.
+
+mod bench;
+mod codes;
+mod edges;
+mod keys;
+mod refusals;
+mod roms;
+mod starts;
+mod stops;
+mod waits;
+
+use reference::call::{call, REPORT};
+use reference::case::{digest, state_bytes, Case};
+use reference::codes::{always_skips, can_skip, is_none};
+use reference::{save, Coverage, Runner};
+
+use crate::stream::{pattern, Of, Stream};
+use crate::Item;
+
+/// A runner's number at every width that the call has to look at.
+const SKIPPING: [u64; 6] = [1, 2, 256, 1 << 32, 1 << 63, u64::MAX];
+
+/// Each case on both runners.
+pub fn all() -> Vec<Case> {
+    let mut cases = codes::cases();
+    cases.extend(bench::cases());
+    cases.extend(edges::cases());
+    cases.extend(waits::cases());
+    cases.extend(starts::cases());
+    cases.extend(stops::cases());
+    cases.extend(refusals::cases());
+    cases.extend(roms::cases());
+    cases.extend(keys::cases());
+    let skipping: Vec<Case> = cases.iter().map(Case::skipping).collect();
+    cases.extend(skipping);
+    cases
+}
+
+/// The bench cases of few bytes.
+pub fn small() -> Vec<Case> {
+    let mut cases = bench::cases();
+    let skipping: Vec<Case> = cases.iter().map(Case::skipping).collect();
+    cases.extend(skipping);
+    let few = |bytes: Vec<u8>| bytes.iter().skip(0x40).all(|&byte| byte == 0);
+    cases.retain(|case| few(case.made_rom_bytes()) && few(case.made_schedule_bytes()));
+    cases
+}
+
+/// What is wrong with the cases: each ends with the number that it has to, each number is there, and
+/// each code is executed.
+pub fn faults(cases: &[Case]) -> Vec<String> {
+    let mut coverage = Coverage::new();
+    let mut faults = Vec::new();
+    let mut numbers = Vec::new();
+    let mut spared = 0;
+    for case in cases {
+        let (answer, _) = case.run(&mut coverage);
+        if case.ends.is_some_and(|number| number != answer.number) {
+            faults.push(format!("{}: ends with {}", case.name, answer.number));
+        }
+        numbers.push(answer.number);
+        spared += answer.cycles - answer.steps;
+    }
+    for number in [0, 2, 3, 11, 12, 13, 14, 21, 22, 23, 34] {
+        if !numbers.contains(&number) {
+            faults.push(format!("no case ends with {number}"));
+        }
+    }
+    if spared == 0 {
+        faults.push(String::from("no case jumps"));
+    }
+    faults.extend(uncovered(&coverage));
+    faults
+}
+
+/// Every code has to be executed, without a skip and, where it can, with one.
+fn uncovered(coverage: &Coverage) -> Vec<String> {
+    let mut faults = Vec::new();
+    for code in 0..=255_u8 {
+        let plain = coverage.plain[usize::from(code)];
+        let skipped = coverage.skipped[usize::from(code)];
+        if (plain > 0) == (is_none(code) || always_skips(code)) {
+            faults.push(format!("{code:02X} without a skip: {plain} times"));
+        }
+        if (skipped > 0) != can_skip(code) {
+            faults.push(format!("{code:02X} with a skip: {skipped} times"));
+        }
+    }
+    faults
+}
+
+/// A run of the state as a value.
+pub struct Run(pub Case);
+
+impl Item for Run {
+    fn name(&self) -> String {
+        self.0.name.clone()
+    }
+
+    fn put(&self, stream: &mut Stream) -> String {
+        let lent = self.0.lent();
+        stream.rom(&lent.rom);
+        stream.schedule(&lent.schedule);
+        stream.value(&lent.state);
+        stream.run(Of::Line, lent.n, lent.runner, lent.log.len(), 0);
+        let (answer, log) = lent.run();
+        format!(
+            "{} {} {} {} {} {} {} {}\n",
+            answer.number,
+            answer.cycles,
+            answer.clocks,
+            answer.begun,
+            answer.written,
+            answer.steps,
+            digest(&state_bytes(&answer.state)),
+            digest(&log),
+        )
+    }
+
+    fn show(&self) -> String {
+        self.0.lent().told()
+    }
+}
+
+/// A call on the image of the state; there is none for a state that is refused. The report has some bytes
+/// more than it needs.
+pub struct Call {
+    case: Case,
+    image: Vec<u8>,
+    runner: u64,
+    report: usize,
+}
+
+impl Call {
+    pub fn of(place: usize, case: Case) -> Option<Call> {
+        let mut image = vec![0; 81];
+        let lent = case.lent();
+        if save(&lent.state, &mut image) != 0 {
+            return None;
+        }
+        let runner = match lent.runner {
+            Runner::Plain => 0,
+            Runner::Skipping => SKIPPING[place % SKIPPING.len()],
+        };
+        Some(Call {
+            case,
+            image,
+            runner,
+            report: REPORT + place % 17,
+        })
+    }
+}
+
+impl Item for Call {
+    fn name(&self) -> String {
+        self.case.name.clone()
+    }
+
+    fn put(&self, stream: &mut Stream) -> String {
+        let lent = self.case.lent();
+        stream.rom(&lent.rom);
+        stream.schedule(&lent.schedule);
+        stream.image(&self.image);
+        stream.call(Of::Line, lent.n, self.runner, lent.log.len(), self.report);
+        let (mut image, mut log, mut report) =
+            (self.image.clone(), lent.log.clone(), pattern(self.report));
+        let number = call(
+            &mut image,
+            &lent.rom,
+            &lent.schedule,
+            &mut log,
+            lent.n,
+            self.runner,
+            &mut report,
+        );
+        call_line(number, &image, &log, &report)
+    }
+
+    fn show(&self) -> String {
+        format!(
+            "on its image, by runner {}, with a report of {} bytes\n\n{}",
+            self.runner,
+            self.report,
+            self.case.lent().told()
+        )
+    }
+}
+
+/// A call's line: what isn't there of a report reads 0.
+pub fn call_line(number: u8, image: &[u8], log: &[u8], report: &[u8]) -> String {
+    let count = |at: usize| {
+        (at..at + 8).fold(0, |n: u64, place| {
+            n << 8 | u64::from(report.get(place).copied().unwrap_or(0))
+        })
+    };
+    format!(
+        "{number} {} {} {} {} {} {} {}\n",
+        count(0),
+        count(8),
+        count(16),
+        count(24),
+        digest(image),
+        digest(log),
+        digest(report),
+    )
+}

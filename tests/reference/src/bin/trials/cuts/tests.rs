@@ -1,0 +1,320 @@
+//! The lists are run on this interpreter too, and the cuts fall where they have to.
+
+use std::collections::BTreeSet;
+
+use reference::{restore, run};
+
+use super::*;
+
+/// What a panel lends.
+struct Lent {
+    rom: Vec<u8>,
+    schedule: Vec<u8>,
+}
+
+impl Lent {
+    fn of(panel: &Panel) -> Lent {
+        Lent {
+            rom: panel.case.made_rom_bytes(),
+            schedule: panel.case.made_schedule_bytes(),
+        }
+    }
+
+    fn check_refused(&self, call: Refused, runner: Runner, state: &State) {
+        let short = &self.rom[..1_999];
+        match call {
+            Refused::Rom => refused_run(21, runner, short, &self.schedule, state, 9),
+            Refused::Schedule => refused_run(11, runner, &self.rom, &[0; 7], state, 9),
+            Refused::Cycles => refused_run(2, runner, &self.rom, &self.schedule, state, u64::MAX),
+            Refused::Buffer => {
+                let mut buffer = lent_log(9);
+                assert_eq!(save(state, &mut buffer), 1);
+                assert_eq!(buffer, lent_log(9));
+            }
+            Refused::Length => assert_eq!(restore(&[0; 80]), (31, State::fresh())),
+            Refused::Mark | Refused::Version | Refused::Field => {
+                let mut image = image_of(state);
+                let (place, value) = call.damage().unwrap();
+                image[place] = value;
+                assert_eq!(restore(&image), (call.number(), State::fresh()));
+            }
+        }
+    }
+
+    fn run_list(&self, start: &State, slices: &[Slice]) -> End {
+        let mut state = start.clone();
+        let mut image = [0; IMAGE];
+        let mut joined = Vec::new();
+        let (mut number, mut cycles, mut begun) = (0, 0, 0);
+        for slice in slices {
+            let mut log = lent_log(slice.cycles);
+            let answer = run(
+                slice.runner,
+                &self.rom,
+                &self.schedule,
+                &state,
+                &mut log,
+                slice.cycles,
+            );
+            assert!(!answer.refused && answer.number != 3);
+            if number == 0 {
+                number = answer.number;
+            }
+            if answer.number == 0 {
+                assert_eq!(answer.cycles, slice.cycles);
+            } else {
+                assert_eq!(answer.number, number);
+            }
+            let lent = lent_log(slice.cycles);
+            assert_eq!(log[answer.written..], lent[answer.written..]);
+            cycles += answer.cycles;
+            begun += answer.begun;
+            joined.extend_from_slice(&log[..answer.written]);
+            if let Some(call) = slice.refused {
+                self.check_refused(call, slice.runner, &answer.state);
+            }
+            assert_eq!(save(&answer.state, &mut image), 0);
+            let (restored, again) = restore(&image);
+            assert_eq!(restored, 0);
+            state = again;
+        }
+        End {
+            number,
+            cycles,
+            begun,
+            log: joined,
+            state,
+        }
+    }
+}
+
+fn refused_run(number: u8, runner: Runner, rom: &[u8], schedule: &[u8], state: &State, n: u64) {
+    let mut log = lent_log(9);
+    let answer = run(runner, rom, schedule, state, &mut log, n);
+    assert_eq!((answer.number, answer.refused), (number, true));
+    assert_eq!(answer.state, *state);
+    assert_eq!((answer.cycles, answer.clocks, answer.begun), (0, 0, 0));
+    assert_eq!((answer.written, answer.steps), (0, 0));
+    assert_eq!(log, lent_log(9));
+}
+
+#[test]
+fn every_list_ends_as_the_unbroken_run() {
+    for panel in all() {
+        let lent = Lent::of(&panel);
+        let start = panel.case.start();
+        let (end, _) = panel.unbroken(Runner::Plain);
+        assert_eq!(panel.unbroken(Runner::Skipping).0, end);
+        for slices in panel.cut_lists().iter().chain(&panel.drawn_lists()) {
+            let name = &panel.case.name;
+            assert_eq!(lent.run_list(&start, slices), end, "{name}: {slices:?}");
+        }
+    }
+}
+
+#[test]
+fn a_restore_that_forgets_is_seen() {
+    // A fresh state in the middle of each run.
+    for panel in all() {
+        let lent = Lent::of(&panel);
+        let (end, _) = panel.unbroken(Runner::Plain);
+        let slices = &list::cut(panel.case.cycles(), end.cycles / 2);
+        let first = lent.run_list(&panel.case.start(), &slices[..1]);
+        let second = lent.run_list(&State::fresh(), &slices[1..]);
+        assert_ne!(
+            (first.begun + second.begun, second.state),
+            (end.begun, end.state)
+        );
+    }
+}
+
+#[test]
+fn every_panel_ends_as_it_has_to() {
+    assert_eq!(faults(&all()), Vec::<String>::new());
+    let numbers: BTreeSet<u8> = all()
+        .iter()
+        .map(|panel| panel.unbroken(Runner::Plain).0.number)
+        .collect();
+    assert_eq!(numbers, BTreeSet::from([0, 22, 23]));
+}
+
+/// The states at the cuts of a panel.
+fn states(panel: &Panel) -> Vec<State> {
+    let lent = Lent::of(panel);
+    let mut state = panel.case.start();
+    let mut states = vec![state.clone()];
+    for _ in 0..panel.cuts {
+        let mut log = [0; 16];
+        let Lent { rom, schedule } = &lent;
+        let answer = run(Runner::Plain, rom, schedule, &state, &mut log, 1);
+        state = answer.state;
+        states.push(state.clone());
+    }
+    states
+}
+
+#[test]
+fn cuts_fall_everywhere() {
+    let states: Vec<State> = all().iter().flat_map(states).collect();
+    let falls = |name: &str, condition: &dyn Fn(&State) -> bool| {
+        let count = states.iter().filter(|state| condition(state)).count();
+        assert!(count >= 10, "{name}: {count} cuts");
+    };
+    for owed in 1..=2 {
+        falls("cycles owed", &|s| s.owed == owed);
+    }
+    falls("an interrupt to be accepted", &|s| {
+        s.int == 1 && s.inte == 1 && s.owed == 0 && s.mark != 2
+    });
+    falls("an interrupt after EI", &|s| s.int == 1 && s.mark == 2);
+    falls("in the answer", &|s| (0x3C..0x43).contains(&s.pc));
+    falls("mark LDI with cycles owed", &|s| s.mark == 1 && s.owed > 0);
+    falls("mark STM with cycles owed", &|s| s.mark == 3 && s.owed > 0);
+    falls("mark STM at its end", &|s| s.mark == 3 && s.owed == 0);
+    falls("a running timer", &|s| s.register > 1 && s.counter > 1);
+    falls("the timer's last step", &|s| {
+        s.register == 32 && s.counter == 0
+    });
+    falls("TM set", &|s| s.tm == 1);
+    falls("level low", &|s| s.level == 0);
+    falls("C and C' set", &|s| s.carry == 1 && s.saved == 1);
+    falls("PC above 7CF", &|s| s.pc > 0x7CF);
+}
+
+#[test]
+fn waits_are_jumped_and_nothing_else() {
+    for panel in all() {
+        let (end, steps) = panel.unbroken(Runner::Skipping);
+        let name = &panel.case.name;
+        let words = ["wait", "timer running", "last cycle"];
+        let waits = words.iter().any(|word| name.contains(word));
+        if waits {
+            assert!(2 * steps < end.cycles, "{name}: {steps} steps");
+        } else {
+            assert_eq!(steps, end.cycles, "{name}");
+        }
+    }
+}
+
+/// The steps of the timer-skipping runner for n cycles of a panel, and the state that it comes to.
+fn skipped(panel: &Panel, n: u64) -> (u64, State) {
+    let Lent { rom, schedule } = Lent::of(panel);
+    let start = panel.case.start();
+    let mut log = lent_log(n);
+    let answer = run(Runner::Skipping, &rom, &schedule, &start, &mut log, n);
+    (answer.steps, answer.state)
+}
+
+#[test]
+fn a_run_ends_with_a_jump_from_mark_stm() {
+    let ends = |panel: &Panel| {
+        let n = panel.case.cycles();
+        let (last, _) = skipped(panel, n);
+        // Where the last step begins.
+        let before = |&k: &u64| skipped(panel, k).0 < last;
+        let from = (0..n).rev().find(before).expect("a run of no cycles");
+        n - from >= 2 && skipped(panel, from).1.mark == 3
+    };
+    assert!(all().iter().any(ends));
+}
+
+/// Whether the timer-skipping runner jumps from a state of a panel.
+fn jumps(lent: &Lent, state: &State) -> bool {
+    let Lent { rom, schedule } = lent;
+    let answer = run(Runner::Skipping, rom, schedule, state, &mut lent_log(2), 2);
+    (answer.cycles, answer.steps) == (2, 1)
+}
+
+#[test]
+fn a_timer_skipping_slice_begins_with_a_jump_from_every_mark() {
+    let mut counts = [0; 4];
+    for panel in all() {
+        let lent = Lent::of(&panel);
+        for (state, cut) in states(&panel).iter().zip(panel.cut_lists()) {
+            if cut[1].runner == Runner::Skipping && jumps(&lent, state) {
+                counts[usize::from(state.mark)] += 1;
+            }
+        }
+    }
+    assert!(counts.iter().all(|&count| count >= 5), "{counts:?}");
+}
+
+#[test]
+fn an_interrupt_after_ei_holds_back_a_jump() {
+    let mut count = 0;
+    for panel in all() {
+        let lent = Lent::of(&panel);
+        for state in states(&panel) {
+            let without = State {
+                int: 0,
+                ..state.clone()
+            };
+            let held = (state.mark, state.int, state.inte) == (2, 1, 1);
+            if held && jumps(&lent, &without) {
+                assert!(!jumps(&lent, &state));
+                count += 1;
+            }
+        }
+    }
+    assert!(count >= 5, "{count} cuts");
+}
+
+#[test]
+fn lists_are_of_every_kind() {
+    for panel in all() {
+        let n = panel.case.cycles();
+        let lists = panel.drawn_lists();
+        let counts: BTreeSet<usize> = lists.iter().map(Vec::len).collect();
+        assert!(counts.len() >= 18 && counts.contains(&20));
+        for slices in &lists {
+            assert_eq!(slices.iter().map(|slice| slice.cycles).sum::<u64>(), n);
+        }
+        let cuts = panel.cut_lists();
+        assert_eq!(cuts.len() as u64, n + 1);
+        for lists in [&lists, &cuts] {
+            for call in list::ALL {
+                let made = |slice: &Slice| slice.refused == Some(call);
+                assert!(lists.iter().flatten().any(made), "{call:?}");
+            }
+            for pair in [
+                [Runner::Plain, Runner::Plain],
+                [Runner::Plain, Runner::Skipping],
+                [Runner::Skipping, Runner::Plain],
+                [Runner::Skipping, Runner::Skipping],
+            ] {
+                let runs = |w: &[Slice]| [w[0].runner, w[1].runner] == pair;
+                assert!(lists.iter().any(|slices| slices.windows(2).any(runs)));
+            }
+        }
+    }
+}
+
+#[test]
+fn a_latch_that_is_lost_shows_in_what_is_read() {
+    let panels = all();
+    let panel = panels
+        .iter()
+        .find(|panel| panel.case.name == "C and D read back")
+        .expect("the panel is there");
+    let Lent { rom, schedule } = Lent::of(panel);
+    let n = panel.case.cycles();
+    for port in 0..2 {
+        let (mut held, mut seen) = (0, 0);
+        for (state, k) in states(panel).iter().zip(0..=n) {
+            let mut forgotten = state.clone();
+            forgotten.ports[port] = 0;
+            if forgotten != *state {
+                let logs = [state, &forgotten].map(|from| {
+                    let mut log = lent_log(n - k);
+                    run(Runner::Plain, &rom, &schedule, from, &mut log, n - k);
+                    log
+                });
+                held += 1;
+                seen += u64::from(logs[0] != logs[1]);
+            }
+        }
+        // All but those of the last pass before a new value, and of the run's last.
+        assert!(held > n * 8 / 10, "{held} cuts");
+        assert!(seen > held * 9 / 10, "{seen} of {held} cuts");
+    }
+}

@@ -1,0 +1,568 @@
+//! Saves and restores: groups of tries on sound and damaged bytes, on states as values, and on buffers of
+//! every length.
+
+mod bases;
+pub mod group;
+#[cfg(test)]
+mod tests;
+
+use reference::call::{call, fresh, REPORT};
+use reference::case::{state_bytes, Case, FEW_JCP, FEW_JUMPS, INSIDE, NO_STOPS};
+use reference::{restore, save, State};
+
+use crate::stream::{pattern, Chain, Of, Stream};
+use crate::Item;
+use bases::{Shape, IMAGE, RAM, VALUE};
+pub use group::Group;
+use group::{Tally, Trial, Variant};
+
+/// A row of the RAM.
+const ROW: usize = 16;
+
+pub fn all() -> Vec<Group> {
+    let states = bases::states();
+    let mut groups = bytes(&states);
+    groups.extend(pairs(&states));
+    groups.extend(lengths(&states));
+    groups.extend(torn(&states));
+    groups.extend(torn_with_others(&states));
+    groups.extend(drawn());
+    groups.extend(values(&states[..3]));
+    groups.extend(buffers(&states));
+    groups
+}
+
+/// How many values a byte of an image can take in the fresh image, 256 where every one is taken.
+fn width(place: usize) -> usize {
+    match place {
+        0..=4 | 19 => 1,
+        5 | 7 | 9 | 11 | 26 => 8,
+        14 | 20..=25 => 16,
+        16 | 17 => 4,
+        15 | 18 => 64,
+        13 => 128,
+        _ => 256,
+    }
+}
+
+/// By what a byte is refused.
+fn refusal(place: usize) -> u8 {
+    match place {
+        0..=2 => 32,
+        3 | 4 => 33,
+        _ => 34,
+    }
+}
+
+fn byte_numbers(place: usize) -> Vec<u8> {
+    if width(place) == 256 {
+        vec![0]
+    } else {
+        vec![0, refusal(place)]
+    }
+}
+
+fn bytes(states: &[(&str, State)]) -> Vec<Group> {
+    let mut groups = Vec::new();
+    for (base, (name, state)) in states.iter().enumerate() {
+        for place in 0..IMAGE {
+            groups.push(Group {
+                name: format!("{name}: byte {place}"),
+                trial: Trial::Byte {
+                    image: bases::image(state),
+                    place,
+                },
+                base: base as u8,
+                at: place as u8,
+                numbers: byte_numbers(place),
+            });
+        }
+    }
+    groups
+}
+
+/// Mark, version, PC and stack, flags with mark, register with counter, ports H and I.
+fn pairs(states: &[(&str, State)]) -> Vec<Group> {
+    let mut groups = Vec::new();
+    for (place, base) in [
+        (0, 1),
+        (3, 1),
+        (5, 1),
+        (11, 1),
+        (15, 1),
+        (18, 1),
+        (18, 0),
+        (25, 2),
+    ] {
+        let (name, state) = &states[base];
+        groups.push(Group {
+            name: format!("{name}: bytes {place} and {}", place + 1),
+            trial: Trial::Pair {
+                image: bases::image(state),
+                place,
+            },
+            base: base as u8,
+            at: place as u8,
+            numbers: vec![0, refusal(place)],
+        });
+    }
+    groups
+}
+
+/// 31 comes before all others.
+fn lengths(states: &[(&str, State)]) -> Vec<Group> {
+    let images = states
+        .iter()
+        .map(|(name, state)| (*name, bases::image(state), 0));
+    let others = bases::others(&states[1].1)
+        .into_iter()
+        .zip([32, 32, 32, 33, 34])
+        .map(|((name, bytes), number)| (name, bytes, number));
+    let mut groups = Vec::new();
+    for (base, (name, image, number)) in images.chain(others).enumerate() {
+        for seed in [0, 1_000 + base as u32] {
+            groups.push(Group {
+                name: format!("{name}: every length, seed {seed}"),
+                trial: Trial::Length {
+                    image: image.clone(),
+                    seed,
+                },
+                base: base as u8,
+                at: 0,
+                numbers: vec![number, 31],
+            });
+        }
+    }
+    groups
+}
+
+/// Between register and counter a stopped timer can get a counter.
+fn torn(states: &[(&str, State)]) -> Vec<Group> {
+    let mut groups = Vec::new();
+    for (base, (name, state)) in states.iter().enumerate() {
+        for (other, (rest_name, rest)) in states.iter().enumerate() {
+            if base == other {
+                continue;
+            }
+            let mut numbers = vec![0];
+            if state.register == 0 && rest.counter > 0 {
+                numbers.push(34);
+            }
+            groups.push(Group {
+                name: format!("{name}, then {rest_name}"),
+                trial: Trial::Torn {
+                    first: bases::image(state),
+                    rest: bases::image(rest),
+                },
+                base: base as u8,
+                at: other as u8,
+                numbers,
+            });
+        }
+    }
+    groups
+}
+
+/// An image over bytes that are none, and the other way round: the numbers of both.
+fn torn_with_others(states: &[(&str, State)]) -> Vec<Group> {
+    let expected: [[&[u8]; 2]; 5] = [
+        [&[0, 32, 33], &[0, 32]],
+        [&[0, 32, 33, 34], &[0, 32]],
+        [&[0, 32], &[0, 32]],
+        [&[0, 33], &[0, 33]],
+        [&[0, 34], &[0, 34]],
+    ];
+    let (_, state) = &states[1];
+    let image = bases::image(state);
+    let mut groups = Vec::new();
+    for (place, ((name, bytes), numbers)) in
+        bases::others(state).into_iter().zip(expected).enumerate()
+    {
+        let other = (states.len() + place) as u8;
+        groups.push(Group {
+            name: format!("an image, then {name}"),
+            trial: Trial::Torn {
+                first: image.clone(),
+                rest: bytes.clone(),
+            },
+            base: 1,
+            at: other,
+            numbers: numbers[0].to_vec(),
+        });
+        groups.push(Group {
+            name: format!("{name}, then an image"),
+            trial: Trial::Torn {
+                first: bytes,
+                rest: image.clone(),
+            },
+            base: other,
+            at: 1,
+            numbers: numbers[1].to_vec(),
+        });
+    }
+    groups
+}
+
+fn drawn() -> Vec<Group> {
+    let image = IMAGE as u8;
+    let parts: [(&str, Shape, u32, u8, u8, &[u8]); 12] = [
+        ("any bytes", bases::any(), 2_000, image, 1, &[32]),
+        (
+            "any bytes, any length",
+            bases::any(),
+            8_000,
+            0,
+            201,
+            &[31, 32],
+        ),
+        ("sound mark", bases::marked(), 2_000, image, 1, &[33]),
+        (
+            "sound mark, 79 to 83",
+            bases::marked(),
+            2_000,
+            79,
+            5,
+            &[31, 33],
+        ),
+        ("sound version", bases::versioned(), 4_000, image, 1, &[34]),
+        (
+            "sound version, 79 to 83",
+            bases::versioned(),
+            2_000,
+            79,
+            5,
+            &[31, 34],
+        ),
+        ("within widths", bases::narrow(0), 4_000, image, 1, &[0, 34]),
+        (
+            "within widths, any length",
+            bases::narrow(0),
+            8_000,
+            0,
+            201,
+            &[0, 31],
+        ),
+        ("one above", bases::narrow(1), 8_000, image, 1, &[0, 34]),
+        (
+            "one above, 79 to 83",
+            bases::narrow(1),
+            4_000,
+            79,
+            5,
+            &[0, 31, 34],
+        ),
+        ("close", bases::near(), 8_000, image, 1, &[0, 32, 33, 34]),
+        (
+            "close, 79 to 83",
+            bases::near(),
+            16_000,
+            79,
+            5,
+            &[0, 31, 32, 33, 34],
+        ),
+    ];
+    let mut groups = Vec::new();
+    for (base, (name, shape, tries, shortest, lengths, numbers)) in parts.into_iter().enumerate() {
+        groups.push(Group {
+            name: format!("drawn: {name}"),
+            trial: Trial::Drawn {
+                shape,
+                tries,
+                shortest,
+                lengths,
+                seed: 546 + 7_919 * base as u32,
+            },
+            base: base as u8,
+            at: shortest,
+            numbers: numbers.to_vec(),
+        });
+    }
+    groups
+}
+
+/// Whether some value of a byte of a state is refused: all but the lower bytes of the cycle number,
+/// of PC and of the stack words.
+fn has_width(place: usize) -> bool {
+    !matches!(place, 126..=131 | 1 | 3 | 5 | 7)
+}
+
+/// Each byte of a state as a value; the RAM by rows.
+fn values(states: &[(&str, State)]) -> Vec<Group> {
+    let mut groups = Vec::new();
+    for (base, (name, state)) in states.iter().enumerate() {
+        let singles = (0..RAM.start).chain(RAM.end..VALUE).map(|place| (place, 1));
+        let rows = RAM.step_by(ROW).map(|place| (place, ROW));
+        for (place, count) in singles.chain(rows) {
+            let mut numbers = vec![0, 1];
+            if has_width(place) {
+                numbers.push(34);
+            }
+            groups.push(Group {
+                name: format!("{name} as a value: {count} from {place} on"),
+                trial: Trial::Value {
+                    state: state_bytes(state),
+                    place,
+                    count,
+                },
+                base: base as u8,
+                at: place as u8,
+                numbers,
+            });
+        }
+    }
+    groups
+}
+
+/// 34 comes before 1.
+fn buffers(states: &[(&str, State)]) -> Vec<Group> {
+    let sound = states.iter().cloned().map(|base| (base, vec![0, 1]));
+    let faulty = bases::faulty_states(&states[1].1)
+        .into_iter()
+        .map(|base| (base, vec![34]));
+    let mut groups = Vec::new();
+    for (base, ((name, state), numbers)) in sound.chain(faulty).enumerate() {
+        groups.push(Group {
+            name: format!("{name}: every buffer"),
+            trial: Trial::Buffer {
+                state: state_bytes(&state),
+            },
+            base: base as u8,
+            at: 0,
+            numbers,
+        });
+    }
+    groups
+}
+
+/// A group reaches the numbers that it has to and no others, and all that was done comes back.
+fn faults(group: &Group, tally: &Tally) -> Vec<String> {
+    let mut faults = Vec::new();
+    let mut numbers = group.numbers.clone();
+    numbers.sort();
+    let reached: Vec<u8> = tally.counts.keys().copied().collect();
+    if reached != numbers {
+        faults.push(format!("{}: answered by {reached:?}", group.name));
+    }
+    if tally.same != tally.count(0) {
+        faults.push(format!("{}: {} came back", group.name, tally.same));
+    }
+    faults
+}
+
+/// What is wrong with the groups.
+pub fn all_faults(groups: &[Group]) -> Vec<String> {
+    let wrong = groups.iter().map(|group| faults(group, &group.tally()));
+    wrong.collect::<Vec<_>>().concat()
+}
+
+/// A few groups.
+pub fn small() -> Vec<Group> {
+    let wanted = ["fresh: byte 15", "fresh as a value: 1 from 20 on"];
+    let mut groups = all();
+    groups.retain(|group| wanted.contains(&group.name.as_str()));
+    groups
+}
+
+/// The bytes that a program has, so that of the next ones only those that differ are sent.
+struct Sent(Option<Vec<u8>>);
+
+impl Sent {
+    /// The places that have to be changed to get these bytes; none where all have to be sent.
+    fn changes(&self, bytes: &[u8]) -> Option<Vec<(usize, u8)>> {
+        let sent = self.0.as_ref().filter(|sent| sent.len() == bytes.len())?;
+        let both = sent.iter().zip(bytes).enumerate();
+        let differ: Vec<(usize, u8)> = both
+            .filter(|(_, (sent, byte))| sent != byte)
+            .map(|(place, (_, &byte))| (place, byte))
+            .collect();
+        (differ.len() <= 3).then_some(differ)
+    }
+}
+
+/// A group's restores as calls on the bytes, of no cycle; and of a byte at every fifth of its values as calls
+/// of some cycles.
+pub struct Calls(pub Group);
+
+/// A ROM on which a run goes on, for calls of some cycles.
+fn rom() -> Vec<u8> {
+    let filter = NO_STOPS | FEW_JCP | INSIDE | FEW_JUMPS;
+    Case::new("").made_rom(1_001, filter).made_rom_bytes()
+}
+
+impl Calls {
+    /// The group, where it is of restores.
+    pub fn of(group: Group) -> Option<Calls> {
+        let saves = matches!(group.trial, Trial::Value { .. } | Trial::Buffer { .. });
+        (!saves).then_some(Calls(group))
+    }
+}
+
+/// One call of a group, on a report of so many bytes.
+fn chain_call(
+    stream: &mut Stream,
+    chain: &mut Chain,
+    rom: &[u8],
+    image: &mut [u8],
+    n: u64,
+    runner: u64,
+    lengths: (usize, usize),
+) {
+    let (log, report) = lengths;
+    stream.call(Of::Group, n, runner, log, report);
+    let (mut log, mut report) = (pattern(log), pattern(report));
+    let number = call(image, rom, &[], &mut log, n, runner, &mut report);
+    chain.called(number);
+    chain.bytes(&report);
+    chain.bytes(image);
+    chain.bytes(&log);
+}
+
+impl Item for Calls {
+    fn name(&self) -> String {
+        self.0.name.clone()
+    }
+
+    fn put(&self, stream: &mut Stream) -> String {
+        let rom = rom();
+        let mut chain = Chain::default();
+        stream.rom(&rom);
+        stream.schedule(&[]);
+        let mut sent = Sent(None);
+        for (place, variant) in self.0.trial.variants().into_iter().enumerate() {
+            let Variant::Restore(mut image) = variant else {
+                continue;
+            };
+            match sent.changes(&image) {
+                Some(changes) => changes
+                    .into_iter()
+                    .for_each(|(place, byte)| stream.image_byte(place, byte)),
+                None => stream.image(&image),
+            }
+            let runner = place as u64 % 2;
+            chain_call(stream, &mut chain, &rom, &mut image, 0, runner, (0, REPORT));
+            sent.0 = Some(image);
+        }
+        if let Trial::Byte { image, place } = &self.0.trial {
+            stream.image(image);
+            stream.keep();
+            for value in (0..=255).step_by(5) {
+                let mut image = image.clone();
+                image[*place] = value;
+                stream.bring_back();
+                stream.image_byte(*place, value);
+                let (n, runner) = (1 + u64::from(value % 7), u64::from(value % 2));
+                chain_call(
+                    stream,
+                    &mut chain,
+                    &rom,
+                    &mut image,
+                    n,
+                    runner,
+                    (64, REPORT),
+                );
+            }
+        }
+        stream.tell_group();
+        chain.line()
+    }
+
+    fn show(&self) -> String {
+        self.0.told()
+    }
+}
+
+/// Fresh images in buffers of every length, and calls with reports of every length.
+pub struct Lengths;
+
+impl Item for Lengths {
+    fn name(&self) -> String {
+        String::from("fresh images and reports of every length")
+    }
+
+    fn put(&self, stream: &mut Stream) -> String {
+        let rom = rom();
+        let mut chain = Chain::default();
+        stream.rom(&rom);
+        stream.schedule(&[]);
+        for length in 0..=200 {
+            stream.fresh(length);
+            let mut image = pattern(length);
+            let number = fresh(&mut image);
+            chain.called(number);
+            chain.bytes(&image);
+        }
+        for state in bases::states().iter().map(|(_, state)| state) {
+            for report in 0..=64 {
+                let mut image = bases::image(state);
+                stream.image(&image);
+                let lengths = (40, report);
+                chain_call(stream, &mut chain, &rom, &mut image, 3, 0, lengths);
+            }
+        }
+        stream.tell_group();
+        chain.line()
+    }
+
+    fn show(&self) -> String {
+        String::from("fresh images in buffers of 0 to 200 bytes; calls of 3 cycles on each legal state, with reports of 0 to 64\n")
+    }
+}
+
+/// A group on states as values: its restores; its saves, and where one is done a restore of its image.
+pub struct Values(pub Group);
+
+impl Item for Values {
+    fn name(&self) -> String {
+        self.0.name.clone()
+    }
+
+    fn put(&self, stream: &mut Stream) -> String {
+        let mut chain = Chain::default();
+        let mut sent = Sent(None);
+        for variant in self.0.trial.variants() {
+            match variant {
+                Variant::Restore(bytes) => {
+                    match sent.changes(&bytes) {
+                        Some(changes) => changes
+                            .into_iter()
+                            .for_each(|(place, byte)| stream.buffer_byte(place, byte)),
+                        None => stream.image(&bytes),
+                    }
+                    chain_restore(stream, &mut chain, &bytes);
+                    sent.0 = Some(bytes);
+                }
+                Variant::Save(state, room) => {
+                    let value = state_bytes(&state);
+                    match sent.changes(&value) {
+                        Some(changes) => changes
+                            .into_iter()
+                            .for_each(|(place, byte)| stream.value_byte(place, byte)),
+                        None => stream.value(&state),
+                    }
+                    let mut buffer = pattern(room);
+                    let number = save(&state, &mut buffer);
+                    stream.save(Of::Group, room);
+                    chain.called(number);
+                    chain.bytes(&buffer);
+                    if number == 0 {
+                        chain_restore(stream, &mut chain, &buffer[..IMAGE]);
+                    }
+                    sent.0 = Some(value);
+                }
+            }
+        }
+        stream.tell_group();
+        chain.line()
+    }
+
+    fn show(&self) -> String {
+        self.0.told()
+    }
+}
+
+fn chain_restore(stream: &mut Stream, chain: &mut Chain, bytes: &[u8]) {
+    stream.restore(Of::Group, bytes.len());
+    let (number, state) = restore(bytes);
+    chain.called(number);
+    chain.bytes(&state_bytes(&state));
+}

@@ -1,0 +1,190 @@
+//! What crates test_calls and test_values are tried on: makes their streams of commands, and the text that
+//! they have to write. `stream.rs` tells both.
+//!
+//! PROGRAM is `calls` or `values`. `trials PROGRAM FOLDER` writes the stored files of its crate, FOLDER/stdin
+//! and FOLDER/stdout, of a few items. `trials PROGRAM whole FOLDER` writes FOLDER/stream and FOLDER/text, of
+//! all. `trials PROGRAM list` names the items, one for each line of the whole text; `trials PROGRAM show K`
+//! tells all of item K.
+
+mod cases;
+mod cuts;
+mod images;
+mod stream;
+
+use std::io::Write;
+use std::path::Path;
+use std::process::ExitCode;
+use std::{env, fs, io};
+
+use cuts::Kind;
+use reference::Runner;
+use stream::Stream;
+
+/// What one line of a text is of.
+pub trait Item {
+    fn name(&self) -> String;
+
+    /// Adds its commands, and answers the line that is due.
+    fn put(&self, stream: &mut Stream) -> String;
+
+    /// All of it, for a person.
+    fn show(&self) -> String;
+}
+
+type Items = Vec<Box<dyn Item>>;
+
+/// What the items are made of: all there is, or a few.
+struct Trials {
+    cases: Vec<reference::case::Case>,
+    groups: Vec<images::Group>,
+    panels: Vec<cuts::Panel>,
+    kinds: Vec<Kind>,
+}
+
+impl Trials {
+    fn all() -> Trials {
+        Trials {
+            cases: cases::all(),
+            groups: images::all(),
+            panels: cuts::all(),
+            kinds: vec![Kind::Cuts, Kind::Drawn],
+        }
+    }
+
+    fn small() -> Trials {
+        Trials {
+            cases: cases::small(),
+            groups: images::small(),
+            panels: cuts::small(),
+            kinds: vec![Kind::Cuts],
+        }
+    }
+
+    fn faults(&self) -> Vec<String> {
+        let mut faults = cases::faults(&self.cases);
+        faults.extend(images::all_faults(&self.groups));
+        faults.extend(cuts::faults(&self.panels));
+        faults
+    }
+
+    fn calls(self) -> Items {
+        let mut items: Items = Vec::new();
+        for (place, case) in self.cases.into_iter().enumerate() {
+            if let Some(call) = cases::Call::of(place, case) {
+                items.push(Box::new(call));
+            }
+        }
+        for group in self.groups {
+            if let Some(calls) = images::Calls::of(group) {
+                items.push(Box::new(calls));
+            }
+        }
+        if self.kinds.contains(&Kind::Drawn) {
+            items.push(Box::new(images::Lengths));
+        }
+        for panel in self.panels {
+            for runner in [Runner::Plain, Runner::Skipping] {
+                items.push(Box::new(cuts::Unbroken(panel.clone(), runner)));
+            }
+            for &kind in &self.kinds {
+                items.push(Box::new(cuts::Calls(panel.clone(), kind)));
+            }
+        }
+        items
+    }
+
+    fn values(self) -> Items {
+        let mut items: Items = Vec::new();
+        for case in self.cases {
+            items.push(Box::new(cases::Run(case)));
+        }
+        for group in self.groups {
+            items.push(Box::new(images::Values(group)));
+        }
+        for panel in self.panels {
+            for &kind in &self.kinds {
+                items.push(Box::new(cuts::Runs(panel.clone(), kind)));
+            }
+        }
+        items
+    }
+
+    fn of(self, program: &str) -> Items {
+        match program {
+            "calls" => self.calls(),
+            _ => self.values(),
+        }
+    }
+}
+
+/// The whole stream, and its text.
+fn made(items: &Items) -> (Vec<u8>, String) {
+    let mut stream = Stream::default();
+    let text = items.iter().map(|item| item.put(&mut stream)).collect();
+    stream.end();
+    (stream.bytes, text)
+}
+
+fn write(folder: &str, names: [&str; 2], items: &Items) -> io::Result<()> {
+    let (stream, text) = made(items);
+    fs::write(Path::new(folder).join(names[0]), stream)?;
+    fs::write(Path::new(folder).join(names[1]), text)
+}
+
+fn told(items: &Items, word: &str) -> Result<String, String> {
+    match word.parse::<usize>() {
+        Ok(place) if place < items.len() => {
+            let item = &items[place];
+            let line = item.put(&mut Stream::default());
+            Ok(format!("{place} {}\n{line}\n{}", item.name(), item.show()))
+        }
+        _ => Err(format!("there is no {word}; `list` names those there are")),
+    }
+}
+
+fn done(words: &[String]) -> Result<String, String> {
+    let words: Vec<&str> = words.iter().map(String::as_str).collect();
+    let failed = |error: io::Error| error.to_string();
+    match words.as_slice() {
+        [program @ ("calls" | "values"), "list"] => {
+            let items = Trials::all().of(program);
+            let names = items.iter().map(|item| item.name()).enumerate();
+            Ok(names
+                .map(|(place, name)| format!("{place} {name}\n"))
+                .collect())
+        }
+        [program @ ("calls" | "values"), "show", place] => told(&Trials::all().of(program), place),
+        [program @ ("calls" | "values"), "whole", folder] => {
+            let trials = Trials::all();
+            let faults = trials.faults();
+            if !faults.is_empty() {
+                return Err(faults.join("\n"));
+            }
+            write(folder, ["stream", "text"], &trials.of(program)).map_err(failed)?;
+            Ok(String::new())
+        }
+        [program @ ("calls" | "values"), folder] => {
+            let items = Trials::small().of(program);
+            write(folder, ["stdin", "stdout"], &items).map_err(failed)?;
+            Ok(String::new())
+        }
+        _ => Err(String::from(
+            "calls or values is wanted, and FOLDER, whole FOLDER, list or show K",
+        )),
+    }
+}
+
+fn main() -> ExitCode {
+    let words: Vec<String> = env::args().skip(1).collect();
+    match done(&words) {
+        Ok(text) => {
+            // A reader may close its end early.
+            let _ = io::stdout().write_all(text.as_bytes());
+            ExitCode::SUCCESS
+        }
+        Err(error) => {
+            eprintln!("trials: {error}");
+            ExitCode::FAILURE
+        }
+    }
+}
