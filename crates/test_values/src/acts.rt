@@ -17,11 +17,11 @@ use upd546::State;
 pub(crate) fn one(
     c: Command,
     s: Session,
-    rom: &[u8],
-    schedule: &[u8],
-    value: &mut [u8],
-    image: &mut [u8],
-    log: &mut [u8],
+    rom: &[u8; 4096],
+    schedule: &[u8; 65536],
+    value: &mut [u8; 132],
+    image: &mut [u8; 512],
+    log: &mut [u8; 65536],
 ) -> Session {
     let letter = c.letter;
     let size = c.length as usize;

@@ -47,12 +47,12 @@ fn main() {
 fn one(
     c: Command,
     s: Session,
-    rom: &mut [u8],
-    schedule: &mut [u8],
-    value: &mut [u8],
-    kept: &mut [u8],
-    image: &mut [u8],
-    log: &mut [u8],
+    rom: &mut [u8; 4096],
+    schedule: &mut [u8; 65536],
+    value: &mut [u8; 132],
+    kept: &mut [u8; 132],
+    image: &mut [u8; 512],
+    log: &mut [u8; 65536],
 ) -> Session {
     let letter = c.letter;
     match letter {

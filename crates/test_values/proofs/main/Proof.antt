@@ -1,14 +1,11 @@
--- The commands: the buffers keep their lengths. Assumes nothing.
+-- The commands: one turn each. Assumes nothing.
 use borrow.Author.Needs.{needs}
 use Prim.Native.Nat.{_≤_, _-_}
-use mathlib.Core.Path.{_≡_}
-use lib.ListN.{length}
 use Rattle.test_values.proofs.main.Statement.{statement}
 use Rattle.test_values.proofs.main.Tie as tie
 
 abbrev Inv-loop : tie.InvT-loop
-Inv-loop rom₀ schedule₀ value₀ kept₀ image₀ log₀ s₀ k₀ rom schedule value kept image log s k =
-    (k ≤ 70368744177664) × (4096 ≡ length rom) × (65536 ≡ length schedule) × (132 ≡ length value) × (132 ≡ length kept) × (512 ≡ length image) × (65536 ≡ length log)
+Inv-loop rom₀ schedule₀ value₀ kept₀ image₀ log₀ s₀ k₀ rom schedule value kept image log s k = k ≤ 70368744177664
 
 abbrev μ-loop : tie.MeasureT-loop
 μ-loop rom₀ schedule₀ value₀ kept₀ image₀ log₀ s₀ k₀ rom schedule value kept image log s k = 70368744177664 - k
@@ -30,24 +27,6 @@ loop-holds c = search needs
 
 read-command-requires : tie.Need-read-command-requires Inv-loop μ-loop
 read-command-requires c κs = search needs
-
-slice-aggregate-one : tie.Need-slice-aggregate-one Inv-loop μ-loop
-slice-aggregate-one c = search needs
-
-slice-aggregate-one-2 : tie.Need-slice-aggregate-one-2 Inv-loop μ-loop
-slice-aggregate-one-2 c = search needs
-
-slice-aggregate-one-3 : tie.Need-slice-aggregate-one-3 Inv-loop μ-loop
-slice-aggregate-one-3 c = search needs
-
-slice-aggregate-one-4 : tie.Need-slice-aggregate-one-4 Inv-loop μ-loop
-slice-aggregate-one-4 c = search needs
-
-slice-aggregate-one-5 : tie.Need-slice-aggregate-one-5 Inv-loop μ-loop
-slice-aggregate-one-5 c = search needs
-
-slice-aggregate-one-6 : tie.Need-slice-aggregate-one-6 Inv-loop μ-loop
-slice-aggregate-one-6 c = search needs
 
 one-requires : tie.Need-one-requires Inv-loop μ-loop
 one-requires c κs = search needs
@@ -79,12 +58,6 @@ main-spec =
     begin-requires
     loop-holds
     read-command-requires
-    slice-aggregate-one
-    slice-aggregate-one-2
-    slice-aggregate-one-3
-    slice-aggregate-one-4
-    slice-aggregate-one-5
-    slice-aggregate-one-6
     one-requires
     add-k
     loop-less
