@@ -4,16 +4,18 @@ use mathlib.Core.List.{List, [], _∷_, _++_}
 use Prim.Native.Nat.{ℕ, zero, suc, _+_, _-_, _*_, _/_, _%_, _<_, _≤_}
 use native.Mathlib.Numerals.{add-one}
 use native.Mathlib.Omega.{arith}
+use lib.Dec.{leb}
 use lib.ListN.{length, take, drop, set, length-append, length-drop}
 use lib.Seq.{set-split, drop-cons, append-snoc}
-use borrow.Author.Tests.{le-leb, lt-leb}
+use borrow.Author.Tests.{le-leb, lt-leb, leb-true}
 use borrow.Rule.Slice.PartMut.{midOf, putMid}
 use Rattle.runs.specs.Refusals.{firstOf}
-use Rattle.upd546.specs.Bytes.{bytesOf}
+use Rattle.runs.proofs.Refusals.{first-at, passes}
+use Rattle.upd546.specs.Bytes.{bitAt, bytesOf}
 use Rattle.upd546.specs.TheMachine.{romLength}
 use Rattle.upd546.specs.TheLineSchedule.{recordLength, maxRecords}
 use Rattle.laws.proofs.Tails.{put-front, put-next}
-use Rattle.generator.specs.Loads.{nextOf, stepped, topOf, drawn, drawnBytes, romOf, cycleFrom, recordBytes, recordFrom, standsAt, lastCycle, recordOf, scheduleOf, Made, romRefusal, scheduleRefusal, romMade, scheduleMade}
+use Rattle.generator.specs.Loads.{nextOf, stepped, topOf, drawn, drawnBytes, romOf, cycleFrom, recordBytes, recordFrom, standsAt, lastCycle, recordOf, scheduleOf, madeWith, romRefusal, scheduleRefusal, romMade, scheduleMade}
 
 -- THE GENERATOR
 
@@ -73,12 +75,10 @@ record-put buffer n ab cd int h e =
 
 -- the four draws of a record
 pub record-drawn : (last s : ℕ) {cycle ab cd int : ℕ} → cycle ≡ last + (topOf (nextOf s) + 1) → ab ≡ topOf (nextOf (nextOf s))
-    → cd ≡ topOf (nextOf (nextOf (nextOf s))) → int ≡ topOf (nextOf (nextOf (nextOf (nextOf s)))) % 2
+    → cd ≡ topOf (nextOf (nextOf (nextOf s))) → int ≡ bitAt (topOf (nextOf (nextOf (nextOf (nextOf s))))) 0
     → recordBytes cycle ab cd int ≡ recordFrom last s
 unfolding recordFrom cycleFrom drawn stepped
-record-drawn last s {cycle} {ab} {cd} {int} p q r t =
-    let bit : int ≡ topOf (nextOf (nextOf (nextOf (nextOf s)))) / 1 % 2 = omega arith in
-    λ i. recordBytes (p i) (q i) (r i) (bit i)
+record-drawn last s p q r t = λ i. recordBytes (p i) (q i) (r i) (t i)
 
 pub record-steps : (s : ℕ) {a b c d : ℕ} → a ≡ nextOf s → b ≡ nextOf a → c ≡ nextOf b → d ≡ nextOf c → d ≡ stepped s 4
 unfolding stepped
@@ -151,16 +151,34 @@ one-record seed i b₀ b {last} {s} e p q {ys} put =
 pub same-size : (seed i : ℕ) (b₀ : List ℕ) {b : List ℕ} → b ≡ scheduleOf seed i ++ drop (recordLength * i) b₀ → recordLength * i ≤ length b₀ → length b ≡ length b₀
 same-size seed i b₀ e h = rw (e, length-append, length-schedule seed i, length-drop) (omega arith)
 
--- the three answers
-pub many : (seed m : ℕ) (b : List ℕ) → maxRecords < m → record { number = 43; buffer = b } ≡ scheduleMade seed m b
-unfolding scheduleMade scheduleRefusal firstOf
-many seed m b h = rw (lt-leb m maxRecords h)
+-- the numbers, and the answers by them
+pub many : (m bytes : ℕ) → maxRecords < m → 43 ≡ scheduleRefusal m bytes
+unfolding scheduleRefusal firstOf
+many m bytes h = rw (lt-leb m maxRecords h)
 
-pub schedule-short : (seed m : ℕ) (b : List ℕ) → m ≤ maxRecords → length b < recordLength * m → record { number = 44; buffer = b } ≡ scheduleMade seed m b
-unfolding scheduleMade scheduleRefusal firstOf
-schedule-short seed m b l h = rw (le-leb m maxRecords l, lt-leb (recordLength * m) (length b) h)
+pub short : (m bytes : ℕ) → m ≤ maxRecords → bytes < recordLength * m → 44 ≡ scheduleRefusal m bytes
+unfolding scheduleRefusal firstOf
+short m bytes l h = rw (le-leb m maxRecords l, lt-leb (recordLength * m) bytes h)
 
-pub schedule-done : (seed m i : ℕ) (b₀ : List ℕ) {b : List ℕ} → m ≤ maxRecords → recordLength * m ≤ length b₀ → i ≡ m → b ≡ scheduleOf seed i ++ drop (recordLength * i) b₀
+pub taken : (m bytes : ℕ) → m ≤ maxRecords → recordLength * m ≤ bytes → 0 ≡ scheduleRefusal m bytes
+unfolding scheduleRefusal firstOf
+taken m bytes l h = rw (le-leb m maxRecords l, le-leb (recordLength * m) bytes h)
+
+pub fits : (m bytes : ℕ) → 0 ≡ scheduleRefusal m bytes → (m ≤ maxRecords) × (recordLength * m ≤ bytes)
+unfolding scheduleRefusal
+fits m bytes e =
+    let at = first-at _ (sym e) in
+    (leb-true m maxRecords (passes (leb m maxRecords) 42 (at 0)), leb-true (recordLength * m) bytes (passes (leb (recordLength * m) bytes) 43 (at 1)))
+
+refused : (k : ℕ) (bytes b : List ℕ) → (k ≡ 0 → ⊥) → record { number = k; buffer = b } ≡ madeWith k bytes b
+refused zero bytes b h = absurd (h refl)
+refused (suc k) bytes b h = refl
+
+pub schedule-refused : (seed m : ℕ) (b : List ℕ) {k : ℕ} → k ≡ scheduleRefusal m (length b) → (k ≡ 0 → ⊥) → record { number = k; buffer = b } ≡ scheduleMade seed m b
+unfolding scheduleMade
+schedule-refused seed m b {k} e h = refused k (scheduleOf seed m) b h ∙ ap (λ (n : ℕ). madeWith n (scheduleOf seed m) b) e
+
+pub schedule-done : (seed m i : ℕ) (b₀ : List ℕ) {b : List ℕ} → 0 ≡ scheduleRefusal m (length b₀) → i ≡ m → b ≡ scheduleOf seed i ++ drop (recordLength * i) b₀
     → record { number = 0; buffer = b } ≡ scheduleMade seed m b₀
-unfolding scheduleMade scheduleRefusal firstOf
-schedule-done seed m i b₀ l h q e = rw (le-leb m maxRecords l, le-leb (recordLength * m) (length b₀) h, length-schedule seed m, rw q at e)
+unfolding scheduleMade
+schedule-done seed m i b₀ z q e = rw (sym z, length-schedule seed m, rw q at e)

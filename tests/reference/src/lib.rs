@@ -1,5 +1,5 @@
 //! A reference interpreter of the uPD546 as document 01 defines it: one machine cycle after the
-//! other, on a state that is changed in place. `waiting` and `call` are requests of document
+//! other, on a state that is changed in place. `waiting`, `call` and `load` are requests of document
 //! 02. `case`, `codes`, `draw`, `maker`, `mnemonics` and `show` are no part of either: what the programs
 //! that make trials share, and the tests.
 
@@ -10,6 +10,7 @@ pub mod draw;
 mod image;
 mod instructions;
 pub mod lent;
+pub mod load;
 pub mod log;
 mod machine;
 pub mod maker;
@@ -26,5 +27,5 @@ pub mod waiting;
 pub use image::{restore, save};
 pub use machine::State;
 pub use ports::ports;
-pub use runners::{run, run_observed, Answer, Coverage, Runner};
+pub use runners::{run, run_observed, Answer, Coverage, Observer, Runner};
 pub use trace::trace;

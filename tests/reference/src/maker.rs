@@ -14,15 +14,16 @@ pub struct Made {
     pub files: Vec<File>,
 }
 
-/// An input, and the bytes that have to be written of it.
+/// An input, and the bytes that have to be written of it and said on standard error.
 pub struct File {
     pub input: Vec<u8>,
     pub text: Vec<u8>,
+    pub said: Vec<u8>,
 }
 
 /// `PROGRAM FOLDER` writes FOLDER/stdin and FOLDER/stdout and fails where there is a fault;
 /// `PROGRAM files FOLDER` writes the input and the text of each place K to `FOLDER/K NAME.input` and
-/// `FOLDER/K NAME.text`, and fails likewise; `PROGRAM list` prints the names; `PROGRAM show K` tells
+/// `FOLDER/K NAME.text`, what is said of it, if anything, to `FOLDER/K NAME.said`, and fails likewise; `PROGRAM list` prints the names; `PROGRAM show K` tells
 /// all of what has the place K among them.
 pub fn make(
     program: &str,
@@ -109,6 +110,9 @@ fn write_files(folder: &str, names: &[String], made: &Made) -> io::Result<bool> 
         let path = Path::new(folder).join(format!("{place} {name}"));
         fs::write(format!("{}.input", path.display()), &file.input)?;
         fs::write(format!("{}.text", path.display()), &file.text)?;
+        if !file.said.is_empty() {
+            fs::write(format!("{}.said", path.display()), &file.said)?;
+        }
     }
     Ok(sound(made))
 }

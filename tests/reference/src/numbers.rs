@@ -44,3 +44,9 @@ pub const FIELD: u8 = 34;
 pub const CARRIED: u8 = 41;
 /// Refusal: a record's port, value or cycle.
 pub const LOG_RECORD: u8 = 42;
+
+// Request R-4, whoever asked for the load.
+/// Refusal: more than 4,096 records.
+pub const MANY_RECORDS: u8 = 43;
+/// Refusal: the buffer is shorter than the output.
+pub const BUFFER_SHORT: u8 = 44;

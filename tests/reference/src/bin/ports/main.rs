@@ -58,6 +58,7 @@ fn made(inputs: &[Input]) -> Made {
     let files = inputs.iter().map(|input| File {
         input: input.bytes.clone(),
         text: ports(&input.bytes),
+        said: Vec::new(),
     });
     Made {
         stdin: Vec::new(),

@@ -36,6 +36,7 @@ fn made(inputs: &[Input]) -> Made {
     let files = inputs.iter().zip(&texts).map(|(input, text)| File {
         input: input.bytes.clone(),
         text: text.clone().into_bytes(),
+        said: Vec::new(),
     });
     Made {
         stdin: Vec::new(),

@@ -120,6 +120,7 @@ fn made(cases: &[Case], inputs: &[Input]) -> Made {
     let files = inputs.iter().map(|input| File {
         input: input.log.clone(),
         text: input.text().into_bytes(),
+        said: Vec::new(),
     });
     Made {
         stdin,
