@@ -5,3 +5,4 @@ pub mod Records
 pub mod Day
 pub mod Waits
 pub mod Board
+pub mod Loads

@@ -64,7 +64,7 @@ fn put(bytes: &[u8], buffer: &mut [u8]) -> u8 {
 }
 
 /// A line of text that program `load` is given, and what it asks for: `rom SEED` or `schedule SEED M`,
-/// the numbers decimal, of 1 to 19 digits; SEED has 32 bits. One line end may stand behind it.
+/// the numbers decimal, of 1 to 18 digits; SEED has 32 bits. One line end may stand behind it.
 pub fn load(line: &[u8]) -> Option<Result<Vec<u8>, u8>> {
     let line = line.strip_suffix(b"\n").unwrap_or(line);
     let text = std::str::from_utf8(line).ok()?;
@@ -84,8 +84,8 @@ pub fn load(line: &[u8]) -> Option<Result<Vec<u8>, u8>> {
 }
 
 fn number(word: &str) -> Option<u64> {
-    let digits = (1..=19).contains(&word.len()) && word.bytes().all(|byte| byte.is_ascii_digit());
-    digits.then(|| word.parse().expect("19 digits fit 64 bits"))
+    let digits = (1..=18).contains(&word.len()) && word.bytes().all(|byte| byte.is_ascii_digit());
+    digits.then(|| word.parse().expect("18 digits fit 64 bits"))
 }
 
 fn seed_of(word: &str) -> Option<u32> {

@@ -29,11 +29,7 @@ impl Input {
     }
 
     pub fn text(&self) -> Vec<u8> {
-        match load(&self.line) {
-            Some(Ok(bytes)) => bytes,
-            Some(Err(number)) => format!("refused {number}\n").into_bytes(),
-            None => Vec::new(),
-        }
+        text_of(&self.line)
     }
 
     pub fn said(&self) -> Vec<u8> {
@@ -49,6 +45,15 @@ impl Input {
             String::from_utf8_lossy(&self.line),
             self.found()
         )
+    }
+}
+
+/// What is written of a line.
+pub fn text_of(line: &[u8]) -> Vec<u8> {
+    match load(line) {
+        Some(Ok(bytes)) => bytes,
+        Some(Err(number)) => format!("refused {number}\n").into_bytes(),
+        None => Vec::new(),
     }
 }
 
@@ -75,7 +80,7 @@ fn good() -> Vec<Input> {
         input("no line end", b"rom 1", Due::Bytes(2_000)),
         input(
             "zeros in front",
-            b"rom 0000000000000000007\n",
+            b"rom 000000000000000007\n",
             Due::Bytes(2_000),
         ),
         input("a schedule", b"schedule 1 100\n", Due::Bytes(1_000)),
@@ -99,8 +104,8 @@ fn refused() -> Vec<Input> {
             Due::Refused(43),
         ),
         input(
-            "m of 19 digits",
-            b"schedule 1 9999999999999999999\n",
+            "m of 18 digits",
+            b"schedule 1 999999999999999999\n",
             Due::Refused(43),
         ),
     ]
@@ -115,7 +120,7 @@ fn bad() -> Vec<Input> {
         ("a word", b"rom\n"),
         ("no seed", b"rom \n"),
         ("a seed of 33 bits", b"rom 4294967296\n"),
-        ("a seed of 20 digits", b"rom 00000000000000000007\n"),
+        ("a seed of 19 digits", b"rom 0000000000000000007\n"),
         ("a sign", b"rom -1\n"),
         ("a plus", b"rom +1\n"),
         ("hexadecimal", b"rom 0x10\n"),
@@ -139,7 +144,7 @@ fn bad() -> Vec<Input> {
             "a schedule with a seed of 33 bits",
             b"schedule 4294967296 1\n",
         ),
-        ("m of 20 digits", b"schedule 1 10000000000000000000\n"),
+        ("m of 19 digits", b"schedule 1 1000000000000000000\n"),
         ("m with a point", b"schedule 1 1.5\n"),
         ("bytes", &[0, 1, 2, 255]),
         ("a zero byte behind", b"rom 1\0"),

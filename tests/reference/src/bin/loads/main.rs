@@ -3,7 +3,7 @@
 //! `loads FOLDER` writes FOLDER/stdin and FOLDER/stdout. `loads files FOLDER` writes three files for each
 //! input K, `K NAME.input`, `K NAME.text` and `K NAME.said`: what the built program is given, and has to
 //! write and to say on standard error. `loads list` names the cases and, behind them, the inputs. `loads
-//! show K` tells case or input K.
+//! show K` tells case or input K. `loads load` reads a line from standard input and writes its load.
 //!
 //! # The file
 //!
@@ -28,6 +28,8 @@
 mod cases;
 mod inputs;
 
+use std::env;
+use std::io::{self, Read, Write};
 use std::process::ExitCode;
 
 use cases::Case;
@@ -66,7 +68,23 @@ fn made(cases: &[Case], inputs: &[Input]) -> Made {
     }
 }
 
+/// What program `load` writes of the line of standard input.
+fn write_load() -> io::Result<()> {
+    let mut line = Vec::new();
+    io::stdin().read_to_end(&mut line)?;
+    io::stdout().write_all(&inputs::text_of(&line))
+}
+
 fn main() -> ExitCode {
+    if env::args().skip(1).eq(["load"]) {
+        return match write_load() {
+            Ok(()) => ExitCode::SUCCESS,
+            Err(error) => {
+                eprintln!("loads: {error}");
+                ExitCode::FAILURE
+            }
+        };
+    }
     let cases = cases::all();
     let inputs = inputs::all();
     let names = cases
