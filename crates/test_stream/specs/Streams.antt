@@ -1,4 +1,4 @@
--- Numbers in bytes, the generator, what stands in a buffer before a call, and digests. Assumes nothing: these are definitions.
+-- Numbers in bytes, what stands in a buffer before a call, and digests. Assumes nothing: these are definitions.
 use Prim.Native.Nat.{ℕ, _+_, _*_, _%_}
 use mathlib.Core.List.{List, [], _∷_}
 use lib.ListN.{getD}
@@ -8,10 +8,6 @@ use Rattle.upd546.specs.Sequences.{entries}
 -- the number that n bytes from a place on are, big-endian; past their end bytes read 0
 abbrev pub numberIn : List ℕ → ℕ → ℕ → ℕ
 numberIn bytes at n = numberOf (entries n (λ i. getD bytes (at + i) 0))
-
--- the number of the generator after s
-abbrev pub numberAfter : ℕ → ℕ
-numberAfter s = (1664525 * s + 1013904223) % 4294967296
 
 -- the byte that stands at a place of a buffer before a call
 abbrev pub patternAt : ℕ → ℕ

@@ -1,4 +1,4 @@
-// What the programs of the tests share: numbers in bytes, the generator, what stands in a buffer before a call, digests, the commands of a
+// What the programs of the tests share: numbers in bytes, what stands in a buffer before a call, digests, the commands of a
 // stream, what is carried from command to command, and what a list of calls comes to. The commands are told at the top of
 // tests/reference/src/bin/trials/stream.rs. It may not know how a call, a run, a save or a restore goes.
 mod commands;
@@ -25,10 +25,7 @@ pub use numbers::eight;
 pub use numbers::lay;
 pub use numbers::least;
 pub use numbers::long;
-pub use numbers::next;
 pub use numbers::store;
-pub use numbers::top;
-pub use numbers::two;
 pub use numbers::word;
 pub use sessions::Session;
 pub use sessions::begin;

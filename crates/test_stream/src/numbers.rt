@@ -1,8 +1,8 @@
-// Numbers in bytes, big-endian, and the generator. Past their end bytes read 0.
+// Numbers in bytes, big-endian. Past their end bytes read 0.
 ghost use mathlib.Core.Path.{_≡_};
-ghost use Prim.Native.Nat.{_+_, _*_, _/_, _%_, min};
+ghost use Prim.Native.Nat.{_+_, _*_, min};
 ghost use lib.ListN.{getD, set};
-ghost use Rattle.test_stream.specs.Streams.{numberIn, numberAfter};
+ghost use Rattle.test_stream.specs.Streams.{numberIn};
 
 pub fn byte(bytes: &[u8], at: usize) -> u8
     ensures { λ r. ⌜ r ≡ getD (now (bytes .entry)) at 0 ⌝ }
@@ -13,7 +13,7 @@ pub fn byte(bytes: &[u8], at: usize) -> u8
     0
 }
 
-pub fn two(high: u8, low: u8) -> u16
+fn two(high: u8, low: u8) -> u16
     ensures { λ r. ⌜ r ≡ high * 256 + low ⌝ }
 {
     (high as u16) * 256 + (low as u16)
@@ -62,20 +62,6 @@ pub fn eight(bytes: &[u8], at: usize) -> u64
     }
     let rest = &bytes[at..];
     joined(long(rest, 0), long(rest, 4))
-}
-
-// The next number of the generator.
-pub fn next(s: u32) -> u32
-    ensures { λ r. ⌜ r ≡ numberAfter s ⌝ }
-{
-    (((s as u64) * 1664525 + 1013904223) % 4294967296) as u32
-}
-
-// Its top eight bits.
-pub fn top(s: u32) -> u8
-    ensures { λ r. ⌜ r ≡ s / 16777216 ⌝ }
-{
-    (s / 16777216) as u8
 }
 
 // A store past the end is lost.

@@ -1,14 +1,14 @@
--- The loop ends with the last slice. Assumes nothing.
-use Prim.Native.Nat.{_≤_, _-_}
+-- A slice more with each turn. Assumes nothing.
+use Prim.Native.Nat.{_-_}
 use borrow.Author.Needs.{needs}
 use Rattle.test_speed.proofs.run_slices.Statement.{statement}
 use Rattle.test_speed.proofs.run_slices.Tie as tie
 
 abbrev Inv-loop : tie.InvT-loop
-Inv-loop rom schedule slices runner log₀ state₀ sums₀ k₀ log state sums k = k ≤ slices
+Inv-loop rom schedule runner slices n log₀ state₀ sums₀ k₀ log state sums k = Unit {0}
 
 abbrev μ-loop : tie.MeasureT-loop
-μ-loop rom schedule slices runner log₀ state₀ sums₀ k₀ log state sums k = slices - k
+μ-loop rom schedule runner slices n log₀ state₀ sums₀ k₀ log state sums k = slices - k
 
 fresh-state-requires : tie.Need-fresh-state-requires Inv-loop μ-loop
 fresh-state-requires c κs = search needs
