@@ -47,7 +47,6 @@ namedBit bits.Cmb = chip.cmb
 namedBit bits.Tmb = chip.tmb
 namedBit bits.Rmb = chip.rmb
 namedBit bits.Smb = chip.smb
-namedBit bits.Li = chip.li
 namedBit bits.Ci = chip.ci
 
 abbrev pub namedPointer : Pointer → Instruction
@@ -62,6 +61,7 @@ namedPointer pointers.Ind = chip.ind
 namedPointer pointers.Lm = chip.lm
 namedPointer pointers.Xmi = chip.xmi
 namedPointer pointers.Ldz = chip.ldz
+namedPointer pointers.Li = chip.li
 
 abbrev pub namedWorking : Working → Instruction
 namedWorking workings.Taz = chip.taz

@@ -25,7 +25,7 @@ pub enum Sum {
     Dem,
 }
 
-// Bits of Acc and M, and constants.
+// Bits of Acc and M, and a constant.
 pub enum Bit {
     Tab,
     Rar,
@@ -33,11 +33,10 @@ pub enum Bit {
     Tmb,
     Rmb,
     Smb,
-    Li,
     Ci,
 }
 
-// DP, and M with it.
+// DP, and M with it; and LI, which like LDI looks at the mark and leaves one.
 pub enum Pointer {
     Tal,
     Tla,
@@ -50,6 +49,7 @@ pub enum Pointer {
     Lm,
     Xmi,
     Ldz,
+    Li,
 }
 
 // The words Z, W, S, R, Y and X.
@@ -350,7 +350,7 @@ pub fn decode(code: u8) -> Decoded
         6 => row6(low),
         7 => row7(low),
         8 => Decoded::Pointers(Pointer::Ldz),
-        9 => Decoded::Bits(Bit::Li),
+        9 => Decoded::Pointers(Pointer::Li),
         10 => row10(low),
         11 => Decoded::Jumps(Jump::Czp),
         _ => Decoded::Jumps(Jump::Jcp),

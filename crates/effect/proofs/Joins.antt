@@ -49,7 +49,6 @@ bit-at-dp bits.Cmb c = refl
 bit-at-dp bits.Tmb c = refl
 bit-at-dp bits.Rmb c = refl
 bit-at-dp bits.Smb c = refl
-bit-at-dp bits.Li c = refl
 bit-at-dp bits.Ci c = refl
 
 pub pointer-at-dp : (op : Pointer) (c : Core) → namedPointer op .address c ≡ dpOf c
@@ -64,6 +63,7 @@ pointer-at-dp pointers.Ind c = refl
 pointer-at-dp pointers.Lm c = refl
 pointer-at-dp pointers.Xmi c = refl
 pointer-at-dp pointers.Ldz c = refl
+pointer-at-dp pointers.Li c = refl
 
 pub flag-at-flags : (op : Flag) (c : Core) → namedFlag op .address c ≡ flagWord
 flag-at-flags flags.Fbf c = refl

@@ -7,8 +7,8 @@ use runs::Refusal;
 use upd546::Core;
 use upd546::Flow;
 use upd546::Interrupt;
+use upd546::LAST_MARK;
 use upd546::LATCHES;
-use upd546::MARK_STM;
 use upd546::RAM_WORDS;
 use upd546::Registers;
 use upd546::State;
@@ -53,7 +53,7 @@ fn timer_sound(t: Timer) -> bool
     (t.tm < 2) & (t.register < 64) & (t.counter < 64) & ((0 < t.register) | (t.counter == 0))
 }
 
-// Marks are 0 to 3, owed cycles too.
+// Owed cycles are 0 to 3.
 fn core_sound(c: Core) -> bool
     ensures { λ b. ⌜ b ≡ coreSound c ⌝ }
 {
@@ -61,7 +61,7 @@ fn core_sound(c: Core) -> bool
         & flow_sound(c.flow)
         & interrupt_sound(c.interrupt)
         & timer_sound(c.timer)
-        & (c.mark <= MARK_STM)
+        & (c.mark <= LAST_MARK)
         & (c.owed <= 3)
 }
 

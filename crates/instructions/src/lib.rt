@@ -18,6 +18,7 @@ use upd546::LATCHES;
 use upd546::Lines;
 use upd546::MARK_EI;
 use upd546::MARK_LDI;
+use upd546::MARK_LI;
 use upd546::MARK_OTHER;
 use upd546::MARK_STM;
 use upd546::PORT_C;
@@ -314,7 +315,7 @@ fn sum_left(acc: u8, carry: u8, word: u8, skip: bool) -> Summed
     }
 }
 
-// Bits of Acc and M, and constants.
+// Bits of Acc and M, and a constant.
 pub fn bit_group(op: Bit, g: Inputs, word: u8) -> Summed
     requires { ⌜ Scalars (g .core) × (word < 16) ⌝ }
     ensures { λ r. ⌜ ((ports : List ℕ) → namedBit op .effect (givenOf g word ports) ≡ sumEffect (givenOf g word ports) r) ⌝ }
@@ -330,7 +331,6 @@ pub fn bit_group(op: Bit, g: Inputs, word: u8) -> Summed
         Bit::Tmb => sum_left(acc, carry, word, bit(word, b) == 1),
         Bit::Rmb => sum_left(acc, carry, with_bit(word, b, 0), false),
         Bit::Smb => sum_left(acc, carry, with_bit(word, b, 1), false),
-        Bit::Li => sum_left(g.code % 16, carry, word, false),
         Bit::Ci => sum_left(acc, carry, word, acc == k),
     }
 }
@@ -362,6 +362,32 @@ fn ldi(g: Inputs, word: u8) -> Pointed
     }
 }
 
+// LI loads Acc, unless the instruction before it was an LI.
+fn li(g: Inputs, word: u8) -> Pointed
+    ensures { λ r. ⌜ ((ports : List ℕ) → namedPointer Pointer.Li .effect (givenOf g word ports) ≡ pointerEffect (givenOf g word ports) r) ⌝ }
+{
+    let dph = g.core.registers.dph;
+    let dpl = g.core.registers.dpl;
+    if g.core.mark == MARK_LI {
+        return Pointed {
+            acc: g.core.registers.acc,
+            dph,
+            dpl,
+            mark: MARK_LI,
+            word,
+            skip: false,
+        };
+    }
+    Pointed {
+        acc: g.code % 16,
+        dph,
+        dpl,
+        mark: MARK_LI,
+        word,
+        skip: false,
+    }
+}
+
 fn pointer_left(acc: u8, dph: u8, dpl: u8, word: u8, skip: bool) -> Pointed
     ensures { λ r. ⌜ r ≡ record { acc = acc; dph = dph; dpl = dpl; mark = markOther; word = word; skip = skip } ⌝ }
 {
@@ -375,7 +401,7 @@ fn pointer_left(acc: u8, dph: u8, dpl: u8, word: u8, skip: bool) -> Pointed
     }
 }
 
-// DP, and M with it.
+// DP, and M with it; and LI.
 pub fn pointer_group(op: Pointer, g: Inputs, word: u8) -> Pointed
     requires { ⌜ Scalars (g .core) × (word < 16) ⌝ }
     ensures { λ r. ⌜ ((ports : List ℕ) → namedPointer op .effect (givenOf g word ports) ≡ pointerEffect (givenOf g word ports) r) ⌝ }
@@ -396,6 +422,7 @@ pub fn pointer_group(op: Pointer, g: Inputs, word: u8) -> Pointed
         Pointer::Lm => pointer_left(word, dph ^ b, dpl, word, false),
         Pointer::Xmi => pointer_left(word, dph ^ b, (dpl + 1) % 16, acc, (dpl + 1) % 16 == 0),
         Pointer::Ldz => pointer_left(acc, 0, g.code % 16, word, false),
+        Pointer::Li => li(g, word),
     }
 }
 

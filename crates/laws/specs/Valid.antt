@@ -7,7 +7,7 @@ use Rattle.runs.specs.Refusals.{cycleLimit}
 use Rattle.upd546.specs.declared.Core.{Core}
 use Rattle.upd546.specs.declared.Lines.{Lines}
 use Rattle.upd546.specs.declared.State.{State}
-use Rattle.upd546.specs.TheMachine.{addresses, stackDepth, latches, ramLength, markStm}
+use Rattle.upd546.specs.TheMachine.{addresses, stackDepth, latches, ramLength, lastMark}
 
 -- every entry is below the bound
 abbrev pub Below : ℕ → List ℕ → Type 0
@@ -29,7 +29,7 @@ pub record Scalars (c : Core) : Type 0 where
   pub counter : c .timer .counter < 64
   -- a stopped timer has counter 0
   pub stopped : c .timer .counter ≤ 63 * c .timer .register
-  pub mark : c .mark ≤ markStm
+  pub mark : c .mark ≤ lastMark
   pub owed : c .owed ≤ 3
 
 pub record ValidStack (stack : List ℕ) : Type 0 where

@@ -4,6 +4,8 @@ use upd546::Core;
 use upd546::Flow;
 use upd546::Lines;
 use upd546::MARK_EI;
+use upd546::MARK_LDI;
+use upd546::MARK_LI;
 use upd546::MARK_OTHER;
 use upd546::MARK_STM;
 use upd546::Timer;
@@ -104,7 +106,8 @@ pub fn paid(c: Core) -> Core
 pub fn accepts(c: Core) -> bool
     ensures { λ r. ⌜ r ≡ acceptsOf c ⌝ }
 {
-    (c.owed == 0) & (c.interrupt.inte == 1) & (c.interrupt.int == 1) & (c.mark != MARK_EI)
+    let blocks = (c.mark == MARK_EI) | (c.mark == MARK_LDI) | (c.mark == MARK_LI);
+    (c.owed == 0) & (c.interrupt.inte == 1) & (c.interrupt.int == 1) & !blocks
 }
 
 pub fn accepted(c: Core) -> Core

@@ -7,9 +7,9 @@ use lib.ListN.{length, replicate}
 use Rattle.runs.specs.TwoRunners.{End, finished, stopped, refused, RunAnswer, unbroken, runNumber, plain, skipping}
 use Rattle.upd546.specs.declared.Core.{Core}
 use Rattle.upd546.specs.declared.State.{State}
-use Rattle.upd546.specs.TheMachine.{fresh}
-use Rattle.upd546.specs.Parts.{setAcc, setCarry, setDph, setDpl, setPc, setInt, setOwed}
-use Rattle.upd546.specs.StateImage.{imageOf, ofImage}
+use Rattle.upd546.specs.TheMachine.{fresh, newest}
+use Rattle.upd546.specs.Parts.{setAcc, setCarry, setDph, setDpl, setPc, setInt, setInte, setMark, setOwed}
+use Rattle.upd546.specs.StateImage.{imageOf, ofImage, stateNumber, imageNumber}
 use Rattle.upd546.specs.Sequences.{sameNumbers}
 use Rattle.upd546.specs.TwoRunners.{upd546}
 use Rattle.upd546.specs.Reports.{traceText}
@@ -55,9 +55,16 @@ stateAfter n rom s = unbroken upd546 rom [] n s .state
 abbrev pub lines : ℕ → ℕ → List ℕ
 lines ab cd = replicate 6 0 ++ (ab ∷ cd ∷ 1 ∷ 0 ∷ [])
 
--- the state after one cycle of a ROM with a schedule
+-- and of one in which INT falls at cycle n, which is below 256
+abbrev pub fallAt : ℕ → List ℕ
+fallAt n = replicate 5 0 ++ (n ∷ 0 ∷ 0 ∷ 0 ∷ 0 ∷ [])
+
+-- the state after one cycle of a ROM with a schedule, and after n cycles
 abbrev pub stateOn : List ℕ → List ℕ → State → State
 stateOn sched rom s = unbroken upd546 rom sched 1 s .state
+
+abbrev pub stateLater : ℕ → List ℕ → List ℕ → State → State
+stateLater n sched rom s = unbroken upd546 rom sched n s .state
 
 -- what is looked at, of a state and of an answer
 abbrev pub see : (State → List ℕ) → State → List ℕ
@@ -118,9 +125,20 @@ waited a =
 abbrev pub tpbAtTheEnd : ℕ → List ℕ → RunAnswer State
 tpbAtTheEnd port ports = plain upd546 (romAt 0x7CF (0x51 ∷ [])) [] (driving (λ c. setPc 0x7CF (setDpl port c)) ports) [] 1
 
--- 81 bytes: zeros but for `U43`, version 1, the level in byte 15 and 2 cycles owed in byte 17
+-- 81 bytes: zeros but for `U43`, version 1, the level in byte 15, the mark in byte 16 and the cycles owed in byte 17
+abbrev pub imageWith : ℕ → ℕ → List ℕ
+imageWith mark owed = (0x55 ∷ 0x34 ∷ 0x33 ∷ 0 ∷ 1 ∷ []) ++ replicate 10 0 ++ (32 ∷ mark ∷ owed ∷ replicate 63 0)
+
 abbrev pub owedImage : List ℕ
-owedImage = (0x55 ∷ 0x34 ∷ 0x33 ∷ 0 ∷ 1 ∷ []) ++ replicate 10 0 ++ (32 ∷ 0 ∷ 2 ∷ replicate 63 0)
+owedImage = imageWith 0 2
+
+-- what is looked at after loads: PC, Acc, DPH, DPL and the mark
+abbrev pub loaded : State → List ℕ
+loaded s = pcOf s ∷ accOf s ∷ s .core .registers .dph ∷ s .core .registers .dpl ∷ s .core .mark ∷ []
+
+-- and of an interrupt: PC, the newest return, Acc, INT and INTE
+abbrev pub answered : State → List ℕ
+answered s = pcOf s ∷ newest (s .core .flow .stack) ∷ accOf s ∷ s .core .interrupt .int ∷ s .core .interrupt .inte ∷ []
 
 abbrev pub cases : List Case
 cases =
@@ -257,4 +275,85 @@ cases =
     -- R-2: TPB on D at 7CF needs a byte above it because of the latch: 22, and no cycle; with another bit it is begun
     ∷ record { given = seeAnswer (λ a. numberOf (a .end) ∷ a .cycles ∷ []) (tpbAtTheEnd 3 (0 ∷ 2 ∷ replicate 5 0)); wanted = 22 ∷ 0 ∷ [] }
     ∷ record { given = seeAnswer (λ a. numberOf (a .end) ∷ a .cycles ∷ []) (tpbAtTheEnd 3 (2 ∷ 13 ∷ replicate 5 0)); wanted = 0 ∷ 1 ∷ [] }
+    -- R-5: LI 5, LI 9: the second is an instruction of one cycle that changes nothing but PC, and keeps the mark LI
+    ∷ record { given = loaded (stateAfter 1 (romAt 0 (0x95 ∷ 0x99 ∷ [])) fresh); wanted = 1 ∷ 5 ∷ 0 ∷ 0 ∷ 4 ∷ [] }
+    ∷ record { given = loaded (stateAfter 2 (romAt 0 (0x95 ∷ 0x99 ∷ [])) fresh); wanted = 2 ∷ 5 ∷ 0 ∷ 0 ∷ 4 ∷ [] }
+    ∷ record { given = unbroken upd546 (romAt 0 (0x95 ∷ 0x99 ∷ [])) [] 2 fresh .begun ∷ []; wanted = 2 ∷ [] }
+    -- R-5: so do the third and the fourth
+    ∷ record { given = loaded (stateAfter 4 (romAt 0 (0x95 ∷ 0x99 ∷ 0x92 ∷ 0x9F ∷ [])) fresh); wanted = 4 ∷ 5 ∷ 0 ∷ 0 ∷ 4 ∷ [] }
+    -- R-5: CLA is LI 0, before an LI and after it
+    ∷ record { given = loaded (stateAfter 2 (romAt 0 (0x90 ∷ 0x97 ∷ [])) (from (setAcc 3))); wanted = 2 ∷ 0 ∷ 0 ∷ 0 ∷ 4 ∷ [] }
+    ∷ record { given = loaded (stateAfter 2 (romAt 0 (0x97 ∷ 0x90 ∷ [])) fresh); wanted = 2 ∷ 7 ∷ 0 ∷ 0 ∷ 4 ∷ [] }
+    -- R-5: LI 5, NOP, LI 9: both load
+    ∷ record { given = loaded (stateAfter 3 (romAt 0 (0x95 ∷ 0x00 ∷ 0x99 ∷ [])) fresh); wanted = 3 ∷ 9 ∷ 0 ∷ 0 ∷ 4 ∷ [] }
+    -- LDI 23, LDI 45: the second is a NOP of two cycles that keeps the mark LDI
+    ∷ record { given = loaded (stateAfter 4 (romAt 0 (0x15 ∷ 0x23 ∷ 0x15 ∷ 0x45 ∷ [])) fresh); wanted = 4 ∷ 0 ∷ 2 ∷ 3 ∷ 1 ∷ [] }
+    -- R-5: LDI 23, LI 5, LDI 45, LI 9: LI after LDI loads, and LDI after LI
+    ∷ record { given = loaded (stateAfter 3 (romAt 0 (0x15 ∷ 0x23 ∷ 0x95 ∷ [])) fresh); wanted = 3 ∷ 5 ∷ 2 ∷ 3 ∷ 4 ∷ [] }
+    ∷ record {
+      given = loaded (stateAfter 6 (romAt 0 (0x15 ∷ 0x23 ∷ 0x95 ∷ 0x15 ∷ 0x45 ∷ 0x99 ∷ [])) fresh);
+      wanted = 6 ∷ 9 ∷ 4 ∷ 5 ∷ 4 ∷ [];
+    }
+    -- R-5: JCP 003 enters the string LI 1, LI 2, LI 3, LI 4 at its third load, also with mark LI before it: LI 7, JCP 003
+    ∷ record { given = loaded (stateAfter 3 (romAt 0 (0xC3 ∷ 0x91 ∷ 0x92 ∷ 0x93 ∷ 0x94 ∷ [])) fresh); wanted = 5 ∷ 3 ∷ 0 ∷ 0 ∷ 4 ∷ [] }
+    ∷ record { given = loaded (stateAfter 4 (romAt 0 (0x97 ∷ 0xC3 ∷ 0x92 ∷ 0x93 ∷ 0x94 ∷ [])) fresh); wanted = 5 ∷ 3 ∷ 0 ∷ 0 ∷ 4 ∷ [] }
+    -- R-5: a skipped LI isn't begun: LI 5, TC with C=1 over LI 9, LI 3, which loads
+    ∷ record { given = loaded (stateAfter 4 (romAt 0 (0x95 ∷ 0x04 ∷ 0x99 ∷ 0x93 ∷ [])) (from (setCarry 1))); wanted = 4 ∷ 3 ∷ 0 ∷ 0 ∷ 4 ∷ [] }
+    -- R-5: INT falls between LI 5 and LI 9, in cycle 1. The interrupt isn't accepted before NOP, and follows it
+    ∷ record { given = answered (stateLater 3 (fallAt 1) (romAt 0 (0x95 ∷ 0x99 ∷ [])) (from (setInte 1))); wanted = 3 ∷ 0 ∷ 5 ∷ 1 ∷ 1 ∷ [] }
+    ∷ record { given = answered (stateLater 4 (fallAt 1) (romAt 0 (0x95 ∷ 0x99 ∷ [])) (from (setInte 1))); wanted = 0x03C ∷ 3 ∷ 5 ∷ 0 ∷ 0 ∷ [] }
+    -- R-5: so on the plain runner and on the timer-skipping one
+    ∷ record {
+      given = answered (plain upd546 (romAt 0 (0x95 ∷ 0x99 ∷ [])) (fallAt 1) (from (setInte 1)) [] 4 .state);
+      wanted = 0x03C ∷ 3 ∷ 5 ∷ 0 ∷ 0 ∷ [];
+    }
+    ∷ record {
+      given = answered (skipping upd546 (romAt 0 (0x95 ∷ 0x99 ∷ [])) (fallAt 1) (from (setInte 1)) [] 4 .state);
+      wanted = 0x03C ∷ 3 ∷ 5 ∷ 0 ∷ 0 ∷ [];
+    }
+    -- R-5: also after a single LI, here in cycle 0
+    ∷ record { given = answered (stateLater 2 (fallAt 0) (romAt 0 (0x95 ∷ [])) (from (setInte 1))); wanted = 2 ∷ 0 ∷ 5 ∷ 1 ∷ 1 ∷ [] }
+    ∷ record { given = answered (stateLater 3 (fallAt 0) (romAt 0 (0x95 ∷ [])) (from (setInte 1))); wanted = 0x03C ∷ 2 ∷ 5 ∷ 0 ∷ 0 ∷ [] }
+    -- R-5: between two LDI, in cycle 2
+    ∷ record {
+      given = answered (stateLater 5 (fallAt 2) (romAt 0 (0x15 ∷ 0x23 ∷ 0x15 ∷ 0x45 ∷ [])) (from (setInte 1)));
+      wanted = 5 ∷ 0 ∷ 0 ∷ 1 ∷ 1 ∷ [];
+    }
+    ∷ record {
+      given = answered (stateLater 6 (fallAt 2) (romAt 0 (0x15 ∷ 0x23 ∷ 0x15 ∷ 0x45 ∷ [])) (from (setInte 1)));
+      wanted = 0x03C ∷ 5 ∷ 0 ∷ 0 ∷ 0 ∷ [];
+    }
+    -- R-5: with EI at the string's end, LI 5, LI 9, EI: the NOP after EI is begun first
+    ∷ record { given = answered (stateLater 4 (fallAt 1) (romAt 0 (0x95 ∷ 0x99 ∷ 0x31 ∷ [])) (from (setInte 1))); wanted = 4 ∷ 0 ∷ 5 ∷ 1 ∷ 1 ∷ [] }
+    ∷ record { given = answered (stateLater 5 (fallAt 1) (romAt 0 (0x95 ∷ 0x99 ∷ 0x31 ∷ [])) (from (setInte 1))); wanted = 0x03C ∷ 4 ∷ 5 ∷ 0 ∷ 0 ∷ [] }
+    -- R-5: EI, LI 5: acceptance follows the NOP after LI
+    ∷ record { given = answered (stateAfter 3 (romAt 0 (0x31 ∷ 0x95 ∷ [])) (from (setInt 1))); wanted = 3 ∷ 0 ∷ 5 ∷ 1 ∷ 1 ∷ [] }
+    ∷ record { given = answered (stateAfter 4 (romAt 0 (0x31 ∷ 0x95 ∷ [])) (from (setInt 1))); wanted = 0x03C ∷ 3 ∷ 5 ∷ 0 ∷ 0 ∷ [] }
+    -- R-5: LI 5, a switch-off, LI 9: the string goes on
+    ∷ record {
+      given = loaded (stateAfter 1 (romAt 0 (0x95 ∷ 0x99 ∷ [])) (ofImage (imageOf (stateAfter 1 (romAt 0 (0x95 ∷ 0x99 ∷ [])) fresh))));
+      wanted = 2 ∷ 5 ∷ 0 ∷ 0 ∷ 4 ∷ [];
+    }
+    -- R-5: byte 16 of an image has mark 4, and it is read back
+    ∷ record { given = imageOf (from (setMark 4)); wanted = imageWith 4 0 }
+    ∷ record { given = stateNumbers (ofImage (imageWith 4 0)); wanted = replicate 11 0 ++ (1 ∷ 0 ∷ 0 ∷ 0 ∷ 4 ∷ replicate 105 0) }
+    -- R-5: marks 0 to 4 are restored, 5 is 34; of a state given as a value too
+    ∷ record {
+      given =
+          imageNumber (imageWith 0 0) ∷ imageNumber (imageWith 1 0) ∷ imageNumber (imageWith 2 0)
+          ∷ imageNumber (imageWith 3 0) ∷ imageNumber (imageWith 4 0) ∷ imageNumber (imageWith 5 0) ∷ [];
+      wanted = 0 ∷ 0 ∷ 0 ∷ 0 ∷ 0 ∷ 34 ∷ [];
+    }
+    ∷ record { given = stateNumber (from (setMark 4)) ∷ stateNumber (from (setMark 5)) ∷ []; wanted = 0 ∷ 34 ∷ [] }
+    -- R-5: TTM directly after LI, which stands after STM 80: a jump of 62 cycles begins with mark LI
+    ∷ record {
+      given = waited (waits 65 (romAt 0 (0x14 ∷ 0x80 ∷ 0x95 ∷ 0x05 ∷ 0xC3 ∷ [])) fresh);
+      wanted = 0 ∷ 65 ∷ 64 ∷ 4 ∷ 0x003 ∷ 0 ∷ 1 ∷ 0 ∷ 0 ∷ 0 ∷ 0 ∷ [];
+    }
+    -- R-5: STM 80, EI, LI 5 with INT set: at TTM the mark is LI and INT and INTE are both 1, so there is no jump; TTM is begun, and
+    -- acceptance follows it
+    ∷ record {
+      given = waited (waits 6 (romAt 0 (0x14 ∷ 0x80 ∷ 0x31 ∷ 0x95 ∷ 0x05 ∷ 0xC4 ∷ [])) (from (setInt 1)));
+      wanted = 0 ∷ 6 ∷ 4 ∷ 6 ∷ 0x03C ∷ 0 ∷ 0 ∷ 16 ∷ 0 ∷ 0 ∷ 0 ∷ [];
+    }
     ∷ []

@@ -11,7 +11,7 @@ use Rattle.upd546.specs.declared.Interrupt.{Interrupt}
 use Rattle.upd546.specs.declared.Timer.{Timer}
 use Rattle.upd546.specs.declared.Core.{Core}
 use Rattle.upd546.specs.declared.State.{State}
-use Rattle.upd546.specs.TheMachine.{addresses, stackDepth, latches, ramLength, dpOf, markStm}
+use Rattle.upd546.specs.TheMachine.{addresses, stackDepth, latches, ramLength, dpOf, lastMark}
 use Rattle.upd546.specs.Sequences.{entries}
 use Rattle.upd546.specs.Bytes.{bitAt, part, numberAt, bytesOf}
 use Rattle.upd546.specs.Sequences.{allOf, allBelow, sameNumbers}
@@ -33,7 +33,7 @@ pcAt = 5
 abbrev pub stackAt : ℕ
 stackAt = 7
 
--- "13 DP; 14 Acc; 15 bits 0 to 5: C, C', INT, INTE, TM, level; 16 mark 0 to 3 in the order above; 17 owed"
+-- "13 DP; 14 Acc; 15 bits 0 to 5: C, C', INT, INTE, TM, level; 16 mark 0 to 3 in the order above; 17 owed"; R-5 adds mark 4
 abbrev pub dpAt : ℕ
 dpAt = 13
 
@@ -155,10 +155,10 @@ interruptSound i = allOf (ltb (i .int) 2 ∷ ltb (i .inte) 2 ∷ ltb (i .level) 
 unfoldable pub timerSound : Timer → Bool
 timerSound t = allOf (ltb (t .tm) 2 ∷ ltb (t .register) 64 ∷ ltb (t .counter) 64 ∷ (ltb 0 (t .register) || eqb (t .counter) 0) ∷ [])
 
--- "mark 0 to 3"; "Owed: cycles 0 to 3"
+-- "The mark gains the value 4 for LI in image byte 16, so 34 starts at 5 there"; "Owed: cycles 0 to 3"
 unfoldable pub coreSound : Core → Bool
 coreSound c =
-    allOf (registersSound (c .registers) ∷ flowSound (c .flow) ∷ interruptSound (c .interrupt) ∷ timerSound (c .timer) ∷ leb (c .mark) markStm ∷ leb (c .owed) 3 ∷ [])
+    allOf (registersSound (c .registers) ∷ flowSound (c .flow) ∷ interruptSound (c .interrupt) ∷ timerSound (c .timer) ∷ leb (c .mark) lastMark ∷ leb (c .owed) 3 ∷ [])
 
 -- "Ports C to I: output latches, I of 3 bits."
 unfoldable pub portsSound : List ℕ → Bool

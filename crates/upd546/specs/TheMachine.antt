@@ -120,6 +120,13 @@ markEi = 2
 abbrev pub markStm : ℕ
 markStm = 3
 
+-- Document 02, R-5: "The mark gains the value 4 for LI in image byte 16, so 34 starts at 5 there."
+abbrev pub markLi : ℕ
+markLi = 4
+
+abbrev pub lastMark : ℕ
+lastMark = markLi
+
 -- "Fresh state: all zero, level high, mark other, timer stopped"
 abbrev pub fresh : State
 fresh = record {

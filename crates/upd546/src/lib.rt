@@ -36,6 +36,11 @@ pub const MARK_EI: u8 = 2;
 
 pub const MARK_STM: u8 = 3;
 
+pub const MARK_LI: u8 = 4;
+
+// No mark is above it.
+pub const LAST_MARK: u8 = MARK_LI;
+
 // Ports, as DPL names them: A to I are 0 to 8.
 pub const PORT_C: u8 = 2;
 

@@ -69,12 +69,6 @@ enum-told-7 c = search needs
 sum-left-requires-7 : tie.Need-sum-left-requires-7
 sum-left-requires-7 c κs = search needs
 
-enum-told-8 : tie.Need-enum-told-8
-enum-told-8 c = search needs
-
-sum-left-requires-8 : tie.Need-sum-left-requires-8
-sum-left-requires-8 c κs = search needs
-
 returns : tie.Need-returns
 returns c ports = rw (c .before .before .enum-told .given .1, c .sum-left .ensures, c .before .bit .ensures)
 
@@ -94,10 +88,7 @@ returns-6 : tie.Need-returns-6
 returns-6 c ports = rw (c .before .before .enum-told6 .given .1, c .sum-left6 .ensures, c .before .with-bit2 .ensures)
 
 returns-7 : tie.Need-returns-7
-returns-7 c ports = rw (c .before .before .enum-told7 .given .1, c .sum-left7 .ensures)
-
-returns-8 : tie.Need-returns-8
-returns-8 c ports = rw (c .before .enum-told8 .given .1, c .sum-left8 .ensures)
+returns-7 c ports = rw (c .before .enum-told7 .given .1, c .sum-left7 .ensures)
 
 pub bit-group-spec : {M : Type 1} → statement M
 bit-group-spec =
@@ -125,13 +116,10 @@ bit-group-spec =
     sum-left-requires-6
     enum-told-7
     sum-left-requires-7
-    enum-told-8
-    sum-left-requires-8
     returns
     returns-2
     returns-3
     returns-4
     returns-5
     returns-6
-    returns-7
-    returns-8)
+    returns-7)

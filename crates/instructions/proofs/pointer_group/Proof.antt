@@ -93,6 +93,12 @@ enum-told-11 c = search needs
 pointer-left-requires-10 : tie.Need-pointer-left-requires-10
 pointer-left-requires-10 c κs = search needs
 
+enum-told-12 : tie.Need-enum-told-12
+enum-told-12 c = search needs
+
+li-requires : tie.Need-li-requires
+li-requires c κs = search needs
+
 returns : tie.Need-returns
 returns c ports = rw (c .before .enum-told .given .1, c .pointer-left .ensures)
 
@@ -125,6 +131,9 @@ returns-10 c ports = rw (c .before .enum-told10 .given .1, c .pointer-left9 .ens
 
 returns-11 : tie.Need-returns-11
 returns-11 c ports = rw (c .before .before .enum-told11 .given .1, c .pointer-left10 .ensures)
+
+returns-12 : tie.Need-returns-12
+returns-12 c ports = rw (c .before .enum-told12 .given .1, c .li .ensures)
 
 pub pointer-group-spec : {M : Type 1} → statement M
 pointer-group-spec =
@@ -160,6 +169,8 @@ pointer-group-spec =
     pointer-left-requires-9
     enum-told-11
     pointer-left-requires-10
+    enum-told-12
+    li-requires
     returns
     returns-2
     returns-3
@@ -170,4 +181,5 @@ pointer-group-spec =
     returns-8
     returns-9
     returns-10
-    returns-11)
+    returns-11
+    returns-12)
