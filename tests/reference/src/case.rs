@@ -344,7 +344,7 @@ pub fn highest() -> State {
         inte: 1,
         tm: 1,
         level: 1,
-        mark: 3,
+        mark: 4,
         owed: 3,
         register: 63,
         counter: 63,

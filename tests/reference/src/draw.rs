@@ -74,7 +74,7 @@ impl Draw {
         state.inte = self.upto(1);
         state.tm = self.upto(1);
         state.level = self.upto(1);
-        state.mark = self.upto(3);
+        state.mark = self.upto(4);
         state.owed = self.upto(3);
         state.register = self.upto(63);
         state.counter = if state.register == 0 {

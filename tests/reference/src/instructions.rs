@@ -1,7 +1,7 @@
 //! The instructions: their bytes and base cycles, and what each does in its first cycle.
 
 use crate::log::Log;
-use crate::machine::{State, EI, FLAG, LDI, OTHER, R, S, STM, W, X, Y, Z};
+use crate::machine::{State, EI, FLAG, LDI, LI, OTHER, R, S, STM, W, X, Y, Z};
 use crate::numbers::NO_INSTRUCTION;
 use crate::schedule::Lines;
 
@@ -202,7 +202,13 @@ pub(crate) fn execute(
             s.dph = 0;
             s.dpl = code & 15;
         }
-        0x90..=0x9F => s.acc = code & 15, // LI
+        0x90..=0x9F => {
+            // LI: R-5, "directly after an LI is a NOP that keeps its mark".
+            if s.mark != LI {
+                s.acc = code & 15;
+            }
+            mark = LI;
+        }
         0xB0..=0xBF => {
             // CZP: "call 4 times k".
             s.push(after);

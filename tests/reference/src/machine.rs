@@ -5,6 +5,8 @@ pub(crate) const OTHER: u8 = 0;
 pub(crate) const LDI: u8 = 1;
 pub(crate) const EI: u8 = 2;
 pub(crate) const STM: u8 = 3;
+/// R-5: "The mark gains the value 4 for LI in image byte 16".
+pub(crate) const LI: u8 = 4;
 
 /// "Cycle number, at most 2^48 - 1".
 pub(crate) const LAST_CYCLE: u64 = (1 << 48) - 1;
@@ -55,7 +57,7 @@ pub struct State {
     pub tm: u8,
     /// The INT level last seen, 1 for high.
     pub level: u8,
-    /// Other 0, LDI 1, EI 2, STM 3.
+    /// Other 0, LDI 1, EI 2, STM 3, LI 4.
     pub mark: u8,
     /// Cycles that the last instruction begun still takes.
     pub owed: u8,
@@ -108,7 +110,7 @@ impl State {
             && flags.iter().all(|&flag| flag <= 1)
             && self.dph <= 7
             && self.dpl <= 15
-            && self.mark <= STM
+            && self.mark <= LI
             && self.owed <= 3
             && self.register <= 63
             && self.counter <= 63
@@ -151,10 +153,10 @@ impl State {
     }
 
     /// Whether step a accepts the interrupt: "If owed is 0, INTE and INT are 1 and the mark isn't
-    /// EI".
+    /// EI"; R-5: "No interrupt is accepted while the mark is LDI or LI".
     #[inline]
     pub(crate) fn accepts(&self) -> bool {
-        self.owed == 0 && self.inte == 1 && self.int == 1 && self.mark != EI
+        self.owed == 0 && self.inte == 1 && self.int == 1 && !matches!(self.mark, EI | LDI | LI)
     }
 
     /// Step a: "push PC, PC becomes 03C, INT and INTE become 0, mark other".

@@ -305,6 +305,7 @@ fn fields(state: &State) -> Vec<(String, String)> {
         1 => "LDI",
         2 => "EI",
         3 => "STM",
+        4 => "LI",
         _ => "none",
     };
     let field = |name: &str, value: &dyn Display| (String::from(name), value.to_string());

@@ -10,6 +10,7 @@ pub const OTHER: u8 = 0;
 pub const LDI: u8 = 1;
 pub const EI: u8 = 2;
 pub const STM: u8 = 3;
+pub const LI: u8 = 4;
 
 /// A ROM of NOPs with these bytes at these addresses.
 pub fn rom(parts: &[(usize, &[u8])]) -> Vec<u8> {

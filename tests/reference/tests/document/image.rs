@@ -149,7 +149,7 @@ fn restore_refuses_in_its_order() {
 #[test]
 fn restore_takes_each_field_up_to_its_width() {
     // Place and highest value of each byte field; two-byte fields by their high byte.
-    let mut widths = vec![(13, 127), (14, 15), (15, 63), (16, 3), (17, 3), (18, 63)];
+    let mut widths = vec![(13, 127), (14, 15), (15, 63), (16, 4), (17, 3), (18, 63)];
     widths.extend([(5, 7), (7, 7), (9, 7), (11, 7), (26, 7)]);
     widths.extend((20..26).map(|place| (place, 15)));
     widths.extend([6, 8, 10, 12].map(|place| (place, 255)));

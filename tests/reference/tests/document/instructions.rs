@@ -301,7 +301,7 @@ fn operands_of_4_bits() {
                 t.dph = 0;
                 t.dpl = k;
             });
-            check(s, &[0x90 + k], 1, |t| t.acc = k);
+            check(s, &[0x90 + k], 1, |t| (t.acc, t.mark) = (k, LI));
             // The second byte's high half isn't looked at.
             let second = k | s.acc << 4;
             check(s, &[0x16, second], 2, |t| skip_if(t, s.dpl == k));
@@ -374,7 +374,7 @@ fn stm_and_ldi() {
             t.counter = second % 64;
             t.mark = STM;
         });
-        for mark in [OTHER, EI, STM] {
+        for mark in [OTHER, EI, STM, LI] {
             s.mark = mark;
             check(s, &[0x15, second], 2, |t| {
                 t.dph = second / 16 % 8;
@@ -385,6 +385,21 @@ fn stm_and_ldi() {
         }
         s.mark = LDI;
         check(s, &[0x15, second], 2, |_| {});
+        check(s, &[0x00], 1, |t| t.mark = OTHER);
+    }
+}
+
+#[test]
+fn li_after_every_mark() {
+    let draw = &mut Draw::new(16);
+    for k in 0..16 {
+        let s = &mut start(draw);
+        for mark in [OTHER, LDI, EI, STM] {
+            s.mark = mark;
+            check(s, &[0x90 + k], 1, |t| (t.acc, t.mark) = (k, LI));
+        }
+        s.mark = LI;
+        check(s, &[0x90 + k], 1, |_| {});
         check(s, &[0x00], 1, |t| t.mark = OTHER);
     }
 }
@@ -469,7 +484,7 @@ fn owed_cycles_do_nothing_but_pass() {
         let mut state = start(draw);
         state.pc = draw.below(0x800) as u16;
         state.owed = 1 + draw.upto(2);
-        state.mark = draw.upto(3);
+        state.mark = draw.upto(4);
         let mut expected = state.clone();
         expected.owed -= 1;
         expected.cycle += 1;

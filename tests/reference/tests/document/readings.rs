@@ -130,8 +130,8 @@ fn di_after_ei_keeps_the_interrupt_away() {
 }
 
 #[test]
-fn mark_ldi_and_mark_stm_do_not_keep_the_interrupt_away() {
-    for mark in [OTHER, LDI, STM] {
+fn mark_stm_does_not_keep_the_interrupt_away() {
+    for mark in [OTHER, STM] {
         let mut start = at(0x7FF);
         start.mark = mark;
         start.int = 1;
@@ -159,14 +159,85 @@ fn the_first_of_several_ldi_counts() {
 }
 
 #[test]
-fn after_an_acceptance_the_next_ldi_loads() {
+fn the_first_of_several_li_counts() {
+    // LI 5, LI 9, CLA, NOP, CLA, LI 7: CLA is LI with 0, at both ends.
+    let rom = rom(&[(0, &[0x95, 0x99, 0x90, 0x00, 0x90, 0x97])]);
+    for (n, acc, mark) in [
+        (1, 5, LI),
+        (2, 5, LI),
+        (3, 5, LI),
+        (4, 5, OTHER),
+        (5, 0, LI),
+        (6, 0, LI),
+    ] {
+        let (answer, _) = go(Runner::Plain, &rom, &[], &State::fresh(), n);
+        let state = answer.state;
+        assert_eq!((state.acc, state.mark, state.owed), (acc, mark, 0));
+        assert_eq!((u64::from(state.pc), answer.begun), (n, n));
+    }
+}
+
+#[test]
+fn li_and_ldi_are_two_strings() {
+    let rom = rom(&[(0, &[0x15, 0x12, 0x95, 0x15, 0x34, 0x99])]);
+    let state = after(&rom, &[], &State::fresh(), 6);
+    assert_eq!((state.dph, state.dpl, state.acc), (3, 4, 9));
+    assert_eq!((state.pc, state.mark), (6, LI));
+}
+
+#[test]
+fn an_edge_in_a_string_is_answered_behind_the_next_instruction() {
+    // The string with its cycles, and the address behind the first instruction of another kind.
+    let strings: [(&[u8], u64, u16); 5] = [
+        (&[0x95], 1, 2),
+        (&[0x95, 0x99, 0x92], 3, 4),
+        (&[0x15, 0x12], 2, 3),
+        (&[0x15, 0x12, 0x15, 0x34], 4, 5),
+        (&[0x95, 0x15, 0x12, 0x99], 4, 5),
+    ];
+    for (string, cycles, behind) in strings {
+        for fall in 0..cycles {
+            let mut start = State::fresh();
+            start.inte = 1;
+            let rom = rom(&[(0, string)]);
+            let lines = schedule(&[(fall, 0, 0, 0)]);
+            let state = after(&rom, &lines, &start, cycles + 1);
+            assert_eq!((state.pc, state.int, state.inte), (behind, 1, 1));
+            let state = after(&rom, &lines, &state, 1);
+            assert_eq!((state.pc, state.stack[0]), (0x03C, behind));
+            assert_eq!((state.int, state.mark), (0, OTHER));
+        }
+    }
+}
+
+#[test]
+fn ei_at_the_end_of_a_string_holds_the_interrupt_back_once_more() {
     let mut start = State::fresh();
-    start.mark = LDI;
-    start.int = 1;
-    start.inte = 1;
-    let rom = rom(&[(0x03C, &[0x15, 0x7F])]);
-    let state = after(&rom, &[], &start, 2);
-    assert_eq!((state.dph, state.dpl), (7, 15));
+    (start.int, start.inte) = (1, 1);
+    start.mark = LI;
+    // LI, EI, OE with its owed cycle, then the acceptance.
+    let rom = rom(&[(0, &[0x95, 0x31, 0x44])]);
+    let state = after(&rom, &[], &start, 4);
+    assert_eq!((state.pc, state.owed, state.int), (3, 0, 1));
+    let state = after(&rom, &[], &state, 1);
+    assert_eq!((state.pc, state.stack[0]), (0x03C, 3));
+}
+
+#[test]
+fn after_an_acceptance_the_next_load_acts() {
+    // LI, or LDI, with the mark of its own kind before NOP, and as the first instruction of the answer.
+    for (load, mark, dp_acc) in [
+        ([0x15, 0x7F], LDI, (7, 15, 0)),
+        ([0x99, 0x00], LI, (0, 0, 9)),
+    ] {
+        let mut start = State::fresh();
+        start.mark = mark;
+        start.int = 1;
+        start.inte = 1;
+        let rom = rom(&[(0x03C, &load)]);
+        let state = after(&rom, &[], &start, 3);
+        assert_eq!((state.dph, state.dpl, state.acc), dp_acc);
+    }
 }
 
 #[test]

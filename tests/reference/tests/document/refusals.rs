@@ -130,7 +130,7 @@ pub fn faulty_states() -> Vec<State> {
         |s| s.inte = 2,
         |s| s.tm = 2,
         |s| s.level = 2,
-        |s| s.mark = 4,
+        |s| s.mark = 5,
         |s| s.owed = 4,
         |s| s.register = 64,
         |s| (s.register, s.counter) = (1, 64),
@@ -163,13 +163,15 @@ fn a_field_of_the_state() {
 
 #[test]
 fn states_that_no_run_reaches_are_taken() {
-    let changes: [fn(&mut State); 7] = [
+    let changes: [fn(&mut State); 9] = [
         |s| (s.tm, s.register) = (1, 5),
         |s| s.mark = STM,
         |s| (s.mark, s.register, s.counter) = (STM, 7, 63),
         |s| s.mark = EI,
         |s| (s.mark, s.owed) = (EI, 3),
         |s| (s.mark, s.owed) = (LDI, 3),
+        |s| s.mark = LI,
+        |s| (s.mark, s.owed) = (LI, 3),
         |s| (s.pc, s.stack) = (0x7FF, [0x7FF, 0x7D0, 0x7E0]),
     ];
     for change in changes {

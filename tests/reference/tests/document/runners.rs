@@ -216,7 +216,7 @@ fn the_conditions_of_a_jump() {
     let n = 10;
     assert_eq!(steps(&[], &waiting(100), n), 1);
     // Whatever the mark.
-    for mark in [OTHER, LDI, EI, STM] {
+    for mark in [OTHER, LDI, EI, STM, LI] {
         let mut state = waiting(100);
         state.mark = mark;
         assert_eq!(steps(&[], &state, n), 1);
@@ -238,13 +238,15 @@ fn the_conditions_of_a_jump() {
         state.inte = inte;
         assert_eq!(steps(&[], &state, n), 1);
     }
-    // INT and INTE both 1, also while EI keeps the acceptance away.
-    let mut state = waiting(100);
-    state.int = 1;
-    state.inte = 1;
-    state.mark = EI;
-    assert_eq!(steps(&[], &state, 1), 1);
-    assert_eq!(steps(&[], &state, n), n);
+    // INT and INTE both 1, also while the mark keeps the acceptance away.
+    for mark in [LDI, EI, LI] {
+        let mut state = waiting(100);
+        state.int = 1;
+        state.inte = 1;
+        state.mark = mark;
+        assert_eq!(steps(&[], &state, 1), 1);
+        assert_eq!(steps(&[], &state, n), n);
+    }
     // The line differs from the level seen for one cycle, by a rise too.
     let mut state = waiting(100);
     state.level = 0;

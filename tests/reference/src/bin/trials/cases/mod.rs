@@ -5,6 +5,7 @@ mod bench;
 mod codes;
 mod edges;
 mod keys;
+mod loads;
 mod refusals;
 mod roms;
 mod starts;
@@ -33,6 +34,7 @@ pub fn all() -> Vec<Case> {
     cases.extend(refusals::cases());
     cases.extend(roms::cases());
     cases.extend(keys::cases());
+    cases.extend(loads::cases());
     let skipping: Vec<Case> = cases.iter().map(Case::skipping).collect();
     cases.extend(skipping);
     cases

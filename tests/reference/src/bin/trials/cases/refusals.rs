@@ -108,7 +108,7 @@ fn full_schedules() -> Vec<Case> {
 type Change = fn(&mut State);
 
 /// Every field but RAM words, one above its width or more.
-const FIELDS: [(&str, Change); 36] = [
+const FIELDS: [(&str, Change); 37] = [
     ("PC 2048", |s| s.pc = 2_048),
     ("PC 65535", |s| s.pc = 65_535),
     ("stack 0", |s| s.stack[0] = 2_048),
@@ -125,7 +125,8 @@ const FIELDS: [(&str, Change); 36] = [
     ("TM 2", |s| s.tm = 2),
     ("level 2", |s| s.level = 2),
     ("level 255", |s| s.level = 255),
-    ("mark 4", |s| s.mark = 4),
+    ("mark 5", |s| s.mark = 5),
+    ("mark 255", |s| s.mark = 255),
     ("owed 4", |s| s.owed = 4),
     ("owed 255", |s| s.owed = 255),
     ("register 64", |s| s.register = 64),

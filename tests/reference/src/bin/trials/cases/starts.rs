@@ -25,7 +25,7 @@ pub fn cases() -> Vec<Case> {
 /// and without an interrupt to accept. LDI is due.
 fn marks() -> Vec<Case> {
     let mut cases = Vec::new();
-    for mark in 0..=3 {
+    for mark in 0..=4 {
         for owed in 0..=3 {
             for (register, counter, flags) in [(0, 0, 0), (32, 0, 0), (32, 1, 1), (0, 0, 1)] {
                 let name =

@@ -1,5 +1,5 @@
 //! The waiting loop, TTM and a JCP back to it, at its corners: entered with every mark, with an interrupt
-//! that EI holds back, with TTM at the ends of pages and at 7CF. Steps tell where it was jumped.
+//! that a mark holds back, with TTM at the ends of pages and at 7CF. Steps tell where it was jumped.
 
 use reference::case::Case;
 
@@ -12,6 +12,7 @@ const TTM: u8 = 0x05;
 const STM: u8 = 0x14;
 const LDI: u8 = 0x15;
 const EI: u8 = 0x31;
+const LI: u8 = 0x90;
 const JCP: u8 = 0xC0;
 
 pub fn cases() -> Vec<Case> {
@@ -37,7 +38,7 @@ fn program(name: String, before: &[u8]) -> Case {
 /// is set. Intervals of 63 and of 126 cycles.
 fn entered() -> Vec<Case> {
     let mut cases = Vec::new();
-    let befores: [(&str, &[u8]); 8] = [
+    let befores: [(&str, &[u8]); 11] = [
         ("STM", &[]),
         ("NOP", &[NOP]),
         ("EI", &[EI]),
@@ -46,6 +47,9 @@ fn entered() -> Vec<Case> {
         ("two LDI", &[LDI, 0x25, LDI, 0x36]),
         ("EI and LDI", &[EI, LDI, 0x25]),
         ("LDI and EI", &[LDI, 0x25, EI]),
+        ("LI", &[LI | 9]),
+        ("two LI", &[LI | 9, LI | 6]),
+        ("EI and LI", &[EI, LI | 9]),
     ];
     for (name, before) in befores {
         for (operand, set) in [(0x80, SET), (0x81, SET + 63)] {
@@ -63,7 +67,7 @@ fn entered() -> Vec<Case> {
 /// Every mark in the state given, with even and odd ticks left and with one.
 fn given_marks() -> Vec<Case> {
     let mut cases = Vec::new();
-    for mark in 0..=3 {
+    for mark in 0..=4 {
         for (register, counter) in [(1, 0), (2, 0), (1, 1), (32, 0), (16, 0)] {
             for inte in [0, 1] {
                 let name = format!(
@@ -82,8 +86,8 @@ fn given_marks() -> Vec<Case> {
     cases
 }
 
-/// INT and INTE both 1 where TTM is due: with mark EI no jump and no acceptance yet, with the other marks
-/// acceptance.
+/// INT and INTE both 1 where TTM is due: with mark EI, LDI and LI no jump and no acceptance yet, with the
+/// others acceptance.
 fn held_back() -> Vec<Case> {
     let mut cases = Vec::new();
     for n in 3..=9 {
@@ -97,7 +101,7 @@ fn held_back() -> Vec<Case> {
             .ends(0),
         );
     }
-    for mark in 0..=3 {
+    for mark in 0..=4 {
         for n in 1..=4 {
             let name = format!("INT and INTE 1, wait with mark {mark}, {n} cycles");
             cases.push(
@@ -156,7 +160,7 @@ fn ends_of_pages() -> Vec<Case> {
 /// TTM at 7CF has no next address; at 7CE it has.
 fn end_of_the_rom() -> Vec<Case> {
     let mut cases = Vec::new();
-    for mark in 0..=3 {
+    for mark in 0..=4 {
         for n in [1, 2, 9] {
             cases.push(
                 Case::new(format!("TTM at 7CF, mark {mark}, {n} cycles"))

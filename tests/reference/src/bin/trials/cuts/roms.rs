@@ -17,6 +17,7 @@ pub fn panels() -> Vec<Case> {
     panels.extend(any());
     panels.extend(marked_waits());
     panels.push(read_back());
+    panels.extend(load_strings());
     panels
 }
 
@@ -170,7 +171,7 @@ fn any() -> Vec<Case> {
         .collect()
 }
 
-/// Waits that are entered with mark STM, EI and LDI: TTM stands directly after these.
+/// Waits that are entered with mark STM, EI, LDI and LI: TTM stands directly after these.
 fn marked_waits() -> Vec<Case> {
     vec![
         // STM at 0FE, so that TTM is at 000.
@@ -197,6 +198,14 @@ fn marked_waits() -> Vec<Case> {
             .made_schedule(300, 90, 120, 50)
             .n(2_000)
             .ends(0),
+        // The second LI of two is a NOP that keeps the mark. INT falls now and then, and its answer comes behind TTM.
+        Case::new("waits after LI")
+            .rom(0, &[0x31, 0x14, 0x80, 0x96, 0x93, 0x05, 0xC5, 0x44])
+            .rom(8, &[0x14, 0x80, 0x95, 0x05, 0xCB, 0x44, 0xC1])
+            .rom(0x3C, &ANSWER)
+            .made_schedule(600, 91, 60, 2)
+            .n(2_000)
+            .ends(0),
     ]
 }
 
@@ -220,4 +229,41 @@ fn read_back() -> Case {
         .schedule(&keys)
         .n(1_500)
         .ends(0)
+}
+
+/// Tables of loads, of LI from 040 on and of LDI from 060 on, are entered at each of their loads, and what was loaded goes
+/// to E. INT falls at every place of them, and the answer writes Acc too. A mark that is lost at a cut lets a second load
+/// act; an interrupt that is taken in a string does too.
+fn load_strings() -> Vec<Case> {
+    vec![
+        Case::new("strings of LI")
+            // EI. CAL 040, 041, 042 and 043; JCP 001.
+            .rom(
+                0,
+                &[0x31, 0xA8, 0x40, 0xA8, 0x41, 0xA8, 0x42, 0xA8, 0x43, 0xC1],
+            )
+            // LI 1, LI 2, CLA, LI 4, OE, RT.
+            .rom(0x40, &[0x91, 0x92, 0x90, 0x94, 0x44, 0x48])
+            .rom(0x3C, &[0x44, 0x31, 0x48])
+            .schedule(&falls(17, 90))
+            .n(1_500)
+            .ends(0),
+        Case::new("strings of LDI")
+            // EI. CAL 060, 062 and 064; JCP 001.
+            .rom(0, &[0x31, 0xA8, 0x60, 0xA8, 0x62, 0xA8, 0x64, 0xC1])
+            // LDI 21, LDI 35, LDI 49, TLA, OE, LI 7, CLA, EI, OE, RT: EI stands at the end of the second string.
+            .rom(0x60, &[0x15, 0x21, 0x15, 0x35, 0x15, 0x49, 0x12, 0x44])
+            .rom(0x68, &[0x97, 0x90, 0x31, 0x44, 0x48])
+            .rom(0x3C, &[0x44, 0x31, 0x48])
+            .schedule(&falls(23, 65))
+            .n(1_500)
+            .ends(0),
+    ]
+}
+
+/// So many falls of INT, one each so many cycles; it is high again two cycles later.
+fn falls(each: u64, count: u64) -> Vec<(u64, u8, u8, u8)> {
+    (1..=count)
+        .flat_map(|k| [(each * k, 0, 0, 0), (each * k + 2, 0, 0, 1)])
+        .collect()
 }

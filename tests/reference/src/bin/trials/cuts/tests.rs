@@ -164,9 +164,13 @@ fn cuts_fall_everywhere() {
         falls("cycles owed", &|s| s.owed == owed);
     }
     falls("an interrupt to be accepted", &|s| {
-        s.int == 1 && s.inte == 1 && s.owed == 0 && s.mark != 2
+        s.int == 1 && s.inte == 1 && s.owed == 0 && matches!(s.mark, 0 | 3)
     });
-    falls("an interrupt after EI", &|s| s.int == 1 && s.mark == 2);
+    for mark in [1, 2, 4] {
+        falls("an interrupt that a mark holds back", &|s| {
+            s.int == 1 && s.inte == 1 && s.owed == 0 && s.mark == mark
+        });
+    }
     falls("in the answer", &|s| (0x3C..0x43).contains(&s.pc));
     falls("mark LDI with cycles owed", &|s| s.mark == 1 && s.owed > 0);
     falls("mark STM with cycles owed", &|s| s.mark == 3 && s.owed > 0);
@@ -227,7 +231,7 @@ fn jumps(lent: &Lent, state: &State) -> bool {
 
 #[test]
 fn a_timer_skipping_slice_begins_with_a_jump_from_every_mark() {
-    let mut counts = [0; 4];
+    let mut counts = [0; 5];
     for panel in all() {
         let lent = Lent::of(&panel);
         for (state, cut) in states(&panel).iter().zip(panel.cut_lists()) {
@@ -237,6 +241,60 @@ fn a_timer_skipping_slice_begins_with_a_jump_from_every_mark() {
         }
     }
     assert!(counts.iter().all(|&count| count >= 5), "{counts:?}");
+}
+
+/// A panel by its name.
+fn named(name: &str) -> Panel {
+    let panel = all().into_iter().find(|panel| panel.case.name == name);
+    panel.expect("the panel is there")
+}
+
+#[test]
+fn int_falls_at_every_place_of_a_string() {
+    for (name, mark, places) in [
+        ("strings of LI", 4, [0x41, 0x42, 0x43, 0x44].as_slice()),
+        ("strings of LDI", 1, &[0x62, 0x64, 0x66]),
+    ] {
+        let states = states(&named(name));
+        let held: BTreeSet<u16> = states
+            .windows(2)
+            .filter(|two| two[0].int == 0 && two[1].int == 1 && two[1].inte == 1)
+            .filter(|two| two[1].mark == mark)
+            .map(|two| two[1].pc)
+            .collect();
+        assert!(
+            places.iter().all(|place| held.contains(place)),
+            "{name}: {held:X?}"
+        );
+    }
+}
+
+#[test]
+fn a_mark_that_is_lost_shows_in_what_is_loaded() {
+    for (name, mark) in [("strings of LI", 4), ("strings of LDI", 1)] {
+        let panel = named(name);
+        let Lent { rom, schedule } = Lent::of(&panel);
+        let n = panel.case.cycles();
+        let (mut held, mut seen) = (0, 0);
+        for (state, k) in states(&panel).iter().zip(0..=n) {
+            if state.mark == mark {
+                let forgotten = State {
+                    mark: 0,
+                    ..state.clone()
+                };
+                let logs = [state, &forgotten].map(|from| {
+                    let mut log = lent_log(n - k);
+                    run(Runner::Plain, &rom, &schedule, from, &mut log, n - k);
+                    log
+                });
+                held += 1;
+                seen += u64::from(logs[0] != logs[1]);
+            }
+        }
+        // All but those behind a string's last load, and of the run's last.
+        assert!(held > 200, "{name}: {held} cuts");
+        assert!(2 * seen > held, "{name}: {seen} of {held} cuts");
+    }
 }
 
 #[test]

@@ -65,6 +65,7 @@ pub fn states() -> Vec<(&'static str, State)> {
         ("mark LDI", first(&run, 900, |s| s.mark == 1 && s.owed > 0)),
         ("mark EI", first(&run, 500, |s| s.mark == 2 && s.inte == 1)),
         ("mark STM", first(&run, 300, |s| s.mark == 3 && s.owed > 0)),
+        ("mark LI", first(&run, 300, |s| s.mark == 4)),
         ("PC above 7CF", above_the_rom()),
         (
             "timer ended",
@@ -85,7 +86,7 @@ pub fn faulty_states(state: &State) -> Vec<(&'static str, State)> {
         ("last stack word of 12 bits", with(|s| s.stack[2] = 0x800)),
         ("Acc 16", with(|s| s.acc = 16)),
         ("level 2", with(|s| s.level = 2)),
-        ("mark 4", with(|s| s.mark = 4)),
+        ("mark 5", with(|s| s.mark = 5)),
         ("stopped with a counter", with(|s| s.register = 0)),
         ("port I 8", with(|s| s.ports[6] = 8)),
         ("last RAM word 16", with(|s| s.ram[95] = 16)),
@@ -189,9 +190,8 @@ pub fn narrow(more: u8) -> Shape {
     for place in [14, 20, 21, 22, 23, 24, 25] {
         count(place, 16);
     }
-    for place in [16, 17] {
-        count(place, 4);
-    }
+    count(16, 5);
+    count(17, 4);
     for place in [15, 18, 19] {
         count(place, 64);
     }

@@ -86,6 +86,7 @@ fn the_states_are_what_they_are_called() {
     assert_eq!(state("mark LDI").mark, 1);
     assert_eq!(state("mark EI").mark, 2);
     assert_eq!(state("mark STM").mark, 3);
+    assert_eq!(state("mark LI").mark, 4);
     assert!(state("PC above 7CF").pc > 0x7CF);
     let ended = state("timer ended");
     assert_eq!((ended.tm, ended.register, ended.counter), (1, 0, 0));
@@ -119,7 +120,8 @@ fn legal(state: &State, place: usize) -> u32 {
         0 | 2 | 4 | 6 | 11 | 27 => 8,
         8 | 12 | 21..=26 => 16,
         9 | 10 | 13..=16 => 2,
-        17 | 18 => 4,
+        17 => 5,
+        18 => 4,
         19 if state.counter > 0 => 63,
         20 if state.register == 0 => 1,
         19 | 20 => 64,
