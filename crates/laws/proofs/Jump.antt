@@ -161,11 +161,11 @@ module _ (rom sched : List ℕ) (s : State) (w : Waits rom (s .core)) where
 -- EVERY TURN OF IT
 
 -- 2h, counted by turns
-abbrev double : ℕ → ℕ
+abbrev pub double : ℕ → ℕ
 double zero = zero
 double (suc h) = suc (suc (double h))
 
-double-is : (h : ℕ) → double h ≡ 2 * h
+pub double-is : (h : ℕ) → double h ≡ 2 * h
 double-is zero = refl
 double-is (suc h) = omega (arith, double-is h)
 

@@ -17,3 +17,4 @@ pub mod Numbers
 pub mod Demand3
 pub mod Records
 pub mod Reading
+pub mod Strings
