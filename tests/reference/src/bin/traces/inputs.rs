@@ -80,6 +80,7 @@ fn samples() -> Vec<Input> {
         ("call", "end 100 92 0"),
         ("blink", "end 1500 1489 0"),
         ("keys", "end 140 116 0"),
+        ("table", "end 120 81 0"),
         ("short", "refused 21"),
         ("order", "refused 14"),
         ("level", "refused 13"),
