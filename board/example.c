@@ -101,5 +101,7 @@ int main(void)
     damaged("an image that begins with u43", 81, 0, 'u');
     damaged("an image of version 2", 81, 4, 2);
     damaged("an image with an Acc of 16", 81, 14, 16);
+    damaged("an image with mark 4, that of LI", 81, 16, 4);
+    damaged("an image with a mark of 5", 81, 16, 5);
     return 0;
 }
