@@ -171,7 +171,7 @@ fn any() -> Vec<Case> {
         .collect()
 }
 
-/// Waits that are entered with mark STM, EI, LDI and LI: TTM stands directly after these.
+/// Waits that are entered with mark STM, EI and LDI: TTM stands directly after these. `load_strings` has one of LI.
 fn marked_waits() -> Vec<Case> {
     vec![
         // STM at 0FE, so that TTM is at 000.
@@ -196,14 +196,6 @@ fn marked_waits() -> Vec<Case> {
             .rom(8, &[0x14, 0x80, 0x15, 0x31, 0x15, 0x47, 0x05, 0xCE])
             .rom(16, &[0x1D, 0x00, 0x44, 0xC0])
             .made_schedule(300, 90, 120, 50)
-            .n(2_000)
-            .ends(0),
-        // The second LI of two is a NOP that keeps the mark. INT falls now and then, and its answer comes behind TTM.
-        Case::new("waits after LI")
-            .rom(0, &[0x31, 0x14, 0x80, 0x96, 0x93, 0x05, 0xC5, 0x44])
-            .rom(8, &[0x14, 0x80, 0x95, 0x05, 0xCB, 0x44, 0xC1])
-            .rom(0x3C, &ANSWER)
-            .made_schedule(600, 91, 60, 2)
             .n(2_000)
             .ends(0),
     ]
@@ -233,7 +225,7 @@ fn read_back() -> Case {
 
 /// Tables of loads, of LI from 040 on and of LDI from 060 on, are entered at each of their loads, and what was loaded goes
 /// to E. INT falls at every place of them, and the answer writes Acc too. A mark that is lost at a cut lets a second load
-/// act; an interrupt that is taken in a string does too.
+/// act; an interrupt that is taken in a string does too. And a wait directly after LI.
 fn load_strings() -> Vec<Case> {
     vec![
         Case::new("strings of LI")
@@ -257,6 +249,14 @@ fn load_strings() -> Vec<Case> {
             .rom(0x3C, &[0x44, 0x31, 0x48])
             .schedule(&falls(23, 65))
             .n(1_500)
+            .ends(0),
+        // The second LI of two is a NOP that keeps the mark. INT falls now and then, and its answer comes behind TTM.
+        Case::new("waits after LI")
+            .rom(0, &[0x31, 0x14, 0x80, 0x96, 0x93, 0x05, 0xC5, 0x44])
+            .rom(8, &[0x14, 0x80, 0x95, 0x05, 0xCB, 0x44, 0xC1])
+            .rom(0x3C, &ANSWER)
+            .made_schedule(600, 91, 60, 2)
+            .n(2_000)
             .ends(0),
     ]
 }
