@@ -1,7 +1,11 @@
--- Document 01: "One 256-entry table of bytes and base cycles serves decoding and skipping"; "A 63-entry table of register
--- positions gives r"; and the inverse of that one. Assumes nothing: these are definitions.
-use Prim.Native.Nat.{ℕ, suc, _+_, _*_}
+-- Document 01: "One 256-entry table of bytes and base cycles serves decoding and skipping", which R-6 packs: "Keep bytes and base
+-- cycles of two codes in one byte, 128 in all"; "A 63-entry table of register positions gives r"; and the inverse of that one.
+-- Assumes nothing: these are definitions.
+use Prim.Native.Nat.{ℕ, suc, _+_, _*_, _/_, _%_}
+use mathlib.Core.Bool.{cond}
 use mathlib.Core.List.{List}
+use lib.Dec.{ltb}
+use lib.ListN.{getD}
 use Rattle.upd546.specs.Sequences.{entries}
 use Rattle.upd546.specs.Instructions.{instruction}
 use Rattle.upd546.specs.Timer.{period, positionOf, registerAfter}
@@ -11,12 +15,26 @@ use Rattle.tables.specs.declared.Size.{Size}
 unfoldable pub sizeOf : ℕ → Size
 sizeOf code = record { bytes = instruction code .bytes; cycles = instruction code .cycles }
 
--- how an entry packs them
+-- how half a byte packs them
+abbrev pub halfOf : ℕ → ℕ
+halfOf code = 4 * sizeOf code .bytes + sizeOf code .cycles
+
+-- the two codes of an entry stand 128 apart: code i has the low half, code i + 128 the high half
 abbrev pub entryOf : ℕ → ℕ
-entryOf code = 4 * sizeOf code .bytes + sizeOf code .cycles
+entryOf i = halfOf i + 16 * halfOf (i + 128)
 
 unfoldable pub instructionTable : List ℕ
-instructionTable = entries 256 entryOf
+instructionTable = entries 128 entryOf
+
+-- the half of its entry that a code has
+unfoldable pub halfFor : ℕ → ℕ → ℕ
+halfFor code entry = cond (ltb code 128) (entry % 16) (entry / 16)
+
+-- bytes and base cycles of a code, read from its entry in a packed table
+abbrev pub sizeIn : List ℕ → ℕ → Size
+sizeIn table code =
+    let half = halfFor code (getD table (code % 128) 0) in
+    record { bytes = half / 4; cycles = half % 4 }
 
 -- the registers 1 to 63, each at the place of its number less 1
 unfoldable pub positionTable : List ℕ
