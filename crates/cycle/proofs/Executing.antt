@@ -1,24 +1,27 @@
--- What a cycle in which an instruction is due answers: by its stops in their order, and by what it does. Assumes nothing.
+-- What an instruction that is due answers: by its stops in their order, and by what it does. Assumes nothing.
 use mathlib.Core.Path.{_≡_, _∙_, refl, sym, ap}
 use mathlib.Core.Bool.{Bool, true, false, cond}
 use mathlib.Core.List.{List, [], _∷_, _++_}
 use Prim.Native.Nat.{ℕ, zero, suc, _+_, _-_, _*_, _<_, _≤_}
 use native.Mathlib.Omega.{arith}
 use lib.Dec.{ltb}
-use lib.ListN.{length, drop, set}
+use lib.ListN.{length, take, drop, set}
+use borrow.Rule.Slice.PartMut.{midOf, putMid}
 use borrow.Author.Tests.{le-leb, lt-leb, ltb-true}
 use Rattle.runs.specs.Refusals.{firstOf}
 use Rattle.runs.proofs.Refusals.{first-at, first-append, passes}
 use Rattle.upd546.specs.declared.Core.{Core}
 use Rattle.upd546.specs.declared.Lines.{Lines}
 use Rattle.upd546.specs.declared.State.{State}
-use Rattle.upd546.specs.TheMachine.{byteAt, past, withWord}
+use Rattle.upd546.specs.TheMachine.{byteAt, withWord}
 use Rattle.upd546.specs.Parts.{setOwed, setPc}
 use Rattle.upd546.specs.Ports.{Write, latched, logBytes}
 use Rattle.upd546.specs.Instructions as chip
 use Rattle.upd546.specs.Instructions.{Instruction, instruction}
-use Rattle.upd546.specs.OneMachineCycle.{ticked, given, needs, instructionStop, passedOver, begun, execute}
+use Rattle.upd546.specs.OneMachineCycle.{given, needs, instructionStop, passedOver}
+use Rattle.laws.specs.Burst.{owing, unticked}
 use Rattle.laws.specs.Valid.{ValidCore}
+use Rattle.laws.proofs.Tails.{put-front}
 use Rattle.laws.proofs.Instructions.{ValidEffect, keeps}
 use Rattle.laws.specs.Writes.{All, ValidWrite}
 use Rattle.laws.proofs.Cycle.{given-valid, records-length}
@@ -29,7 +32,7 @@ use Rattle.fetch.specs.declared.Fetched.{Fetched}
 use Rattle.fetch.specs.declared.Passed.{Passed}
 use Rattle.fetch.specs.Fetching.{fetchStop, Begins, PassedAs}
 use Rattle.portlog.specs.Appending.{writesOf, Written}
-use Rattle.cycle.specs.Answer.{holds, cycleAnswer, cycleOf, Ready}
+use Rattle.cycle.specs.Answer.{holds, answerOn, startOf, Ready}
 
 -- the instruction that is due at the core c, and its effect
 abbrev pub due : List ℕ → Core → Instruction
@@ -42,39 +45,38 @@ dues rom l s c = due rom c .effect (given rom l s c)
 abbrev pub skipStop : chip.Effect → ℕ
 skipStop e = cond (e .skip) (needs (e .core .flow .pc)) 0
 
-module _ (rom : List ℕ) (l : Lines) (s : State) (c : Core) (log : List ℕ) where
+module _ (rom : List ℕ) (l : Lines) (s : State) (c : Core) (at : ℕ) (log : List ℕ) where
   -- the stops of the fetch, and then that of the skip
   stops-are : instructionStop (due rom c) (given rom l s c) (dues rom l s c) ≡ firstOf (fetchStop rom (c .flow .pc) ∷ skipStop (dues rom l s c) ∷ [])
   unfolding fetchStop instructionStop given
   stops-are = first-append (_ ∷ _ ∷ _ ∷ []) (_ ∷ [])
 
-  pub at-fetch : (k : ℕ) → fetchStop rom (c .flow .pc) ≡ suc k → cycleAnswer (execute rom l s c) s log ≡ holds (suc k) s log
-  unfolding execute cycleAnswer given firstOf
+  pub at-fetch : (k : ℕ) → fetchStop rom (c .flow .pc) ≡ suc k → answerOn at (unticked rom l s c) s log ≡ holds (suc k) s log
+  unfolding unticked answerOn given firstOf
   at-fetch k e = rw (stops-are, e)
 
-  pub at-skip : (k : ℕ) → fetchStop rom (c .flow .pc) ≡ 0 → skipStop (dues rom l s c) ≡ suc k → cycleAnswer (execute rom l s c) s log ≡ holds (suc k) s log
-  unfolding execute cycleAnswer given firstOf
+  pub at-skip : (k : ℕ) → fetchStop rom (c .flow .pc) ≡ 0 → skipStop (dues rom l s c) ≡ suc k → answerOn at (unticked rom l s c) s log ≡ holds (suc k) s log
+  unfolding unticked answerOn given firstOf
   at-skip k e q = rw (stops-are, e, q)
 
   module _ (e : fetchStop rom (c .flow .pc) ≡ 0) (q : skipStop (dues rom l s c) ≡ 0) where
-    pub at-room : length log < 8 * length (dues rom l s c .writes) → cycleAnswer (execute rom l s c) s log ≡ holds 3 s log
-    unfolding execute cycleAnswer begun given firstOf
+    pub at-room : length log - at < 8 * length (dues rom l s c .writes) → answerOn at (unticked rom l s c) s log ≡ holds 3 s log
+    unfolding unticked answerOn given firstOf
     at-room h =
-        let t = lt-leb (length (logBytes (s .cycle .0) (dues rom l s c .writes))) (length log) (rw (records-length (s .cycle .0) (dues rom l s c .writes)) h) in
+        let t = lt-leb (length (logBytes (s .cycle .0) (dues rom l s c .writes))) (length log - at) (rw (records-length (s .cycle .0) (dues rom l s c .writes)) h) in
         rw (stops-are, e, q, t)
 
-    pub at-end : 8 * length (dues rom l s c .writes) ≤ length log → cycleAnswer (execute rom l s c) s log ≡ record {
+    pub at-end : 8 * length (dues rom l s c .writes) ≤ length log - at → answerOn at (unticked rom l s c) s log ≡ record {
       stop = 0;
-      core = ticked (setOwed (due rom c .cycles - 1 + passedOver rom (dues rom l s c)) (setPc (past (passedOver rom (dues rom l s c)) (dues rom l s c .core .flow .pc)) (dues rom l s c .core)));
+      core = owing rom (due rom c) (dues rom l s c);
       ram = withWord (s .ram) (due rom c .address c) (dues rom l s c .word);
       ports = latched (dues rom l s c .writes) (s .ports);
-      log = logBytes (s .cycle .0) (dues rom l s c .writes) ++ drop (length (logBytes (s .cycle .0) (dues rom l s c .writes))) log;
+      log = take at log ++ logBytes (s .cycle .0) (dues rom l s c .writes) ++ drop (at + length (logBytes (s .cycle .0) (dues rom l s c .writes))) log;
       bytes = length (logBytes (s .cycle .0) (dues rom l s c .writes));
-      begun = 1;
     }
-    unfolding execute cycleAnswer begun given firstOf
+    unfolding unticked answerOn given firstOf
     at-end h =
-        let t = le-leb (length (logBytes (s .cycle .0) (dues rom l s c .writes))) (length log) (rw (records-length (s .cycle .0) (dues rom l s c .writes)) h) in
+        let t = le-leb (length (logBytes (s .cycle .0) (dues rom l s c .writes))) (length log - at) (rw (records-length (s .cycle .0) (dues rom l s c .writes)) h) in
         rw (stops-are, e, q, t)
 
 -- what the code is given is what the instruction is given
@@ -104,20 +106,20 @@ module _ (rom : List ℕ) (l : Lines) (s : State) (c : Core) (f : Fetched) (b : 
 -- THE PARTS OF THE CODE, joined
 
 -- a fetch that stops
-pub holds-fetch : (rom : List ℕ) (l : Lines) (s : State) (c : Core) (log : List ℕ) (k : ℕ) → (k ≡ 0 → ⊥) → k ≡ fetchStop rom (c .flow .pc)
-    → holds k s log ≡ cycleAnswer (execute rom l s c) s log
-holds-fetch rom l s c log zero n e = absurd (n refl)
-holds-fetch rom l s c log (suc k) n e = sym (at-fetch rom l s c log k (sym e))
+pub holds-fetch : (rom : List ℕ) (l : Lines) (s : State) (c : Core) (at : ℕ) (log : List ℕ) (k : ℕ) → (k ≡ 0 → ⊥) → k ≡ fetchStop rom (c .flow .pc)
+    → holds k s log ≡ answerOn at (unticked rom l s c) s log
+holds-fetch rom l s c at log zero n e = absurd (n refl)
+holds-fetch rom l s c at log (suc k) n e = sym (at-fetch rom l s c at log k (sym e))
 
 -- the instruction that is due is fetched, and its effect is worked out
-pub record Doing (rom table : List ℕ) (l : Lines) (s : State) (c : Core) (log : List ℕ) (f : Fetched) (e : Effect) : Type 0 where
+pub record Doing (rom table : List ℕ) (l : Lines) (s : State) (c : Core) (at : ℕ) (log : List ℕ) (f : Fetched) (e : Effect) : Type 0 where
   pub ready : Ready rom table l s
   pub core : ValidCore c
   pub goes-on : fetchStop rom (c .flow .pc) ≡ 0
   pub begins : Begins rom (c .flow .pc) f
   pub does : DoesDue rom l s c f begins e
 
-module _ {rom table : List ℕ} {l : Lines} {s : State} {c : Core} {log : List ℕ} {f : Fetched} {e : Effect} (h : Doing rom table l s c log f e) where
+module _ {rom table : List ℕ} {l : Lines} {s : State} {c : Core} {at : ℕ} {log : List ℕ} {f : Fetched} {e : Effect} (h : Doing rom table l s c at log f e) where
   -- what the laws say of the instruction
   due-valid : ValidEffect (dues rom l s c)
   due-valid =
@@ -140,20 +142,20 @@ module _ {rom table : List ℕ} {l : Lines} {s : State} {c : Core} {log : List �
     skip-same = rw (h .does .skip, h .does .core)
 
     -- a skip that stops
-    pub holds-skip : (p .stop ≡ 0 → ⊥) → holds (p .stop) s log ≡ cycleAnswer (execute rom l s c) s log
+    pub holds-skip : (p .stop ≡ 0 → ⊥) → holds (p .stop) s log ≡ answerOn at (unticked rom l s c) s log
     holds-skip = go (p .stop) (q .stop ∙ skip-same)
       where
-        go : (k : ℕ) → k ≡ skipStop (dues rom l s c) → (k ≡ 0 → ⊥) → holds k s log ≡ cycleAnswer (execute rom l s c) s log
+        go : (k : ℕ) → k ≡ skipStop (dues rom l s c) → (k ≡ 0 → ⊥) → holds k s log ≡ answerOn at (unticked rom l s c) s log
         go zero r n = absurd (n refl)
-        go (suc k) r n = sym (at-skip rom l s c log k (h .goes-on) (sym r))
+        go (suc k) r n = sym (at-skip rom l s c at log k (h .goes-on) (sym r))
 
     module _ (t : p .stop ≡ 0) where
       none-skipped : skipStop (dues rom l s c) ≡ 0
       none-skipped = sym skip-same ∙ sym (q .stop) ∙ t
 
       -- a log that lacks the bytes
-      pub holds-room : length log < 8 * length (writesOf (e .port) (e .value)) → holds 3 s log ≡ cycleAnswer (execute rom l s c) s log
-      holds-room r = sym (at-room rom l s c log (h .goes-on) none-skipped (rw (h .does .writes) at r))
+      pub holds-room : length log - at < 8 * length (writesOf (e .port) (e .value)) → holds 3 s log ≡ answerOn at (unticked rom l s c) s log
+      holds-room r = sym (at-room rom l s c at log (h .goes-on) none-skipped (rw (h .does .writes) at r))
 
       over-same : p .over ≡ passedOver rom (dues rom l s c)
       unfolding passedOver
@@ -171,20 +173,20 @@ module _ {rom table : List ℕ} {l : Lines} {s : State} {c : Core} {log : List �
       pub owed-small : f .cycles - 1 + p .over ≤ 3
       owed-small = omega (arith, h .begins .cycles, keeps (byteAt rom (c .flow .pc)) .two-cycles, over-same, over-small)
 
-      pub goes : 8 * length (writesOf (e .port) (e .value)) ≤ length log → {core : Core} {ram ports log′ : List ℕ} {bytes : ℕ}
-          → core ≡ ticked (setOwed (f .cycles - 1 + p .over) (setPc (p .pc) (e .core)))
+      pub goes : 8 * length (writesOf (e .port) (e .value)) ≤ length log - at → {core : Core} {ram ports part : List ℕ} {bytes : ℕ}
+          → core ≡ setOwed (f .cycles - 1 + p .over) (setPc (p .pc) (e .core))
           → ram ≡ set (s .ram) (e .at) (e .word)
-          → Written log (s .ports) (s .cycle .0) (writesOf (e .port) (e .value)) log′ ports bytes
-          → cycleOf (record { core = core; bytes = bytes; begun = 1; stop = 0 }) ram ports log′ ≡ cycleAnswer (execute rom l s c) s log
+          → Written (midOf at (length log - at) log) (s .ports) (s .cycle .0) (writesOf (e .port) (e .value)) part ports bytes
+          → startOf (record { core = core; bytes = bytes; stop = 0 }) ram ports (putMid at (length log - at) log part) ≡ answerOn at (unticked rom l s c) s log
       goes r x y w =
           let d = h .does in
-          let m : ticked (setOwed (f .cycles - 1 + p .over) (setPc (p .pc) (e .core)))
-          ≡ ticked (setOwed (due rom c .cycles - 1 + passedOver rom (dues rom l s c)) (setPc (past (passedOver rom (dues rom l s c)) (dues rom l s c .core .flow .pc)) (dues rom l s c .core)))
+          let m : setOwed (f .cycles - 1 + p .over) (setPc (p .pc) (e .core)) ≡ owing rom (due rom c) (dues rom l s c)
           = rw (h .begins .cycles, q .pc t, over-same, d .core) in
           let core-same = x ∙ m in
           let ram-same = y ∙ d .stored in
-          let log-same = w .appended ∙ ap (λ (ws : List Write). logBytes (s .cycle .0) ws ++ drop (length (logBytes (s .cycle .0) ws)) log) (d .writes) in
+          let log-same = put-front at log (logBytes (s .cycle .0) (writesOf (e .port) (e .value))) (w .appended)
+          ∙ ap (λ (ws : List Write). take at log ++ logBytes (s .cycle .0) ws ++ drop (at + length (logBytes (s .cycle .0) ws)) log) (d .writes) in
           let ports-same = w .latches ∙ ap (λ (ws : List Write). latched ws (s .ports)) (d .writes) in
           let bytes-same = w .count ∙ ap (λ (ws : List Write). length (logBytes (s .cycle .0) ws)) (d .writes) in
-          (λ j. record { stop = 0; core = core-same j; ram = ram-same j; ports = ports-same j; log = log-same j; bytes = bytes-same j; begun = 1 })
-          ∙ sym (at-end rom l s c log (h .goes-on) none-skipped (rw (d .writes) at r))
+          (λ j. record { stop = 0; core = core-same j; ram = ram-same j; ports = ports-same j; log = log-same j; bytes = bytes-same j })
+          ∙ sym (at-end rom l s c at log (h .goes-on) none-skipped (rw (d .writes) at r))

@@ -1,2 +1,1 @@
 pub mod Executing
-pub mod Cycling

@@ -31,7 +31,7 @@ const FIRST_JCP: u8 = 0xC0;
 const PERIOD: u64 = 63;
 
 // Whether the byte at PC is TTM and the next address holds a JCP back to it.
-fn waits(rom: &[u8], pc: u16) -> bool
+pub fn waits(rom: &[u8], pc: u16) -> bool
     requires { ⌜ length (now rom) ≡ romLength ⌝ }
     ensures { λ r. ⌜ r ≡ (atTtm (now (rom .entry)) pc && atJcpBack (now (rom .entry)) pc) ⌝ }
 {
@@ -53,7 +53,7 @@ fn waits(rom: &[u8], pc: u16) -> bool
 }
 
 // The ticks left of a running timer.
-fn ticks_left(positions: &PositionTable, t: Timer) -> u64
+pub fn ticks_left(positions: &PositionTable, t: Timer) -> u64
     requires { ⌜ (now positions ≡ positionTable) × (0 < t .register) × (t .register < 64) ⌝ }
     ensures { λ r. ⌜ r ≡ ticksLeft t ⌝ }
 {
@@ -61,7 +61,7 @@ fn ticks_left(positions: &PositionTable, t: Timer) -> u64
     PERIOD - position + PERIOD * t.counter as u64
 }
 
-fn lesser(a: u64, b: u64) -> u64
+pub fn lesser(a: u64, b: u64) -> u64
     ensures { λ r. ⌜ r ≡ min a b ⌝ }
 {
     if b < a {
@@ -128,7 +128,7 @@ pub fn jump_length(
 }
 
 // The timer with so many ticks left; its counter fits 8 bits.
-fn timer_left(registers: &RegisterTable, tm: u8, ticks: u64) -> Timer
+pub fn timer_left(registers: &RegisterTable, tm: u8, ticks: u64) -> Timer
     requires { ⌜ (now registers ≡ registerTable) × (ticks ≤ period * 256) ⌝ }
     ensures { λ r. ⌜ r ≡ timerLeft tm ticks ⌝ }
 {

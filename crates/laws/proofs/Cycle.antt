@@ -25,6 +25,7 @@ use Rattle.upd546.specs.Instructions.{Given, Effect, Instruction, instruction}
 use Rattle.upd546.specs.OneMachineCycle.{accepts, accepted, taken, paid, ticked, ended, quiet, given, instructionStop, passedOver, begun, onStop, execute, onOwed, onAccepts, cycle}
 use Rattle.upd546.specs.TwoRunners.{panelNumber}
 use Rattle.upd546.proofs.Computed.{every-at}
+use Rattle.laws.specs.Burst.{started, unticked}
 use Rattle.laws.specs.Valid.{Scalars, ValidCore, ValidPorts, ValidRam, Valid, ValidLines}
 use Rattle.laws.proofs.Lists.{below-set, set-entry}
 use Rattle.laws.proofs.Instructions.{ValidGiven, Keeps, keeps, pushed-valid}
@@ -203,26 +204,62 @@ module _ (s : State) (v : Valid s) (h : s .cycle .0 < cycleLimit) where
         go true = keeps (byteAt rom (e .core .flow .pc)) .two-bytes
         go false = omega arith
 
+    -- what an instruction leaves
+    core-after : (i : Instruction) (g : Given) (over : ℕ) → Keeps i → ValidGiven g → over ≤ 2
+        → ValidCore (setOwed (i .cycles - 1 + over) (setPc (past over (i .effect g .core .flow .pc)) (i .effect g .core)))
+    core-after i g over k vg ho =
+        let ve = k .effect g vg .core in
+        record { scalars = omega (arith, ve .scalars, k .two-cycles, past-small over (i .effect g .core .flow .pc) (ve .scalars .pc)); stack = ve .stack }
+
+    ram-after : (i : Instruction) (g : Given) → Keeps i → ValidGiven g → ValidRam (withWord (s .ram) (i .address (g .core)) (i .effect g .word))
+    ram-after i g k vg = record {
+      count = length-set (s .ram) (placeOf (i .address (g .core))) (i .effect g .word) ∙ v .ram .count;
+      below = below-set 16 (s .ram) (placeOf (i .address (g .core))) (i .effect g .word) (k .effect g vg .word) (v .ram .below);
+    }
+
+    ports-after : (i : Instruction) (g : Given) → Keeps i → ValidGiven g → ValidPorts (latched (i .effect g .writes) (s .ports))
+    ports-after i g k vg = latched-valid (i .effect g .writes) (s .ports) (k .effect g vg .writes) (v .ports)
+
     -- an instruction that is begun; a base cycle at least, for each record
     begun-fine : (i : Instruction) (g : Given) (over : ℕ) → Keeps i → ValidGiven g → over ≤ 2 → 0 < i .cycles → s .core .owed ≡ 0 → Fine s (begun i g (i .effect g) over s)
     unfolding begun
     begun-fine i g over k vg ho hc z =
         let e = i .effect g in
-        let ve = k .effect g vg in
         let core = setOwed (i .cycles - 1 + over) (setPc (past over (e .core .flow .pc)) (e .core)) in
-        let pc = past-small over (e .core .flow .pc) (ve .core .scalars .pc) in
-        let vcore : ValidCore core = record { scalars = omega (arith, ve .core .scalars, k .two-cycles, pc); stack = ve .core .stack } in
         record {
           valid =
-              ended-valid core (withWord (s .ram) (i .address (g .core)) (e .word)) (latched (e .writes) (s .ports)) vcore
-              (record {
-                count = length-set (s .ram) (placeOf (i .address (g .core))) (e .word) ∙ v .ram .count;
-                below = below-set 16 (s .ram) (placeOf (i .address (g .core))) (e .word) (ve .word) (v .ram .below);
-              })
-              (latched-valid (e .writes) (s .ports) (ve .writes) (v .ports));
+              ended-valid core (withWord (s .ram) (i .address (g .core)) (e .word)) (latched (e .writes) (s .ports)) (core-after i g over k vg ho)
+              (ram-after i g k vg) (ports-after i g k vg);
           rises = omega arith;
           records = rw (records-length (s .cycle .0) (e .writes), ticked-owed core, z) (room (i .cycles) (length (e .writes)) over hc (k .two-cycles) (k .records g vg));
         }
+
+    -- and before the timer steps
+    abbrev Whole : Out State → Type 0
+    Whole (stop k) = Unit {0}
+    Whole (went u x e) = Valid u
+
+    unticked-whole : Whole (unticked rom l s c)
+    unfolding unticked
+    unticked-whole = go (instructionStop i g (i .effect g))
+      where
+        g : Given
+        g = given rom l s c
+
+        i : Instruction
+        i = instruction (g .code)
+
+        go : (k : ℕ) → Whole (onStop k (started rom i g (i .effect g) s))
+        go zero = record {
+          core = core-after i g (passedOver rom (i .effect g)) (keeps (g .code)) given-valid (over-small (i .effect g));
+          ports = ports-after i g (keeps (g .code)) given-valid;
+          ram = ram-after i g (keeps (g .code)) given-valid;
+          cycle = omega arith;
+        }
+        go (suc k) = tt
+
+    pub unticked-valid : (u : State) (x : List ℕ) (e : ℕ) → unticked rom l s c ≡ went u x e → Valid u
+    unticked-valid u x e q = subst Whole q unticked-whole
 
     -- a stop before any of it, or the instruction
     on-stop : (i : Instruction) (g : Given) (over : ℕ) → Keeps i → ValidGiven g → over ≤ 2 → s .core .owed ≡ 0 → (k : ℕ) → instructionStop i g (i .effect g) ≡ k

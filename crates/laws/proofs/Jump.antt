@@ -48,7 +48,7 @@ no-accept true true false d e = refl
 no-accept true true true d e = cc
 
 -- the lines are taken, and INT doesn't fall
-taken-same : (l : Lines) (c : Core) → l .int ≡ c .interrupt .level → taken l c ≡ c
+pub taken-same : (l : Lines) (c : Core) → l .int ≡ c .interrupt .level → taken l c ≡ c
 unfolding taken
 taken-same l c e = rw (e, le-ltb (c .interrupt .level) (c .interrupt .level) (omega arith))
 
@@ -76,7 +76,7 @@ inLoop s pc t n = record {
 }
 
 module _ (rom sched : List ℕ) (s : State) where
-  cycle-executes : s .core .owed ≡ 0 → (eqb (s .core .interrupt .int) 1 && eqb (s .core .interrupt .inte) 1) ≡ false
+  pub cycle-executes : s .core .owed ≡ 0 → (eqb (s .core .interrupt .int) 1 && eqb (s .core .interrupt .inte) 1) ≡ false
       → linesAt sched (s .cycle .0) .int ≡ s .core .interrupt .level
       → cycle rom sched s ≡ execute rom (linesAt sched (s .cycle .0)) s (s .core)
   unfolding cycle accepts
@@ -130,7 +130,7 @@ quietly j s = record { state = s; bytes = []; cycles = j; begun = j; number = no
 two-more : (j : ℕ) (s : State) → begins [] 1 (begins [] 1 (quietly j s)) ≡ quietly (suc (suc j)) s
 two-more j s = let e : 1 + (1 + j) ≡ suc (suc j) = omega arith in rw e
 
-left-tm : (tm k : ℕ) → timerLeft tm (suc k) .tm ≡ tm
+pub left-tm : (tm k : ℕ) → timerLeft tm (suc k) .tm ≡ tm
 unfolding timerLeft
 left-tm tm k = refl
 

@@ -1,42 +1,41 @@
--- Where the loop of a run stands, and where a cycle takes it. Assumes nothing.
+-- Where the loop of a run stands, and where a turn takes it. Assumes nothing.
 use mathlib.Core.Path.{_≡_, _∙_, refl, sym, ap, ap₂, subst}
-use mathlib.Core.Bool.{Bool, true, false, cond}
+use mathlib.Core.Bool.{Bool, true, false}
 use mathlib.Core.List.{List, [], _++_, append-assoc, append-nil}
 use mathlib.Core.Option.{Option, none, some}
 use Prim.Native.Nat.{ℕ, zero, suc, _+_, _-_, _*_, _<_, _≤_}
 use native.Mathlib.Nat.{sub-zero}
 use native.Mathlib.Omega.{arith}
-use lib.Dec.{leb}
 use lib.ListN.{length, take, drop, length-append, length-drop, take-append-drop}
 use lib.Seq.{drop-drop, take-at, drop-at}
-use borrow.Author.Tests.{leb-true, leb-false}
 use borrow.Rule.Slice.PartMut.{midOf, putMid}
-use Rattle.runs.specs.Machine.{Out, stop, went}
-use Rattle.runs.specs.TwoRunners.{still, endWith, strideOf, runNumber, within, told, plain, skipping}
+use Rattle.runs.specs.Machine.{stop, went}
+use Rattle.runs.specs.TwoRunners.{endWith, strideOf, runNumber, within, told, plain, skipping}
 use Rattle.runs.specs.Refusals.{cycleLimit}
 use Rattle.runs.specs.TwoRunners.{Stepped}
 use Rattle.runs.specs.Laws.{Bytes, Panel}
-use Rattle.runs.proofs.Loop.{sofar, one-stops, one-fills, one-goes, onwards, spanOf, Halfway, loop-starts, loop-ends, loop-stops, loop-goes}
+use Rattle.runs.specs.OneByOne.{OneByOne, none as no-cycle, also}
+use Rattle.runs.proofs.Loop.{sofar, onwards, spanOf, Halfway, loop-starts, loop-ends, loop-stops, loop-goes, loop-goes-singly}
 use Rattle.upd546.specs.declared.Core.{Core}
-use Rattle.upd546.specs.declared.Lines.{Lines}
 use Rattle.upd546.specs.declared.State.{State}
 use Rattle.upd546.specs.TheLineSchedule.{scheduleNumber}
-use Rattle.upd546.specs.OneMachineCycle.{accepts, onAccepts, cycle}
+use Rattle.upd546.specs.OneMachineCycle.{cycle}
 use Rattle.upd546.specs.TwoRunners.{jumpLength, upd546}
 use Rattle.laws.specs.Jump.{coreAfterJump, stateAfterJump}
 use Rattle.tables.specs.Tables.{instructionTable, positionTable, registerTable}
-use Rattle.laws.specs.Valid.{Valid, ValidLines}
+use Rattle.laws.specs.Valid.{Valid}
 use Rattle.laws.proofs.Sound.{accepted-valid}
-use Rattle.laws.proofs.Lines.{lines-valid}
-use Rattle.laws.proofs.Cycle.{Cycled, cycle-keeps}
-use Rattle.laws.proofs.Stops.{stop-number, begins-one}
+use Rattle.laws.proofs.Cycle.{cycle-keeps}
+use Rattle.laws.proofs.Stops.{begins-one}
 use Rattle.laws.specs.Stops.{StopNumber}
 use Rattle.laws.proofs.Jump.{jump-within, jump-runs, jump-ticks, jump-in-room, jump-keeps}
 use Rattle.schedule.specs.declared.Cursor.{Cursor}
 use Rattle.schedule.specs.Cursor.{Stands}
+use Rattle.schedule.proofs.Standing.{next-record, next-some, stays}
 use Rattle.laws.proofs.Tails.{mid-tail, put-tail}
-use Rattle.cycle.specs.declared.CycleResult.{CycleResult}
-use Rattle.cycle.specs.Answer.{CycleAnswer, stateOf, cycleOf, cycleAnswer, Ready}
+use Rattle.cycle.specs.Answer.{stateOf}
+use Rattle.burst.specs.declared.Stretch.{Stretch}
+use Rattle.burst.specs.Turn.{Turn, Turned}
 use Rattle.jump.specs.Boundary.{Boundary, Jumpable}
 use Rattle.jump.proofs.Lengths.{stands-last}
 use Rattle.turns.specs.Either.{runBy, jumpBy}
@@ -92,6 +91,25 @@ starts skips rom sched log n s cursor e br bs k = record {
   log-is = refl;
   half = rw (sub-zero n) (loop-starts upd546 rom sched skips (length log) n s);
 }
+
+differ : false ≡ true → ⊥
+differ e = let z : _≡_ {A = ℕ} 0 1 = cc in omega arith
+
+-- CYCLES ONE BY ONE keep what a cycle keeps
+record Kept (s t : State) (d b m : ℕ) : Type 0 where
+  valid : Valid t
+  rises : t .cycle .0 ≡ s .cycle .0 + d
+  few : b ≤ d
+  within-run : d ≤ m
+
+singly-keeps : (rom sched : List ℕ) (skips : Bool) (room m : ℕ) (s : State) → Panel upd546 rom sched → Valid s → s .cycle .0 + m ≤ cycleLimit
+    → (t : State) (w : List ℕ) (d b : ℕ) → OneByOne upd546 rom sched skips room m s t w d b → Kept s t d b m
+singly-keeps rom sched skips room m s p v h _ _ _ _ no-cycle = record { valid = v; rises = omega arith; few = omega arith; within-run = omega arith }
+singly-keeps rom sched skips room m s p v h _ _ _ _ (also {t} {u} {y} {d} {a} x e o q f l z) =
+    let k = singly-keeps rom sched skips room m s p v h t y d a o in
+    let c = cycle-keeps rom sched t u x e (p .rom-bytes) (p .sched-bytes) (p .not-refused) (k .valid) (omega (arith, k .rises)) q in
+    let one = begins-one rom sched t u x e q in
+    record { valid = c .valid; rises = omega (arith, c .rises, k .rises); few = omega (arith, k .few, one); within-run = omega arith }
 
 -- counts after a jump of j cycles
 steps-after : (done spared j : ℕ) → spared ≤ done → (j ≡ 0 → ⊥) → done - spared + 1 ≡ done + j - (spared + (j - 1))
@@ -165,21 +183,38 @@ module _ {skips : Bool} {rom sched log₀ : List ℕ} {n : ℕ} {s : State} {log
   lent-back = put-tail at log _ ∙ ap (λ (z : List ℕ). take at log ++ z) (mid-tail at log) ∙ take-append-drop at log
 
   module _ (more : done < n) where
-    cycle-lines : onAccepts (accepts (t .core)) rom (cursor .lines) t ≡ cycle rom sched t
-    unfolding cycle
-    cycle-lines = ap (λ (l : Lines). onAccepts (accepts (t .core)) rom l t) (h .stands .lines)
-
     below : t .cycle .0 < cycleLimit
     below = omega (arith, h .rises, limit)
 
-    pub ready : (table : List ℕ) → table ≡ instructionTable → Ready rom table (cursor .lines) t
-    ready table e = record {
+    -- the next record is ahead
+    record-ahead : t .cycle .0 < cursor .next
+    record-ahead =
+        let k = h .stands in
+        let u : cursor .next ≤ t .cycle .0 → ⊥ = λ q.
+        let i = next-some sched (cursor .index) (omega (arith, k .next, below)) in
+        omega (arith, k .counted .ahead i, next-record sched (cursor .index) i, k .next) in
+        omega arith
+
+    panel : Panel upd546 rom sched
+    panel = record { rom-bytes = h .rom-bytes; sched-bytes = h .sched-bytes; not-refused = taken .panel }
+
+    no-jump-here : (b : Bool) → 0 ≡ jumpBy b rom sched t (n - done) → b ≡ true → jumpLength rom sched t (n - done) ≡ 0
+    no-jump-here false e q = absurd (differ q)
+    no-jump-here true e q = sym e
+
+    pub turn-asks : (table positions : List ℕ) → table ≡ instructionTable → positions ≡ positionTable → 0 ≡ jumpBy skips rom sched t (n - done)
+        → Turn skips rom sched table positions (cursor .lines) (cursor .next) (n - done) t
+    turn-asks table positions e f z = record {
+      panel = panel;
       rom-length = taken .rom-length;
-      rom-bytes = h .rom-bytes;
-      sizes = e;
-      lines = subst ValidLines (sym (h .stands .lines)) (lines-valid rom sched (t .cycle .0) (h .sched-bytes) (taken .panel));
+      instructions = e;
+      position-table = f;
+      lines = λ i p q. sym (stays sched (taken .schedule) (t .cycle .0) i cursor (h .stands) p q .lines);
+      ahead = record-ahead;
       valid = h .valid;
-      below = below;
+      some-left = omega arith;
+      limit = omega (arith, h .rises, limit);
+      no-jump = no-jump-here skips z;
     }
 
     one-more : n - done ≡ suc (n - (done + 1))
@@ -205,11 +240,11 @@ module _ {skips : Bool} {rom sched log₀ : List ℕ} {n : ℕ} {s : State} {log
     pub ahead : j ≡ jumpBy skips rom sched t (n - done)
     pub some-ahead : j ≡ 0 → ⊥
 
-  -- THE NEXT STEP is one cycle, which answers r and leaves RAM, latches and the part of the log that it was lent
-  pub record OneCycle (r : CycleResult) (ram ports part : List ℕ) : Type 0 where
+  -- THE NEXT STEPS are a turn, which answers r and leaves RAM, latches and the part of the log that it was lent
+  pub record Turns (r : Stretch) (ram ports part : List ℕ) : Type 0 where
     pub more : done < n
     pub none-ahead : 0 ≡ jumpBy skips rom sched t (n - done)
-    pub answers : cycleOf r ram ports part ≡ cycleAnswer (onAccepts (accepts (t .core)) rom (cursor .lines) t) t (midOf at (length log - at) log)
+    pub answers : Turned skips rom sched (cursor .next) (n - done) t (midOf at (length log - at) log) r ram ports part
 
 module _ {skips : Bool} {rom sched log₀ : List ℕ} {n : ℕ} {s : State} {log : List ℕ} {t : State} {cursor : Cursor} {at done begun spared : ℕ}
     {h : At skips rom sched log₀ n s log t cursor at done begun spared} {j : ℕ} (k : Jumps h j) where
@@ -286,158 +321,87 @@ module _ {skips : Bool} {rom sched log₀ : List ℕ} {n : ℕ} {s : State} {log
       (record { some-cycles = some-one j (k .some-ahead); within-run = within-run; stands = stands-before; on = λ next stands. jumps-on next stands refl })
 
 module _ {skips : Bool} {rom sched log₀ : List ℕ} {n : ℕ} {s : State} {log : List ℕ} {t : State} {cursor : Cursor} {at done begun spared : ℕ}
-    {h : At skips rom sched log₀ n s log t cursor at done begun spared} {r : CycleResult} {ram ports part : List ℕ} (k : OneCycle h r ram ports part) where
+    {h : At skips rom sched log₀ n s log t cursor at done begun spared} {r : Stretch} {ram ports part : List ℕ} (k : Turns h r ram ports part) where
   one-cycle-span : (b : Bool) → 0 ≡ jumpBy b rom sched t (n - done) → spanOf upd546 rom sched b t (suc (n - (done + 1))) ≡ 1
   one-cycle-span false e = refl
   one-cycle-span true e = ap strideOf (sym (rw (one-more h (k .more)) at e))
 
-  pub span-one : spanOf upd546 rom sched skips t (suc (n - (done + 1))) ≡ 1
-  span-one = one-cycle-span skips (k .none-ahead)
+  -- what is known of a turn that is begun not at all
+  module _ (g : r .stop ≡ 0 → ⊥) where
+    stop-is : whole skips rom sched log₀ n s ≡ record { ran = sofar t (h .w) done begun (some (r .stop)); steps = done - spared }
+    stop-is =
+        loop-stops upd546 rom sched skips _ (length log₀) t (h .w) done begun (done - spared) (n - (done + 1)) (on h (k .more)) (r .stop)
+        (ap₂ (λ (room j : ℕ). within upd546 rom sched room j t) (sym (lent-length h)) (one-cycle-span skips (k .none-ahead)) ∙ k .answers .held g .stops)
 
-  answer-is : cycleOf r ram ports part ≡ cycleAnswer (cycle rom sched t) t (midOf at (length log - at) log)
-  answer-is = k .answers ∙ ap (λ (o : Out State). cycleAnswer o t (midOf at (length log - at) log)) (cycle-lines h (k .more))
+    -- the answer of a run that stops here
+    pub stops : {state : State} → state ≡ stateOf (t .core) ram ports (t .cycle .0)
+        → record {
+          end = endWith (some (r .stop));
+          state = state;
+          cycles = done;
+          clocks = 4 * done;
+          begun = begun;
+          written = at;
+          steps = done - spared;
+          log = putMid at (length log - at) log part;
+        }
+        ≡ runBy skips rom sched s log₀ n
+    stops q =
+        let o = k .answers .held g in
+        let same = q ∙ ap₂ (λ (x y : List ℕ). stateOf (t .core) x y (t .cycle .0)) (o .ram-is) (o .ports-is) in
+        rw (same, o .log-is, lent-back h) (tells h (some (r .stop)) stop-is)
 
-  stopped-at : ℕ → Stepped State
-  stopped-at i = record { ran = sofar t (h .w) done begun (some i); steps = done - spared }
+    -- the log is as long as it was
+    pub stop-length : length (putMid at (length log - at) log part) ≡ length log₀
+    stop-length = ap (λ (l : List ℕ). length (putMid at (length log - at) log l)) (k .answers .held g .log-is) ∙ ap length (lent-back h) ∙ h .size
 
-  stopped : (i : ℕ) → within upd546 rom sched (length log₀ - length (h .w)) 1 t ≡ still t (some i) → whole skips rom sched log₀ n s ≡ stopped-at i
-  unfolding stopped-at
-  stopped i q =
-      loop-stops upd546 rom sched skips _ (length log₀) t (h .w) done begun (done - spared) (n - (done + 1)) (on h (k .more)) i
-      (ap (λ (j : ℕ). within upd546 rom sched (length log₀ - length (h .w)) j t) span-one ∙ q)
-
-  -- a cycle that isn't begun
-  pub record Held : Type 0 where
-    pub whole-is : whole skips rom sched log₀ n s ≡ record { ran = sofar t (h .w) done begun (some (r .stop)); steps = done - spared }
-    pub number-is : (r .stop ≡ 3 → ⊥) → StopNumber (r .stop)
-    pub ram-is : ram ≡ t .ram
-    pub ports-is : ports ≡ t .ports
-    pub part-is : part ≡ midOf at (length log - at) log
-
-  held : (r .stop ≡ 0 → ⊥) → Held
-  unfolding cycleAnswer stopped-at
-  held g = go (cycle rom sched t) refl answer-is
-    where
-      go : (o : Out State) → cycle rom sched t ≡ o → cycleOf r ram ports part ≡ cycleAnswer o t (midOf at (length log - at) log) → Held
-      go (stop i) q z =
-          let same : r .stop ≡ i = ap (λ (x : CycleAnswer). x .stop) z in
-          record {
-            whole-is = stopped i (one-stops upd546 rom sched (length log₀ - length (h .w)) t i q) ∙ ap stopped-at (sym same);
-            number-is = λ d. subst StopNumber (sym same) (stop-number rom sched t i q);
-            ram-is = ap (λ (x : CycleAnswer). x .ram) z;
-            ports-is = ap (λ (x : CycleAnswer). x .ports) z;
-            part-is = ap (λ (x : CycleAnswer). x .log) z;
-          }
-      go (went t′ x b) q z = fit (leb (length x) (length (midOf at (length log - at) log))) refl z
-        where
-          fit : (v : Bool) → leb (length x) (length (midOf at (length log - at) log)) ≡ v
-              → cycleOf r ram ports part ≡ cond v
-              (record { stop = 0; core = t′ .core; ram = t′ .ram; ports = t′ .ports; log = x ++ drop (length x) (midOf at (length log - at) log); bytes = length x; begun = b })
-              (record { stop = 3; core = t .core; ram = t .ram; ports = t .ports; log = midOf at (length log - at) log; bytes = 0; begun = 0 })
-              → Held
-          fit true y z = absurd (g (ap (λ (x : CycleAnswer). x .stop) z))
-          fit false y z =
-              let same : r .stop ≡ 3 = ap (λ (x : CycleAnswer). x .stop) z in
-              let full = leb-false (length x) (length (midOf at (length log - at) log)) y in
-              record {
-                whole-is = stopped 3 (one-fills upd546 rom sched (length log₀ - length (h .w)) t t′ x b q (omega (arith, full, lent-length h))) ∙ ap stopped-at (sym same);
-                number-is = λ d. absurd (d same);
-                ram-is = ap (λ (x : CycleAnswer). x .ram) z;
-                ports-is = ap (λ (x : CycleAnswer). x .ports) z;
-                part-is = ap (λ (x : CycleAnswer). x .log) z;
-              }
-
-  -- the answer of a run that stops here
-  pub stops : (g : r .stop ≡ 0 → ⊥) → {state : State} → state ≡ stateOf (t .core) ram ports (t .cycle .0)
-      → record {
-        end = endWith (some (r .stop));
-        state = state;
-        cycles = done;
-        clocks = 4 * done;
-        begun = begun;
-        written = at;
-        steps = done - spared;
-        log = putMid at (length log - at) log part;
-      }
-      ≡ runBy skips rom sched s log₀ n
-  stops g q =
-      let o = held g in
-      let same = q ∙ ap₂ (λ (x y : List ℕ). stateOf (t .core) x y (t .cycle .0)) (o .ram-is) (o .ports-is) in
-      rw (same, o .part-is, lent-back h) (tells h (some (r .stop)) (o .whole-is))
-
-  -- the log is as long as it was
-  pub stop-length : (r .stop ≡ 0 → ⊥) → length (putMid at (length log - at) log part) ≡ length log₀
-  stop-length g = ap (λ (l : List ℕ). length (putMid at (length log - at) log l)) (held g .part-is) ∙ ap length (lent-back h) ∙ h .size
-
-  pub stop-known : (r .stop ≡ 0 → ⊥) → (r .stop ≡ 3 → ⊥) → StopNumber (r .stop)
-  stop-known g = held g .number-is
-
-  -- a cycle that is begun
-  pub record Gone : Type 0 where
-    pub to : State
-    pub x : List ℕ
-    pub cycle-is : cycle rom sched t ≡ went to x (r .begun)
-    pub fits : length x ≤ length log₀ - length (h .w)
-    pub state-is : stateOf (r .core) ram ports (to .cycle .0) ≡ to
-    pub part-is : part ≡ x ++ drop (length x) (midOf at (length log - at) log)
-    pub bytes-is : r .bytes ≡ length x
-
-  gone : r .stop ≡ 0 → Gone
-  unfolding cycleAnswer
-  gone g = go (cycle rom sched t) refl answer-is
-    where
-      go : (o : Out State) → cycle rom sched t ≡ o → cycleOf r ram ports part ≡ cycleAnswer o t (midOf at (length log - at) log) → Gone
-      go (stop i) q z = absurd (stop-number rom sched t i q .some (sym (ap (λ (x : CycleAnswer). x .stop) z) ∙ g))
-      go (went t′ x b) q z = fit (leb (length x) (length (midOf at (length log - at) log))) refl z
-        where
-          fit : (v : Bool) → leb (length x) (length (midOf at (length log - at) log)) ≡ v
-              → cycleOf r ram ports part ≡ cond v
-              (record { stop = 0; core = t′ .core; ram = t′ .ram; ports = t′ .ports; log = x ++ drop (length x) (midOf at (length log - at) log); bytes = length x; begun = b })
-              (record { stop = 3; core = t .core; ram = t .ram; ports = t .ports; log = midOf at (length log - at) log; bytes = 0; begun = 0 })
-              → Gone
-          fit false y z = let three : _≡_ {A = ℕ} 0 3 = sym g ∙ ap (λ (x : CycleAnswer). x .stop) z in absurd (omega arith)
-          fit true y z =
-              let room = leb-true (length x) (length (midOf at (length log - at) log)) y in
-              record {
-                to = t′;
-                x = x;
-                cycle-is = q ∙ ap (went t′ x) (sym (ap (λ (x : CycleAnswer). x .begun) z));
-                fits = omega (arith, room, lent-length h);
-                state-is = λ j. stateOf (z j .core) (z j .ram) (z j .ports) (t′ .cycle .0);
-                part-is = ap (λ (x : CycleAnswer). x .log) z;
-                bytes-is = ap (λ (x : CycleAnswer). x .bytes) z;
-              }
+    pub stop-known : (r .stop ≡ 3 → ⊥) → StopNumber (r .stop)
+    stop-known = k .answers .held g .known
 
   module _ (g : r .stop ≡ 0) where
-    cycled : Cycled t (gone g .to) (gone g .x)
-    cycled = cycle-keeps rom sched t (gone g .to) (gone g .x) (r .begun) (h .rom-bytes) (h .sched-bytes) (taken h .panel) (h .valid) (below h (k .more)) (gone g .cycle-is)
+    -- the cycles of the turn, and what they append
+    x : List ℕ
+    x = k .answers .went g .w
 
-    one : r .begun ≤ 1
-    one = begins-one rom sched t (gone g .to) (gone g .x) (r .begun) (gone g .cycle-is)
+    steps : OneByOne upd546 rom sched skips (length log₀ - length (h .w)) (n - done) t (stateOf (r .core) ram ports (t .cycle .0 + r .cycles)) x (r .cycles) (r .begun)
+    unfolding x
+    steps = rw (lent-length h) at (k .answers .went g .steps)
 
-    -- one instruction is begun at most, and no more than the log holds is written
-    pub counts : (r .begun ≤ 1) × (at + r .bytes ≤ length log₀)
-    counts = (one, omega (arith, gone g .bytes-is, gone g .fits, h .place, h .room))
+    kept : Kept t (stateOf (r .core) ram ports (t .cycle .0 + r .cycles)) (r .cycles) (r .begun) (n - done)
+    kept =
+        singly-keeps rom sched skips (length log₀ - length (h .w)) (n - done) t (panel h (k .more)) (h .valid) (omega (arith, h .rises, limit h, h .not-past))
+        (stateOf (r .core) ram ports (t .cycle .0 + r .cycles)) x (r .cycles) (r .begun) steps
 
-    pub goes-on : (next : Cursor) → Stands sched (t .cycle .0 + 1) next → {t′ : State} → t′ ≡ stateOf (r .core) ram ports (s .cycle .0 + (done + 1))
-        → At skips rom sched log₀ n s (putMid at (length log - at) log part) t′ next (at + r .bytes) (done + 1) (begun + r .begun) spared
+    fits-room : length x ≤ length log₀ - length (h .w)
+    fits-room = room-kept steps
+      where
+        room-kept : {t′ : State} {w : List ℕ} {d b : ℕ} → OneByOne upd546 rom sched skips (length log₀ - length (h .w)) (n - done) t t′ w d b → length w ≤ length log₀ - length (h .w)
+        room-kept no-cycle = omega arith
+        room-kept (also x e o q f l z) = f
+
+    -- no more is begun than there are cycles, and no more is written than the log holds
+    pub counts : (r .begun ≤ n - done) × (at + r .bytes ≤ length log₀)
+    unfolding x
+    counts = (omega (arith, kept .few, kept .within-run), omega (arith, k .answers .went g .bytes-is, fits-room, h .place, h .room))
+
+    pub goes-on : (next : Cursor) → Stands sched (t .cycle .0 + r .cycles) next → {t′ : State} → t′ ≡ stateOf (r .core) ram ports (s .cycle .0 + (done + r .cycles))
+        → At skips rom sched log₀ n s (putMid at (length log - at) log part) t′ next (at + r .bytes) (done + r .cycles) (begun + r .begun) spared
+    unfolding x
     goes-on next stands q =
-        let o = gone g in
-        let x = o .x in
-        let up : o .to .cycle .0 ≡ s .cycle .0 + (done + 1) = omega (arith, cycled .rises, h .rises) in
-        let to-is = q ∙ ap (λ (c : ℕ). stateOf (r .core) ram ports c) (sym up) ∙ o .state-is in
+        let o = k .answers .went g in
+        let up : t .cycle .0 + r .cycles ≡ s .cycle .0 + (done + r .cycles) = omega (arith, h .rises) in
+        let to-is = q ∙ ap (λ (c : ℕ). stateOf (r .core) ram ports c) (sym up) in
         let front : take at log ≡ h .w = ap (take at) (h .log-is) ∙ take-at (h .w) _ at (sym (h .place)) in
         let long : length (h .w) + length x ≡ length (h .w ++ x) = sym (length-append (h .w) x) in
         let log-now : putMid at (length log - at) log part ≡ (h .w ++ x) ++ drop (length (h .w ++ x)) log₀ =
         put-tail at log part
-        ∙ ap₂ _++_ front (o .part-is ∙ ap (λ (z : List ℕ). x ++ drop (length x) z) (lent-is h))
+        ∙ ap₂ _++_ front (o .log-is ∙ ap (λ (z : List ℕ). x ++ drop (length x) z) (lent-is h))
         ∙ ap (λ (z : List ℕ). h .w ++ (x ++ z)) (drop-drop (length x) (length (h .w)) log₀ ∙ ap (λ (i : ℕ). drop i log₀) long)
         ∙ sym (append-assoc (h .w) x (drop (length (h .w ++ x)) log₀)) in
-        let fits : length (h .w ++ x) ≤ length log₀ = omega (arith, long, o .fits, h .room) in
-        let steps : done - spared + 1 ≡ done + 1 - spared = omega (arith, h .less) in
-        let left : suc (n - (done + 1)) - 1 ≡ n - (done + 1) = omega arith in
-        let half = loop-goes upd546 rom sched skips _ (length log₀) t (h .w) done begun (done - spared) (n - (done + 1)) (on h (k .more)) (o .to) x (r .begun) 1
-        (sym span-one) (omega arith) (one-goes upd546 rom sched (length log₀ - length (h .w)) t (o .to) x (r .begun) (o .cycle-is) (o .fits)) in
+        let fits : length (h .w ++ x) ≤ length log₀ = omega (arith, long, fits-room, h .room) in
+        let counted : done - spared + r .cycles ≡ done + r .cycles - spared = omega (arith, h .less) in
+        let left : n - done - r .cycles ≡ n - (done + r .cycles) = omega arith in
+        let half = loop-goes-singly upd546 rom sched skips _ (length log₀) t (h .w) done begun (done - spared) (n - done) (h .half) steps in
         rw to-is
         (record {
           w = h .w ++ x;
@@ -445,27 +409,28 @@ module _ {skips : Bool} {rom sched log₀ : List ℕ} {n : ℕ} {s : State} {log
           rom-bytes = h .rom-bytes;
           sched-bytes = h .sched-bytes;
           rises = up;
-          valid = cycled .valid;
-          stands = subst (λ (c : ℕ). Stands sched c next) (omega (arith, cycled .rises)) stands;
-          not-past = omega (arith, k .more);
-          few = omega (arith, h .few, one);
+          valid = kept .valid;
+          stands = stands;
+          not-past = omega (arith, kept .within-run, h .not-past);
+          few = omega (arith, h .few, kept .few);
           place = ap₂ _+_ (h .place) (o .bytes-is) ∙ long;
           room = fits;
           size = ap length log-now ∙ length-append (h .w ++ x) (drop (length (h .w ++ x)) log₀) ∙ omega (arith, length-drop (length (h .w ++ x)) log₀, fits);
           log-is = log-now;
           less = omega (arith, h .less);
-          half = rw (steps, left) at half;
+          half = rw (counted, left) at half;
         })
 
-    pub cycle-forward : {log′ ram′ ports′ : List ℕ} {core′ : Core} {at′ begun′ spared′ span : ℕ} → log′ ≡ putMid at (length log - at) log part
-        → core′ ≡ r .core → ram′ ≡ ram → ports′ ≡ ports → at′ ≡ at + r .bytes → begun′ ≡ begun + r .begun → spared′ ≡ spared → span ≡ 1
+    pub turn-forward : {log′ ram′ ports′ : List ℕ} {core′ : Core} {at′ begun′ spared′ span : ℕ} → log′ ≡ putMid at (length log - at) log part
+        → core′ ≡ r .core → ram′ ≡ ram → ports′ ≡ ports → at′ ≡ at + r .bytes → begun′ ≡ begun + r .begun → spared′ ≡ spared → span ≡ r .cycles
         → Forward skips rom sched log₀ n s t cursor done log′ core′ ram′ ports′ at′ begun′ spared′ span
-    cycle-forward e₁ e₂ e₃ e₄ e₅ e₆ e₇ e₈ =
-        let here : t .cycle .0 ≡ t .cycle .0 + (1 - 1) = omega arith in
+    turn-forward e₁ e₂ e₃ e₄ e₅ e₆ e₇ e₈ =
+        let o = k .answers .went g in
+        let here : t .cycle .0 + (r .cycles - 1) + 1 ≡ t .cycle .0 + r .cycles = omega (arith, o .some-cycles) in
         rw (e₁, e₂, e₃, e₄, e₅, e₆, e₇, e₈)
         (record {
-          some-cycles = omega arith;
-          within-run = omega (arith, k .more);
-          stands = subst (λ (c : ℕ). Stands sched c cursor) here (h .stands);
-          on = λ next stands. goes-on next (subst (λ (c : ℕ). Stands sched (c + 1) next) (sym here) stands) refl;
+          some-cycles = o .some-cycles;
+          within-run = kept .within-run;
+          stands = stays sched (schedule-taken h) (t .cycle .0) (t .cycle .0 + (r .cycles - 1)) cursor (h .stands) (omega arith) (omega (arith, o .some-cycles, o .no-record));
+          on = λ next stands. goes-on next (subst (λ (c : ℕ). Stands sched c next) here stands) refl;
         })

@@ -1,7 +1,6 @@
 // The loop of both runners: cycle after cycle, or a jump, from a state on. The state goes in by value and comes back by value; inside
 // the loop the core is a local and RAM, latches, log and tables are lent.
 // It may not know what a cycle does, only that it answers what its definition says, nor where a jump is taken, nor what refuses a run.
-use cycle::one_cycle;
 use runs::ClockCycles;
 use runs::MachineCycles;
 use runs::RunEnd;
@@ -165,15 +164,22 @@ pub fn run_loop(
             span = j;
         } else {
             let lines = cursor.lines;
-            let o = one_cycle(
+            let next = cursor.next;
+            let o = burst::turn(
                 rom,
+                sched,
                 table,
+                positions,
+                registers,
                 core,
                 &mut ram,
                 &mut ports,
                 &mut log[at..],
                 lines,
+                next,
                 number,
+                n - done,
+                skips,
             );
             if o.stop != 0 {
                 let stop = RunEnd::Stopped(stop_of(o.stop));
@@ -189,6 +195,7 @@ pub fn run_loop(
             core = o.core;
             at = at + o.bytes;
             begun = begun + o.begun;
+            span = o.cycles;
         }
         cursor = schedule::moved(sched, cursor, MachineCycles(number + (span - 1)));
         done = done + span;

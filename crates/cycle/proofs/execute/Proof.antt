@@ -1,7 +1,10 @@
--- The stops in their order, and the cycle of an instruction that is begun. Assumes nothing.
-use mathlib.Core.Path.{_∙_, sym}
+-- The stops in their order, and an instruction that is begun. Assumes nothing.
+use mathlib.Core.Path.{_∙_, sym, ap}
+use Prim.Native.Nat.{_+_}
 use native.Mathlib.Omega.{arith}
 use denote.Ref.{now}
+use lib.ListN.{length, length-drop}
+use Rattle.laws.proofs.Tails.{mid-tail}
 use Rattle.cycle.specs.Answer.{stateOf}
 use Rattle.cycle.proofs.Executing.{Doing, does-due, holds-fetch, writes-valid, cycles-some, holds-skip, holds-room, owed-small, goes}
 use borrow.Author.Needs.{needs}
@@ -12,18 +15,18 @@ use Rattle.cycle.proofs.execute.Tie as tie
 doing : (c : tie.After-effect-of)
     → let at-fetch-at = c .before .before .before .before .before in
     let a = at-fetch-at .before .before .before .args in
-    Doing (now (a .rom)) (now (a .table)) (a .lines) (stateOf (a .before) (now (a .ram)) (now (a .ports)) (a .n)) (a .c) (now (a .log))
+    Doing (now (a .rom)) (now (a .table)) (a .lines) (stateOf (a .c) (now (a .ram)) (now (a .ports)) (a .start + a .done)) (a .c) (a .at) (now (a .log))
     (at-fetch-at .fetch-at .result) (c .effect-of .result)
 doing c =
     let at-if1 = c .before .before .before in
     let at-fetch-at = at-if1 .before .before in
     let at-entry = at-fetch-at .before .before .before in
     let a = at-entry .args in
-    let s = stateOf (a .before) (now (a .ram)) (now (a .ports)) (a .n) in
+    let s = stateOf (a .c) (now (a .ram)) (now (a .ports)) (a .start + a .done) in
     let f = at-fetch-at .fetch-at .ensures in
     record {
       ready = at-entry .pre .0;
-      core = at-entry .pre .1;
+      core = at-entry .pre .0 .valid .core;
       goes-on = sym (f .stop) ∙ at-if1 .if1 .left;
       begins = f .begins (at-if1 .if1 .left);
       does = does-due (now (a .rom)) (a .lines) s (a .c) (at-fetch-at .fetch-at .result) (f .begins (at-if1 .if1 .left)) (c .effect-of .result)
@@ -42,7 +45,7 @@ returns c =
     let at-fetch-at = at-if1 .before .before in
     let a = at-fetch-at .before .before .before .args in
     rw (c .held .ensures)
-    (holds-fetch (now (a .rom)) (a .lines) (stateOf (a .before) (now (a .ram)) (now (a .ports)) (a .n)) (a .c) (now (a .log))
+    (holds-fetch (now (a .rom)) (a .lines) (stateOf (a .c) (now (a .ram)) (now (a .ports)) (a .start + a .done)) (a .c) (a .at) (now (a .log))
     (at-fetch-at .fetch-at .result .stop) (at-if1 .if1 .taken) (at-fetch-at .fetch-at .ensures .stop))
 
 effect-of-requires : tie.Need-effect-of-requires
@@ -59,6 +62,9 @@ returns-2 c =
     let at-if2 = c .before in
     let at-pass-over = at-if2 .before .before in
     rw (c .held2 .ensures) (holds-skip (doing (at-pass-over .before)) (at-pass-over .pass-over .ensures) (at-if2 .if2 .taken))
+
+sub-if3 : tie.Need-sub-if3
+sub-if3 c = search needs
 
 room-requires : tie.Need-room-requires
 room-requires c κs = search needs
@@ -77,31 +83,47 @@ returns-3 c =
     (holds-room (doing at-effect-of) (at-pass-over .pass-over .ensures) (at-if2 .if2 .left)
     (rw (at-room .room .ensures (at-effect-of .effect-of .result .value)) at (at-if3 .if3 .taken)))
 
+sub-output : tie.Need-sub-output
+sub-output c = search needs
+
+part-output-start : tie.Need-part-output-start
+part-output-start c = search needs
+
+part-output-end : tie.Need-part-output-end
+part-output-end c = search needs
+
+add-output : tie.Need-add-output
+add-output c =
+    let at-entry = c .before .before .before .before .before .before .before .before .before .before .before .before .before .before .before in
+    omega (arith, at-entry .pre .0 .below)
+
 output-requires : tie.Need-output-requires
 output-requires c κs =
     let at-if3 = c .before .before in
     let at-room = at-if3 .before in
     let at-effect-of = at-room .before .before .before .before in
-    (rw (at-room .room .ensures (at-effect-of .effect-of .result .value)) at (at-if3 .if3 .left), writes-valid (doing at-effect-of))
+    let a = at-effect-of .before .before .before .before .before .before .before .before .args in
+    let fits = rw (at-room .room .ensures (at-effect-of .effect-of .result .value)) at (at-if3 .if3 .left) in
+    (omega (arith, fits, ap length (mid-tail (a .at) (now (a .log))), length-drop (a .at) (now (a .log))), writes-valid (doing at-effect-of))
 
 store-requires : tie.Need-store-requires
 store-requires c κs =
-    let at-entry = c .before .before .before .before .before .before .before .before .before .before .before .before .before .before .before .before .before .before .before in
-    at-entry .pre .0 .valid .ram .count
+    let at-effect-of = c .before .before .before .before .before .before .before .before .before .before .before in
+    doing at-effect-of .ready .valid .ram .count
 
-sub-finished : tie.Need-sub-finished
-sub-finished c =
+sub-owing : tie.Need-sub-owing
+sub-owing c =
     let at-effect-of = c .before .before .before .before .before .before .before .before .before .before .before .before .before .before in
     cycles-some (doing at-effect-of)
 
-add-finished : tie.Need-add-finished
-add-finished c =
+add-owing : tie.Need-add-owing
+add-owing c =
     let at-if2 = c .before .before .before .before .before .before .before .before .before .before .before .before in
     let at-pass-over = at-if2 .before .before in
     omega (arith, owed-small (doing (at-pass-over .before)) (at-pass-over .pass-over .ensures) (at-if2 .if2 .left))
 
-finished-requires : tie.Need-finished-requires
-finished-requires c κs = search needs
+owing-requires : tie.Need-owing-requires
+owing-requires c κs = search needs
 
 same-length : tie.Need-same-length
 same-length c = search needs
@@ -116,7 +138,7 @@ returns-4 c =
     let at-pass-over = at-if2 .before .before in
     let at-effect-of = at-pass-over .before in
     goes (doing at-effect-of) (at-pass-over .pass-over .ensures) (at-if2 .if2 .left)
-    (rw (at-room .room .ensures (at-effect-of .effect-of .result .value)) at (at-if3 .if3 .left)) (c .finished .ensures)
+    (rw (at-room .room .ensures (at-effect-of .effect-of .result .value)) at (at-if3 .if3 .left)) (c .owing .ensures)
     (at-store .store .ensures) (at-output .output .ensures)
 
 pub execute-spec : {M : Type 1} → statement M
@@ -130,13 +152,18 @@ execute-spec =
     pass-over-requires
     held-requires-2
     returns-2
+    sub-if3
     room-requires
     held-requires-3
     returns-3
+    sub-output
+    part-output-start
+    part-output-end
+    add-output
     output-requires
     store-requires
-    sub-finished
-    add-finished
-    finished-requires
+    sub-owing
+    add-owing
+    owing-requires
     same-length
     returns-4)

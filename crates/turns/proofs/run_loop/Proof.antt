@@ -7,7 +7,7 @@ use native.Mathlib.Omega.{arith}
 use denote.Ref.{now}
 use Rattle.cycle.specs.Answer.{stateOf}
 use Rattle.turns.specs.Either.{jumpBy}
-use Rattle.turns.proofs.Turning.{At, Forward, Jumps, OneCycle, starts, limit, schedule-taken, finishes, boundary, ready, jumpable, within-run, jumps-forward, stops, stop-length, stop-known, counts, cycle-forward}
+use Rattle.turns.proofs.Turning.{At, Forward, Jumps, Turns, starts, limit, schedule-taken, finishes, boundary, turn-asks, jumpable, within-run, jumps-forward, stops, stop-length, stop-known, counts, turn-forward}
 use borrow.Author.Needs.{needs}
 use Rattle.turns.proofs.run_loop.Statement.{statement}
 use Rattle.turns.proofs.run_loop.Tie as tie
@@ -32,19 +32,19 @@ ahead c = c .jump-ahead .ensures .ahead-is _ (record { pc-is = refl; owed-is = r
 jumps : (c : tie.Then1 Inv-loop μ-loop) → Jumps (c .before .before .before .loop .inv) (c .before .jump-ahead .result)
 jumps c = record { more = c .before .before .loop-test .taken; ahead = ahead (c .before); some-ahead = c .if1 .taken }
 
--- a cycle is next, and has answered
-cycled : (c : tie.After-one-cycle Inv-loop μ-loop)
-    → OneCycle (c .before .before .before .before .before .before .before .before .loop .inv) (c .one-cycle .result) (c .one-cycle .last .1 .1 .1 .0)
-    (c .one-cycle .last .1 .1 .1 .1 .0) (c .one-cycle .last .1 .1 .1 .1 .1 .0)
-cycled c =
+-- a turn is next, and has answered
+turned : (c : tie.After-turn Inv-loop μ-loop)
+    → Turns (c .before .before .before .before .before .before .before .before .loop .inv) (c .turn .result) (c .turn .last .1 .1 .1 .1 .1 .1 .0)
+    (c .turn .last .1 .1 .1 .1 .1 .1 .1 .0) (c .turn .last .1 .1 .1 .1 .1 .1 .1 .1 .0)
+turned c =
     let at-if1 = c .before .before .before .before .before in
     record {
       more = at-if1 .before .before .loop-test .taken;
       none-ahead = sym (at-if1 .if1 .left) ∙ ahead (at-if1 .before);
-      answers = c .one-cycle .ensures;
+      answers = c .turn .ensures;
     }
 
--- a step forward, by a jump or by a cycle
+-- a step forward, by a jump or by a turn
 forward : (c : tie.Joined1 Inv-loop μ-loop)
     → let a = c .before .before .before .before .before .before .before .before .before .before .args in
     let l = c .before .before .before .loop in
@@ -59,8 +59,8 @@ forward c =
       | inr w ↦
           let with-lines : tie.After-lines Inv-loop μ-loop = record { before = record { before = c .before; if1 = w .0 }; lines = w .1 } in
           let with-ports : tie.After-ports2 Inv-loop μ-loop = record { before = record { before = with-lines; ram2 = w .2 }; ports2 = w .3 } in
-          let with-log : tie.After-one-cycle-arg Inv-loop μ-loop = record { before = with-ports; one-cycle-arg = w .4 } in
-          cycle-forward (cycled (record { before = with-log; one-cycle = w .5 })) (w .9 .left) (w .13) (w .14) (w .15) (w .16) (w .17) (w .18) (w .19) (w .20)
+          let with-log : tie.After-turn-arg Inv-loop μ-loop = record { before = with-ports; turn-arg = w .4 } in
+          turn-forward (turned (record { before = with-log; turn = w .5 })) (w .9 .left) (w .13) (w .14) (w .15) (w .16) (w .17) (w .18) (w .19) (w .20)
     ]
 
 loop-holds : tie.Need-loop-holds Inv-loop μ-loop
@@ -106,24 +106,31 @@ add-spared c =
     let h = c .before .before .before .before .loop .inv in
     omega (arith, limit h, h .less, h .not-past, within-run (jumps (c .before)))
 
-sub-one-cycle : tie.Need-sub-one-cycle Inv-loop μ-loop
-sub-one-cycle c = search needs
+sub-turn : tie.Need-sub-turn Inv-loop μ-loop
+sub-turn c = search needs
 
-part-one-cycle-start : tie.Need-part-one-cycle-start Inv-loop μ-loop
-part-one-cycle-start c = search needs
+part-turn-start : tie.Need-part-turn-start Inv-loop μ-loop
+part-turn-start c = search needs
 
-part-one-cycle-end : tie.Need-part-one-cycle-end Inv-loop μ-loop
-part-one-cycle-end c = search needs
+part-turn-end : tie.Need-part-turn-end Inv-loop μ-loop
+part-turn-end c = search needs
 
-one-cycle-requires : tie.Need-one-cycle-requires Inv-loop μ-loop
-one-cycle-requires c κs =
-    let at-loop-test = c .before .before .before .before .before .before in
+sub-turn-2 : tie.Need-sub-turn-2 Inv-loop μ-loop
+sub-turn-2 c = search needs
+
+turn-requires : tie.Need-turn-requires Inv-loop μ-loop
+turn-requires c κs =
+    let at-if1 = c .before .before .before .before in
+    let at-loop-test = at-if1 .before .before in
     let at-loop = at-loop-test .before in
-    let at-entry = at-loop .before .before .before .before .before .before .before in
-    ready (at-loop .loop .inv) (at-loop-test .loop-test .taken) (now (at-entry .args .table)) (at-entry .pre .instructions)
+    let at-entry = at-loop .before .before .before .before .before .before .before in (
+      turn-asks (at-loop .loop .inv) (at-loop-test .loop-test .taken) (now (at-entry .args .table)) (now (at-entry .args .positions)) (at-entry .pre .instructions)
+          (at-entry .pre .position-table) (sym (at-if1 .if1 .left) ∙ ahead (at-if1 .before)),
+      at-entry .pre .register-table,
+    )
 
 stop-of-requires : tie.Need-stop-of-requires Inv-loop μ-loop
-stop-of-requires c κs = stop-known (cycled (c .before .before .before .before)) (c .if2 .taken)
+stop-of-requires c κs = stop-known (turned (c .before .before .before .before)) (c .if2 .taken)
 
 state-of-requires : tie.Need-state-of-requires Inv-loop μ-loop
 state-of-requires c κs = search needs
@@ -136,7 +143,7 @@ answer-requires c κs =
 same-length : tie.Need-same-length Inv-loop μ-loop
 same-length c =
     let at-if2 = c .before .before .before in
-    stop-length (cycled (at-if2 .before .before .before .before)) (at-if2 .if2 .taken)
+    stop-length (turned (at-if2 .before .before .before .before)) (at-if2 .if2 .taken)
 
 returns : tie.Need-returns Inv-loop μ-loop
 returns c =
@@ -144,28 +151,28 @@ returns c =
     let at-stop-of = at-state-of .before in
     let at-if2 = at-stop-of .before in
     rw (c .answer .ensures, at-stop-of .stop-of .ensures)
-    (stops (cycled (at-if2 .before .before .before .before)) (at-if2 .if2 .taken) (at-state-of .state-of .ensures))
+    (stops (turned (at-if2 .before .before .before .before)) (at-if2 .if2 .taken) (at-state-of .state-of .ensures))
 
 add-at : tie.Need-add-at Inv-loop μ-loop
 add-at c =
     let at-if2 = c .before .before in
-    let at-one-cycle = at-if2 .before .before .before .before in
-    let at-loop = at-one-cycle .before .before .before .before .before .before .before .before in
+    let at-turn = at-if2 .before .before .before .before in
+    let at-loop = at-turn .before .before .before .before .before .before .before .before in
     let at-entry = at-loop .before .before .before .before .before .before .before in
-    omega (arith, counts (cycled at-one-cycle) (at-if2 .if2 .left), at-entry .good .1 .1 .1 .1 .1 .1 .1 .0 .0)
+    omega (arith, counts (turned at-turn) (at-if2 .if2 .left), at-entry .good .1 .1 .1 .1 .1 .1 .1 .0 .0)
 
 add-begun-2 : tie.Need-add-begun-2 Inv-loop μ-loop
 add-begun-2 c =
     let at-if2 = c .before .before .before in
-    let at-one-cycle = at-if2 .before .before .before .before in
-    let h = at-one-cycle .before .before .before .before .before .before .before .before .loop .inv in
-    omega (arith, counts (cycled at-one-cycle) (at-if2 .if2 .left), limit h, h .few, h .not-past)
+    let at-turn = at-if2 .before .before .before .before in
+    let h = at-turn .before .before .before .before .before .before .before .before .loop .inv in
+    omega (arith, counts (turned at-turn) (at-if2 .if2 .left), limit h, h .few, h .not-past)
 
-sub-t27 : tie.Need-sub-t27 Inv-loop μ-loop
-sub-t27 c = omega (arith, forward (c .before) .some-cycles)
+sub-t28 : tie.Need-sub-t28 Inv-loop μ-loop
+sub-t28 c = omega (arith, forward (c .before) .some-cycles)
 
-add-t40 : tie.Need-add-t40 Inv-loop μ-loop
-add-t40 c =
+add-t42 : tie.Need-add-t42 Inv-loop μ-loop
+add-t42 c =
     let h = c .before .before .before .before .loop .inv in
     let f = forward (c .before) in
     omega (arith, limit h, h .not-past, f .some-cycles, f .within-run)
@@ -227,10 +234,11 @@ run-loop-spec =
     add-begun
     sub-spared
     add-spared
-    sub-one-cycle
-    part-one-cycle-start
-    part-one-cycle-end
-    one-cycle-requires
+    sub-turn
+    part-turn-start
+    part-turn-end
+    sub-turn-2
+    turn-requires
     stop-of-requires
     state-of-requires
     answer-requires
@@ -238,8 +246,8 @@ run-loop-spec =
     returns
     add-at
     add-begun-2
-    sub-t27
-    add-t40
+    sub-t28
+    add-t42
     moved-requires
     add-done
     loop-less
