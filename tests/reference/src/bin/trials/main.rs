@@ -98,6 +98,9 @@ impl Trials {
         for case in self.cases {
             items.push(Box::new(cases::Run(case)));
         }
+        for runner in [Runner::Plain, Runner::Skipping] {
+            items.push(Box::new(cases::Places(runner)));
+        }
         for group in self.groups {
             items.push(Box::new(images::Values(group)));
         }

@@ -15,9 +15,9 @@ mod waits;
 use reference::call::{call, REPORT};
 use reference::case::{digest, state_bytes, Case};
 use reference::codes::{always_skips, can_skip, is_none};
-use reference::{save, Coverage, Runner};
+use reference::{run, save, Coverage, Runner};
 
-use crate::stream::{pattern, Of, Stream};
+use crate::stream::{pattern, Chain, Of, Stream};
 use crate::Item;
 
 /// A runner's number at every width that the call has to look at.
@@ -123,6 +123,48 @@ impl Item for Run {
 
     fn show(&self) -> String {
         self.0.lent().told()
+    }
+}
+
+/// Runs on the part of a log from each place on, also behind its end, where that part is empty; one behind
+/// the other, so that each begins where the one before it ended.
+pub struct Places(pub Runner);
+
+impl Item for Places {
+    fn name(&self) -> String {
+        format!("a log from every place on, {:?}", self.0)
+    }
+
+    fn put(&self, stream: &mut Stream) -> String {
+        // OCD, INC, NOP, OE, JCP 000.
+        let case = Case::new("").rom(0, &[0x1E, 0x96, 0x0D, 0x00, 0x44, 0xC0]);
+        let lent = case.lent();
+        stream.rom(&lent.rom);
+        stream.schedule(&lent.schedule);
+        stream.value(&lent.state);
+        let mut chain = Chain::default();
+        let mut state = lent.state;
+        for place in 0..=80 {
+            let mut log = pattern(64);
+            let part = &mut log[place.min(64)..];
+            let answer = run(self.0, &lent.rom, &lent.schedule, &state, part, 9);
+            stream.run(Of::Group, 9, self.0, 64, place);
+            chain.called(answer.number);
+            for count in [answer.cycles, answer.clocks, answer.begun] {
+                chain.number(count);
+            }
+            chain.number(answer.written as u64);
+            chain.number(answer.steps);
+            chain.bytes(&state_bytes(&answer.state));
+            chain.bytes(&log);
+            state = answer.state;
+        }
+        stream.tell_group();
+        chain.line()
+    }
+
+    fn show(&self) -> String {
+        String::from("runs of 9 cycles, of a panel that writes in most of them, on a log of 64 bytes from the places 0 to 80 on\n")
     }
 }
 
