@@ -450,12 +450,9 @@ unwatched skips register e p = go (eqb register 0) refl (rw p at e)
     go true q z = eqb-true register 0 q
     go false q z = let y : true ≡ false = z in cc
 
-differ : true ≡ false → ⊥
+pub differ : true ≡ false → ⊥
 differ e = let z : _≡_ {A = ℕ} 0 1 = cc in omega arith
 
--- none of three tests passes
-pub none-of : (a b c : Bool) → (a || b || c) ≡ false → (a ≡ false) × (b ≡ false) × (c ≡ false)
-none-of false false false e = (refl, refl, refl)
-none-of false false true e = absurd (differ e)
-none-of false true c e = absurd (differ e)
-none-of true b c e = absurd (differ e)
+pub or-true : (b : Bool) → (b || true) ≡ true
+or-true true = refl
+or-true false = refl

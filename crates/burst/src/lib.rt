@@ -134,12 +134,7 @@ fn burst(
 }
 
 // The timer so many cycles later, at most its ticks left.
-fn timer_after(
-    positions: &PositionTable,
-    registers: &RegisterTable,
-    t: Timer,
-    cycles: u64,
-) -> Timer
+fn timer_after(positions: &PositionTable, registers: &RegisterTable, t: Timer, cycles: u64) -> Timer
     requires { ⌜ (now positions ≡ positionTable) × (now registers ≡ registerTable) × (t .register < 64) × (0 < t .register → cycles ≤ ticksLeft t) ⌝ }
     ensures { λ r. ⌜ r ≡ ticks cycles t ⌝ }
 {

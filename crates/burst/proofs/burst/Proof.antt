@@ -1,13 +1,12 @@
 -- The loop of a burst: an instruction that isn't begun, the end of a burst, the next instruction. Assumes nothing.
 use mathlib.Core.Path.{_≡_, _∙_, refl, sym}
-use Prim.Native.Nat.{_+_, _-_, _<_}
+use Prim.Native.Nat.{_+_, _-_, _<_, _≤_}
 use native.Mathlib.Omega.{arith}
 use denote.Ref.{now}
-use lib.Dec.{eqb, leb}
-use borrow.Author.Tests.{eqb-false, leb-false}
+use borrow.Author.Tests.{le-leb}
 use Rattle.upd546.specs.TheMachine.{markEi, markStm}
 use Rattle.cycle.specs.Answer.{stateOf}
-use Rattle.burst.proofs.Riding.{Setting, Rides, rides, ready, at-fits, stops-here, stop-length, owed-small, written, go-length, ends, rides-on, stands-still, not-waiting, unwatched, none-of, first-register}
+use Rattle.burst.proofs.Riding.{Setting, Rides, rides, ready, at-fits, stops-here, stop-length, owed-small, written, go-length, ends, rides-on, stands-still, not-waiting, unwatched, differ, or-true, first-register}
 use Rattle.burst.proofs.burst.Statement.{statement}
 use Rattle.burst.proofs.burst.Tie as tie
 
@@ -168,9 +167,10 @@ goes-on : (c : tie.Else2 Inv-loop μ-loop)
 goes-on c =
     let x = c .before .before .before .before .before .before .before .before .before .before in
     let at-loop = x .before .before .before .before in
-    let m = x .execute .result .core .mark in
-    let e = none-of (eqb m markEi) (eqb m markStm) (leb (at-loop .before .before .horizon-of .result) (at-loop .loop .done + 1 + x .execute .result .core .owed)) (c .if2 .left) in
-    (eqb-false m markEi (e .0), eqb-false m markStm (e .1), leb-false _ _ (e .2))
+    let h = at-loop .before .before .horizon-of .result in
+    let d = at-loop .loop .done + 1 + x .execute .result .core .owed in
+    let ahead : h ≤ d → ⊥ = λ q. differ (rw (le-leb h d q, or-true) at (c .if2 .left)) in
+    (λ q. differ (rw q at (c .if2 .left)), λ q. differ (rw q at (c .if2 .left)), omega arith)
 
 loop-less : tie.Need-loop-less Inv-loop μ-loop
 loop-less c = omega (arith, goes-on (c .before .before .before) .2)
