@@ -2,7 +2,13 @@
 
 use reference::case::{Case, FEW_JCP, FEW_JUMPS, INSIDE, NO_PORTS, NO_STOPS};
 use reference::draw::Draw;
+use reference::load;
 use reference::Coverage;
+
+/// Seeds of request R-4 whose loads run ten million cycles, as tests/speed has them.
+const SEEDS: [u32; 16] = [
+    0, 1, 2, 3, 4, 5, 6, 7, 8, 9, 385, 598, 1_410, 1_846, 1_918, 2_265,
+];
 
 /// A ROM on which a run goes on and comes round by many ways.
 const LASTING: u8 = NO_STOPS | FEW_JCP | INSIDE | FEW_JUMPS;
@@ -27,9 +33,20 @@ pub fn cases() -> Vec<Case> {
     for place in 40..46 {
         cases.push(lasting(place, 1_500_000, 65_536, NO_PORTS));
     }
+    cases.extend(SEEDS.map(of_seed));
     cases.extend(waits());
     cases.extend(interrupts_and_calls());
     cases
+}
+
+/// Request R-4's ROM and full schedule of a seed. Its last record is before cycle 2^20.
+fn of_seed(seed: u32) -> Case {
+    Case::new(format!("the load of seed {seed}"))
+        .rom(0, &load::rom(seed))
+        .made_schedule(40_960, 0, 0, 0)
+        .schedule_bytes(0, &load::schedule(seed, 4_096))
+        .log(65_536)
+        .n(1_200_000)
 }
 
 /// Bytes as the generator makes them: these runs soon stop or go round in a small loop.
