@@ -134,12 +134,12 @@ fn next_at(sched: &[u8], i: usize) -> u64
     }
 }
 
-// The lines once the first i records have been taken.
-fn lines_after(sched: &[u8], i: usize) -> Lines
-    requires { ⌜ i ≤ recordCount (now sched) ⌝ }
-    ensures { λ r. ⌜ r ≡ linesAfter (now (sched .entry)) i ⌝ }
+// The lines once so many records have been taken.
+fn lines_after(sched: &[u8], taken: usize) -> Lines
+    requires { ⌜ taken ≤ recordCount (now sched) ⌝ }
+    ensures { λ r. ⌜ r ≡ linesAfter (now (sched .entry)) taken ⌝ }
 {
-    if i == 0 {
+    if taken == 0 {
         Lines {
             a: 0,
             b: 0,
@@ -148,7 +148,7 @@ fn lines_after(sched: &[u8], i: usize) -> Lines
             int: 1,
         }
     } else {
-        lines_at(sched, i - 1)
+        lines_at(sched, taken - 1)
     }
 }
 
