@@ -4,11 +4,15 @@ use lib.ListN.{getD, replicate}
 use Rattle.upd546.specs.Instructions as chip
 use Rattle.upd546.specs.Instructions.{Instruction, codes}
 use Rattle.decode.specs.declared.Decoded.{Decoded}
-use Rattle.decode.specs.declared.Decoded.the-variants.{Sums, Bits, Pointers, Workings, Flags, Jumps, Controls, Ports}
+use Rattle.decode.specs.declared.Decoded.the-variants.{Tests, Accs, Sums, Moves, Pointers, Workings, Flags, Jumps, Controls, Ports}
+use Rattle.decode.specs.declared.Test.{Test}
+use Rattle.decode.specs.declared.Test.the-variants as tests
+use Rattle.decode.specs.declared.Acc.{Acc}
+use Rattle.decode.specs.declared.Acc.the-variants as accs
 use Rattle.decode.specs.declared.Sum.{Sum}
 use Rattle.decode.specs.declared.Sum.the-variants as sums
-use Rattle.decode.specs.declared.Bit.{Bit}
-use Rattle.decode.specs.declared.Bit.the-variants as bits
+use Rattle.decode.specs.declared.Move.{Move}
+use Rattle.decode.specs.declared.Move.the-variants as moves
 use Rattle.decode.specs.declared.Pointer.{Pointer}
 use Rattle.decode.specs.declared.Pointer.the-variants as pointers
 use Rattle.decode.specs.declared.Working.{Working}
@@ -22,46 +26,54 @@ use Rattle.decode.specs.declared.Control.the-variants as controls
 use Rattle.decode.specs.declared.Port.{Port}
 use Rattle.decode.specs.declared.Port.the-variants as ports
 
+abbrev pub namedTest : Test → Instruction
+namedTest tests.Nop = chip.nop
+namedTest tests.None = chip.none
+namedTest tests.Tc = chip.tc
+namedTest tests.Ttm = chip.ttm
+
+abbrev pub namedAcc : Acc → Instruction
+namedAcc accs.Daa = chip.daa
+namedAcc accs.Das = chip.das
+namedAcc accs.Clc = chip.clc
+namedAcc accs.Inc = chip.inc
+namedAcc accs.Dec = chip.dec
+namedAcc accs.Cma = chip.cma
+namedAcc accs.Cia = chip.cia
+namedAcc accs.Stc = chip.stc
+namedAcc accs.Rar = chip.rar
+namedAcc accs.Tab = chip.tab
+namedAcc accs.Ci = chip.ci
+
 abbrev pub namedSum : Sum → Instruction
 namedSum sums.S = chip.sM
-namedSum sums.Daa = chip.daa
 namedSum sums.Ad = chip.ad
 namedSum sums.Ads = chip.ads
-namedSum sums.Das = chip.das
-namedSum sums.Clc = chip.clc
 namedSum sums.Cm = chip.cm
-namedSum sums.Inc = chip.inc
-namedSum sums.Dec = chip.dec
-namedSum sums.Cma = chip.cma
-namedSum sums.Cia = chip.cia
 namedSum sums.Exl = chip.exl
 namedSum sums.Adc = chip.adc
-namedSum sums.Stc = chip.stc
 namedSum sums.Inm = chip.inm
 namedSum sums.Dem = chip.dem
+namedSum sums.Cmb = chip.cmb
+namedSum sums.Tmb = chip.tmb
+namedSum sums.Rmb = chip.rmb
+namedSum sums.Smb = chip.smb
 
-abbrev pub namedBit : Bit → Instruction
-namedBit bits.Tab = chip.tab
-namedBit bits.Rar = chip.rar
-namedBit bits.Cmb = chip.cmb
-namedBit bits.Tmb = chip.tmb
-namedBit bits.Rmb = chip.rmb
-namedBit bits.Smb = chip.smb
-namedBit bits.Ci = chip.ci
+abbrev pub namedMove : Move → Instruction
+namedMove moves.Tal = chip.tal
+namedMove moves.Tla = chip.tla
+namedMove moves.Ded = chip.ded
+namedMove moves.Ldi = chip.ldi
+namedMove moves.Cli = chip.cli
+namedMove moves.Ind = chip.ind
+namedMove moves.Ldz = chip.ldz
+namedMove moves.Li = chip.li
 
 abbrev pub namedPointer : Pointer → Instruction
-namedPointer pointers.Tal = chip.tal
-namedPointer pointers.Tla = chip.tla
-namedPointer pointers.Ded = chip.ded
-namedPointer pointers.Ldi = chip.ldi
-namedPointer pointers.Cli = chip.cli
 namedPointer pointers.Xm = chip.xm
 namedPointer pointers.Xmd = chip.xmd
-namedPointer pointers.Ind = chip.ind
 namedPointer pointers.Lm = chip.lm
 namedPointer pointers.Xmi = chip.xmi
-namedPointer pointers.Ldz = chip.ldz
-namedPointer pointers.Li = chip.li
 
 abbrev pub namedWorking : Working → Instruction
 namedWorking workings.Taz = chip.taz
@@ -91,13 +103,9 @@ namedJump jumps.Czp = chip.czp
 namedJump jumps.Jcp = chip.jcp
 
 abbrev pub namedControl : Control → Instruction
-namedControl controls.Nop = chip.nop
-namedControl controls.None = chip.none
 namedControl controls.Di = chip.di
 namedControl controls.Ei = chip.ei
 namedControl controls.Tit = chip.tit
-namedControl controls.Tc = chip.tc
-namedControl controls.Ttm = chip.ttm
 namedControl controls.Xc = chip.xc
 namedControl controls.Stm = chip.stm
 
@@ -116,8 +124,10 @@ namedPort ports.Tpa = chip.tpa
 
 -- the instruction that is decoded
 abbrev pub named : Decoded → Instruction
+named (Tests op) = namedTest op
+named (Accs op) = namedAcc op
 named (Sums op) = namedSum op
-named (Bits op) = namedBit op
+named (Moves op) = namedMove op
 named (Pointers op) = namedPointer op
 named (Workings op) = namedWorking op
 named (Flags op) = namedFlag op

@@ -5,51 +5,63 @@ ghost use Prim.Native.Nat.{_<_};
 ghost use Rattle.upd546.specs.Instructions.{instruction};
 ghost use Rattle.decode.specs.Named.{named, inRow};
 
-// Acc, C and M.
-pub enum Sum {
-    S,
+// What only skips, or does nothing. None stands for a code that is no instruction.
+pub enum Test {
+    Nop,
+    None,
+    Tc,
+    Ttm,
+}
+
+// Acc and C alone.
+pub enum Acc {
     Daa,
-    Ad,
-    Ads,
     Das,
     Clc,
-    Cm,
     Inc,
     Dec,
     Cma,
     Cia,
-    Exl,
-    Adc,
     Stc,
-    Inm,
-    Dem,
+    Rar,
+    Tab,
+    Ci,
 }
 
-// Bits of Acc and M, and a constant.
-pub enum Bit {
-    Tab,
-    Rar,
+// M, with Acc and C.
+pub enum Sum {
+    S,
+    Ad,
+    Ads,
+    Cm,
+    Exl,
+    Adc,
+    Inm,
+    Dem,
     Cmb,
     Tmb,
     Rmb,
     Smb,
-    Ci,
 }
 
-// DP, and M with it; and LI, which like LDI looks at the mark and leaves one.
-pub enum Pointer {
+// DP and Acc, without M. LDI and LI are here: each looks at the mark and leaves one.
+pub enum Move {
     Tal,
     Tla,
     Ded,
     Ldi,
     Cli,
-    Xm,
-    Xmd,
     Ind,
-    Lm,
-    Xmi,
     Ldz,
     Li,
+}
+
+// DP, and M with it.
+pub enum Pointer {
+    Xm,
+    Xmd,
+    Lm,
+    Xmi,
 }
 
 // The words Z, W, S, R, Y and X.
@@ -85,15 +97,11 @@ pub enum Jump {
     Jcp,
 }
 
-// Flip-flops, carries and the timer. None stands for a code that is no instruction.
+// Flip-flops, carries and the timer.
 pub enum Control {
-    Nop,
-    None,
     Di,
     Ei,
     Tit,
-    Tc,
-    Ttm,
     Xc,
     Stm,
 }
@@ -114,8 +122,10 @@ pub enum Port {
 }
 
 pub enum Decoded {
+    Tests(Test),
+    Accs(Acc),
     Sums(Sum),
-    Bits(Bit),
+    Moves(Move),
     Pointers(Pointer),
     Workings(Working),
     Flags(Flag),
@@ -130,22 +140,22 @@ fn row0(low: u8) -> Decoded
     ensures { λ r. ⌜ named r ≡ inRow 0 low ⌝ }
 {
     match low {
-        0 => Decoded::Controls(Control::Nop),
+        0 => Decoded::Tests(Test::Nop),
         1 => Decoded::Controls(Control::Di),
         2 => Decoded::Sums(Sum::S),
         3 => Decoded::Controls(Control::Tit),
-        4 => Decoded::Controls(Control::Tc),
-        5 => Decoded::Controls(Control::Ttm),
-        6 => Decoded::Sums(Sum::Daa),
-        7 => Decoded::Pointers(Pointer::Tal),
+        4 => Decoded::Tests(Test::Tc),
+        5 => Decoded::Tests(Test::Ttm),
+        6 => Decoded::Accs(Acc::Daa),
+        7 => Decoded::Moves(Move::Tal),
         8 => Decoded::Sums(Sum::Ad),
         9 => Decoded::Sums(Sum::Ads),
-        10 => Decoded::Sums(Sum::Das),
-        11 => Decoded::Sums(Sum::Clc),
+        10 => Decoded::Accs(Acc::Das),
+        11 => Decoded::Accs(Acc::Clc),
         12 => Decoded::Sums(Sum::Cm),
-        13 => Decoded::Sums(Sum::Inc),
+        13 => Decoded::Accs(Acc::Inc),
         14 => Decoded::Ports(Port::Op),
-        _ => Decoded::Sums(Sum::Dec),
+        _ => Decoded::Accs(Acc::Dec),
     }
 }
 
@@ -155,19 +165,19 @@ fn row1(low: u8) -> Decoded
     ensures { λ r. ⌜ named r ≡ inRow 1 low ⌝ }
 {
     match low {
-        0 => Decoded::Sums(Sum::Cma),
-        1 => Decoded::Sums(Sum::Cia),
-        2 => Decoded::Pointers(Pointer::Tla),
-        3 => Decoded::Pointers(Pointer::Ded),
+        0 => Decoded::Accs(Acc::Cma),
+        1 => Decoded::Accs(Acc::Cia),
+        2 => Decoded::Moves(Move::Tla),
+        3 => Decoded::Moves(Move::Ded),
         4 => Decoded::Controls(Control::Stm),
-        5 => Decoded::Pointers(Pointer::Ldi),
-        6 => Decoded::Pointers(Pointer::Cli),
-        7 => Decoded::Bits(Bit::Ci),
+        5 => Decoded::Moves(Move::Ldi),
+        6 => Decoded::Moves(Move::Cli),
+        7 => Decoded::Accs(Acc::Ci),
         8 => Decoded::Sums(Sum::Exl),
         9 => Decoded::Sums(Sum::Adc),
         10 => Decoded::Controls(Control::Xc),
-        11 => Decoded::Sums(Sum::Stc),
-        12 => Decoded::Controls(Control::None),
+        11 => Decoded::Accs(Acc::Stc),
+        12 => Decoded::Tests(Test::None),
         13 => Decoded::Sums(Sum::Inm),
         14 => Decoded::Ports(Port::Ocd),
         _ => Decoded::Sums(Sum::Dem),
@@ -184,10 +194,10 @@ fn row2(low: u8) -> Decoded
         1 => Decoded::Flags(Flag::Fbf),
         2 => Decoded::Flags(Flag::Fbf),
         3 => Decoded::Flags(Flag::Fbf),
-        4 => Decoded::Bits(Bit::Tab),
-        5 => Decoded::Bits(Bit::Tab),
-        6 => Decoded::Bits(Bit::Tab),
-        7 => Decoded::Bits(Bit::Tab),
+        4 => Decoded::Accs(Acc::Tab),
+        5 => Decoded::Accs(Acc::Tab),
+        6 => Decoded::Accs(Acc::Tab),
+        7 => Decoded::Accs(Acc::Tab),
         8 => Decoded::Pointers(Pointer::Xm),
         9 => Decoded::Pointers(Pointer::Xm),
         10 => Decoded::Pointers(Pointer::Xm),
@@ -205,14 +215,14 @@ fn row3(low: u8) -> Decoded
     ensures { λ r. ⌜ named r ≡ inRow 3 low ⌝ }
 {
     match low {
-        0 => Decoded::Bits(Bit::Rar),
+        0 => Decoded::Accs(Acc::Rar),
         1 => Decoded::Controls(Control::Ei),
         2 => Decoded::Ports(Port::Ip),
-        3 => Decoded::Pointers(Pointer::Ind),
-        4 => Decoded::Bits(Bit::Cmb),
-        5 => Decoded::Bits(Bit::Cmb),
-        6 => Decoded::Bits(Bit::Cmb),
-        7 => Decoded::Bits(Bit::Cmb),
+        3 => Decoded::Moves(Move::Ind),
+        4 => Decoded::Sums(Sum::Cmb),
+        5 => Decoded::Sums(Sum::Cmb),
+        6 => Decoded::Sums(Sum::Cmb),
+        7 => Decoded::Sums(Sum::Cmb),
         8 => Decoded::Pointers(Pointer::Lm),
         9 => Decoded::Pointers(Pointer::Lm),
         10 => Decoded::Pointers(Pointer::Lm),
@@ -235,7 +245,7 @@ fn row4(low: u8) -> Decoded
         2 => Decoded::Workings(Working::Taz),
         3 => Decoded::Workings(Working::Taw),
         4 => Decoded::Ports(Port::Oe),
-        5 => Decoded::Controls(Control::None),
+        5 => Decoded::Tests(Test::None),
         6 => Decoded::Workings(Working::Tly),
         7 => Decoded::Workings(Working::Thx),
         8 => Decoded::Jumps(Jump::Rt),
@@ -263,10 +273,10 @@ fn row5(low: u8) -> Decoded
         5 => Decoded::Ports(Port::Tpa),
         6 => Decoded::Ports(Port::Tpa),
         7 => Decoded::Ports(Port::Tpa),
-        8 => Decoded::Bits(Bit::Tmb),
-        9 => Decoded::Bits(Bit::Tmb),
-        10 => Decoded::Bits(Bit::Tmb),
-        11 => Decoded::Bits(Bit::Tmb),
+        8 => Decoded::Sums(Sum::Tmb),
+        9 => Decoded::Sums(Sum::Tmb),
+        10 => Decoded::Sums(Sum::Tmb),
+        11 => Decoded::Sums(Sum::Tmb),
         12 => Decoded::Flags(Flag::Fbt),
         13 => Decoded::Flags(Flag::Fbt),
         14 => Decoded::Flags(Flag::Fbt),
@@ -288,10 +298,10 @@ fn row6(low: u8) -> Decoded
         5 => Decoded::Ports(Port::Reb),
         6 => Decoded::Ports(Port::Reb),
         7 => Decoded::Ports(Port::Reb),
-        8 => Decoded::Bits(Bit::Rmb),
-        9 => Decoded::Bits(Bit::Rmb),
-        10 => Decoded::Bits(Bit::Rmb),
-        11 => Decoded::Bits(Bit::Rmb),
+        8 => Decoded::Sums(Sum::Rmb),
+        9 => Decoded::Sums(Sum::Rmb),
+        10 => Decoded::Sums(Sum::Rmb),
+        11 => Decoded::Sums(Sum::Rmb),
         12 => Decoded::Flags(Flag::Rfb),
         13 => Decoded::Flags(Flag::Rfb),
         14 => Decoded::Flags(Flag::Rfb),
@@ -313,10 +323,10 @@ fn row7(low: u8) -> Decoded
         5 => Decoded::Ports(Port::Seb),
         6 => Decoded::Ports(Port::Seb),
         7 => Decoded::Ports(Port::Seb),
-        8 => Decoded::Bits(Bit::Smb),
-        9 => Decoded::Bits(Bit::Smb),
-        10 => Decoded::Bits(Bit::Smb),
-        11 => Decoded::Bits(Bit::Smb),
+        8 => Decoded::Sums(Sum::Smb),
+        9 => Decoded::Sums(Sum::Smb),
+        10 => Decoded::Sums(Sum::Smb),
+        11 => Decoded::Sums(Sum::Smb),
         12 => Decoded::Flags(Flag::Sfb),
         13 => Decoded::Flags(Flag::Sfb),
         14 => Decoded::Flags(Flag::Sfb),
@@ -349,8 +359,8 @@ pub fn decode(code: u8) -> Decoded
         5 => row5(low),
         6 => row6(low),
         7 => row7(low),
-        8 => Decoded::Pointers(Pointer::Ldz),
-        9 => Decoded::Pointers(Pointer::Li),
+        8 => Decoded::Moves(Move::Ldz),
+        9 => Decoded::Moves(Move::Li),
         10 => row10(low),
         11 => Decoded::Jumps(Jump::Czp),
         _ => Decoded::Jumps(Jump::Jcp),
