@@ -1,12 +1,15 @@
 -- The instructions of a group, by what they leave. Assumes nothing: these are definitions.
 use Prim.Native.Nat.{ℕ}
+use mathlib.Core.Bool.{Bool}
 use mathlib.Core.List.{List}
 use Rattle.upd546.specs.Parts.{withFlow, withTimer, setMark, setAcc, setCarry, setSaved, setDph, setDpl, setInt, setInte}
 use Rattle.upd546.specs.Instructions as chip
 use Rattle.portlog.specs.Appending.{writesOf}
 use Rattle.upd546.specs.Instructions.{Effect, leaves, skips, stores, writes, next}
 use Rattle.instructions.specs.declared.Inputs.{Inputs}
+use Rattle.instructions.specs.declared.Accumulated.{Accumulated}
 use Rattle.instructions.specs.declared.Summed.{Summed}
+use Rattle.instructions.specs.declared.Moved.{Moved}
 use Rattle.instructions.specs.declared.Pointed.{Pointed}
 use Rattle.instructions.specs.declared.Worked.{Worked}
 use Rattle.instructions.specs.declared.Flagged.{Flagged}
@@ -27,11 +30,20 @@ givenOf g word ports = record {
 }
 
 -- what each group leaves of it
+abbrev pub testEffect : chip.Given → Bool → Effect
+testEffect g skip = skips skip (leaves g (next g))
+
+abbrev pub accEffect : chip.Given → Accumulated → Effect
+accEffect g r = skips (r .skip) (leaves g (setCarry (r .carry) (setAcc (r .acc) (next g))))
+
 abbrev pub sumEffect : chip.Given → Summed → Effect
 sumEffect g r = skips (r .skip) (stores (r .word) (leaves g (setCarry (r .carry) (setAcc (r .acc) (next g)))))
 
+abbrev pub moveEffect : chip.Given → Moved → Effect
+moveEffect g r = skips (r .skip) (leaves g (setMark (r .mark) (setDpl (r .dpl) (setDph (r .dph) (setAcc (r .acc) (next g))))))
+
 abbrev pub pointerEffect : chip.Given → Pointed → Effect
-pointerEffect g r = skips (r .skip) (stores (r .word) (leaves g (setMark (r .mark) (setDpl (r .dpl) (setDph (r .dph) (setAcc (r .acc) (next g)))))))
+pointerEffect g r = skips (r .skip) (stores (r .word) (leaves g (setDpl (r .dpl) (setDph (r .dph) (setAcc (r .acc) (next g))))))
 
 abbrev pub workingEffect : chip.Given → Worked → Effect
 workingEffect g r = stores (r .word) (leaves g (setDpl (r .dpl) (setDph (r .dph) (setAcc (r .acc) (next g)))))

@@ -2,13 +2,15 @@
 // It may not know how a byte is fetched, what a skip passes over, nor how a run goes.
 //
 // Where a group builds its answers as struct literals, and not by a small function, that runs faster (docs/MEASUREMENTS.md).
-use decode::Bit;
+use decode::Acc;
 use decode::Control;
 use decode::Flag;
 use decode::Jump;
+use decode::Move;
 use decode::Pointer;
 use decode::Port;
 use decode::Sum;
+use decode::Test;
 use decode::Working;
 use portlog::NO_PORT;
 use portlog::PORTS_C_AND_D;
@@ -30,13 +32,13 @@ ghost use mathlib.Core.Path.{_≡_};
 ghost use mathlib.Core.Bool.{false};
 ghost use mathlib.Core.List.{List};
 ghost use Prim.Native.Nat.{ℕ, _+_, _*_, _^_, _<_};
-ghost use Rattle.upd546.specs.TheMachine.{placeOf, markOther};
+ghost use Rattle.upd546.specs.TheMachine.{placeOf};
 ghost use Rattle.upd546.specs.Bytes.{bitAt, withBit};
 ghost use Rattle.upd546.specs.Ports.{readPort, outputs, bitOutputs};
-ghost use Rattle.decode.specs.Named.{namedSum, namedBit, namedPointer, namedWorking, namedFlag, namedJump, namedControl, namedPort};
+ghost use Rattle.decode.specs.Named.{namedTest, namedAcc, namedSum, namedMove, namedPointer, namedWorking, namedFlag, namedJump, namedControl, namedPort};
 ghost use Rattle.portlog.specs.Appending.{writesOf};
 ghost use Rattle.laws.specs.Valid.{Scalars, ValidPorts};
-ghost use Rattle.instructions.specs.Groups.{givenOf, sumEffect, pointerEffect, workingEffect, flagEffect, jumpEffect, controlEffect, portEffect};
+ghost use Rattle.instructions.specs.Groups.{givenOf, testEffect, accEffect, sumEffect, moveEffect, pointerEffect, workingEffect, flagEffect, jumpEffect, controlEffect, portEffect};
 
 // What an instruction is given besides the RAM and the latches.
 pub struct Inputs {
@@ -48,6 +50,12 @@ pub struct Inputs {
 }
 
 // What a group of instructions leaves: the parts of the machine that its instructions change.
+pub struct Accumulated {
+    pub acc: u8,
+    pub carry: u8,
+    pub skip: bool,
+}
+
 pub struct Summed {
     pub acc: u8,
     pub carry: u8,
@@ -55,11 +63,18 @@ pub struct Summed {
     pub skip: bool,
 }
 
-pub struct Pointed {
+pub struct Moved {
     pub acc: u8,
     pub dph: u8,
     pub dpl: u8,
     pub mark: u8,
+    pub skip: bool,
+}
+
+pub struct Pointed {
+    pub acc: u8,
+    pub dph: u8,
+    pub dpl: u8,
     pub word: u8,
     pub skip: bool,
 }
@@ -176,131 +191,43 @@ pub fn working_place(op: Working) -> usize
     }
 }
 
-// Sums and comparisons of Acc, C and M.
-pub fn sum_group(op: Sum, g: Inputs, word: u8) -> Summed
-    requires { ⌜ Scalars (g .core) × (word < 16) ⌝ }
-    ensures { λ r. ⌜ ((ports : List ℕ) → namedSum op .effect (givenOf g word ports) ≡ sumEffect (givenOf g word ports) r) ⌝ }
+// Whether the next instruction is skipped.
+pub fn test_group(op: Test, g: Inputs) -> bool
+    ensures { λ r. ⌜ ((word : ℕ) (ports : List ℕ) → namedTest op .effect (givenOf g word ports) ≡ testEffect (givenOf g word ports) r) ⌝ }
+{
+    match op {
+        Test::Nop => false,
+        Test::None => false,
+        Test::Tc => g.core.registers.carry == 1,
+        Test::Ttm => g.core.timer.tm == 1,
+    }
+}
+
+fn acc_left(acc: u8, carry: u8, skip: bool) -> Accumulated
+    ensures { λ r. ⌜ r ≡ record { acc = acc; carry = carry; skip = skip } ⌝ }
+{
+    Accumulated { acc, carry, skip }
+}
+
+// Acc and C alone.
+pub fn acc_group(op: Acc, g: Inputs) -> Accumulated
+    requires { ⌜ Scalars (g .core) ⌝ }
+    ensures { λ r. ⌜ ((word : ℕ) (ports : List ℕ) → namedAcc op .effect (givenOf g word ports) ≡ accEffect (givenOf g word ports) r) ⌝ }
 {
     let acc = g.core.registers.acc;
     let carry = g.core.registers.carry;
     match op {
-        Sum::S => Summed {
-            acc,
-            carry,
-            word: acc,
-            skip: false,
-        },
-        Sum::Daa => Summed {
-            acc: (acc + 6) % 16,
-            carry,
-            word,
-            skip: false,
-        },
-        Sum::Ad => {
-            let sum = acc + word;
-            Summed {
-                acc: sum % 16,
-                carry,
-                word,
-                skip: 15 < sum,
-            }
-        }
-        Sum::Ads => {
-            let sum = acc + word + carry;
-            Summed {
-                acc: sum % 16,
-                carry: sum / 16,
-                word,
-                skip: 15 < sum,
-            }
-        }
-        Sum::Das => Summed {
-            acc: (acc + 10) % 16,
-            carry,
-            word,
-            skip: false,
-        },
-        Sum::Clc => Summed {
-            acc,
-            carry: 0,
-            word,
-            skip: false,
-        },
-        Sum::Cm => Summed {
-            acc,
-            carry,
-            word,
-            skip: acc == word,
-        },
-        Sum::Inc => {
-            let v = (acc + 1) % 16;
-            Summed {
-                acc: v,
-                carry,
-                word,
-                skip: v == 0,
-            }
-        }
-        Sum::Dec => {
-            let v = (acc + 15) % 16;
-            Summed {
-                acc: v,
-                carry,
-                word,
-                skip: v == 15,
-            }
-        }
-        Sum::Cma => Summed {
-            acc: 15 - acc,
-            carry,
-            word,
-            skip: false,
-        },
-        Sum::Cia => Summed {
-            acc: (16 - acc) % 16,
-            carry,
-            word,
-            skip: false,
-        },
-        Sum::Exl => Summed {
-            acc: acc ^ word,
-            carry,
-            word,
-            skip: false,
-        },
-        Sum::Adc => {
-            let sum = acc + word + carry;
-            Summed {
-                acc: sum % 16,
-                carry: sum / 16,
-                word,
-                skip: false,
-            }
-        }
-        Sum::Stc => Summed {
-            acc,
-            carry: 1,
-            word,
-            skip: false,
-        },
-        Sum::Inm => {
-            let v = (word + 1) % 16;
-            Summed {
-                acc,
-                carry,
-                word: v,
-                skip: v == 0,
-            }
-        }
-        Sum::Dem => {
-            let v = (word + 15) % 16;
-            Summed {
-                acc,
-                carry,
-                word: v,
-                skip: v == 15,
-            }
-        }
+        Acc::Daa => acc_left((acc + 6) % 16, carry, false),
+        Acc::Das => acc_left((acc + 10) % 16, carry, false),
+        Acc::Clc => acc_left(acc, 0, false),
+        Acc::Inc => acc_left((acc + 1) % 16, carry, (acc + 1) % 16 == 0),
+        Acc::Dec => acc_left((acc + 15) % 16, carry, (acc + 15) % 16 == 15),
+        Acc::Cma => acc_left(15 - acc, carry, false),
+        Acc::Cia => acc_left((16 - acc) % 16, carry, false),
+        Acc::Stc => acc_left(acc, 1, false),
+        Acc::Rar => acc_left(acc / 2 + 8 * carry, acc % 2, false),
+        Acc::Tab => acc_left(acc, carry, bit(acc, g.code % 4) == 1),
+        Acc::Ci => acc_left(acc, carry, acc == g.second % 16),
     }
 }
 
@@ -315,93 +242,114 @@ fn sum_left(acc: u8, carry: u8, word: u8, skip: bool) -> Summed
     }
 }
 
-// Bits of Acc and M, and a constant.
-pub fn bit_group(op: Bit, g: Inputs, word: u8) -> Summed
+// M, with Acc and C.
+pub fn sum_group(op: Sum, g: Inputs, word: u8) -> Summed
     requires { ⌜ Scalars (g .core) × (word < 16) ⌝ }
-    ensures { λ r. ⌜ ((ports : List ℕ) → namedBit op .effect (givenOf g word ports) ≡ sumEffect (givenOf g word ports) r) ⌝ }
+    ensures { λ r. ⌜ ((ports : List ℕ) → namedSum op .effect (givenOf g word ports) ≡ sumEffect (givenOf g word ports) r) ⌝ }
 {
     let acc = g.core.registers.acc;
     let carry = g.core.registers.carry;
     let b = g.code % 4;
-    let k = g.second % 16;
     match op {
-        Bit::Tab => sum_left(acc, carry, word, bit(acc, b) == 1),
-        Bit::Rar => sum_left(acc / 2 + 8 * carry, acc % 2, word, false),
-        Bit::Cmb => sum_left(acc, carry, word, bit(acc, b) == bit(word, b)),
-        Bit::Tmb => sum_left(acc, carry, word, bit(word, b) == 1),
-        Bit::Rmb => sum_left(acc, carry, with_bit(word, b, 0), false),
-        Bit::Smb => sum_left(acc, carry, with_bit(word, b, 1), false),
-        Bit::Ci => sum_left(acc, carry, word, acc == k),
+        Sum::S => sum_left(acc, carry, acc, false),
+        Sum::Ad => sum_left((acc + word) % 16, carry, word, 15 < acc + word),
+        Sum::Ads => sum_left(
+            (acc + word + carry) % 16,
+            (acc + word + carry) / 16,
+            word,
+            15 < acc + word + carry,
+        ),
+        Sum::Cm => sum_left(acc, carry, word, acc == word),
+        Sum::Exl => sum_left(acc ^ word, carry, word, false),
+        Sum::Adc => sum_left(
+            (acc + word + carry) % 16,
+            (acc + word + carry) / 16,
+            word,
+            false,
+        ),
+        Sum::Inm => sum_left(acc, carry, (word + 1) % 16, (word + 1) % 16 == 0),
+        Sum::Dem => sum_left(acc, carry, (word + 15) % 16, (word + 15) % 16 == 15),
+        Sum::Cmb => sum_left(acc, carry, word, bit(acc, b) == bit(word, b)),
+        Sum::Tmb => sum_left(acc, carry, word, bit(word, b) == 1),
+        Sum::Rmb => sum_left(acc, carry, with_bit(word, b, 0), false),
+        Sum::Smb => sum_left(acc, carry, with_bit(word, b, 1), false),
+    }
+}
+
+fn move_left(acc: u8, dph: u8, dpl: u8, mark: u8, skip: bool) -> Moved
+    ensures { λ r. ⌜ r ≡ record { acc = acc; dph = dph; dpl = dpl; mark = mark; skip = skip } ⌝ }
+{
+    Moved {
+        acc,
+        dph,
+        dpl,
+        mark,
+        skip,
     }
 }
 
 // LDI loads DP, unless the instruction before it was an LDI.
-fn ldi(g: Inputs, word: u8) -> Pointed
-    ensures { λ r. ⌜ ((ports : List ℕ) → namedPointer Pointer.Ldi .effect (givenOf g word ports) ≡ pointerEffect (givenOf g word ports) r) ⌝ }
+fn ldi(g: Inputs) -> Moved
+    ensures { λ r. ⌜ ((word : ℕ) (ports : List ℕ) → namedMove Move.Ldi .effect (givenOf g word ports) ≡ moveEffect (givenOf g word ports) r) ⌝ }
 {
     let acc = g.core.registers.acc;
-    let dph = g.core.registers.dph;
-    let dpl = g.core.registers.dpl;
     if g.core.mark == MARK_LDI {
-        return Pointed {
+        return move_left(
             acc,
-            dph,
-            dpl,
-            mark: MARK_LDI,
-            word,
-            skip: false,
-        };
+            g.core.registers.dph,
+            g.core.registers.dpl,
+            MARK_LDI,
+            false,
+        );
     }
-    Pointed {
-        acc,
-        dph: g.second % 128 / 16,
-        dpl: g.second % 16,
-        mark: MARK_LDI,
-        word,
-        skip: false,
-    }
+    move_left(acc, g.second % 128 / 16, g.second % 16, MARK_LDI, false)
 }
 
 // LI loads Acc, unless the instruction before it was an LI.
-fn li(g: Inputs, word: u8) -> Pointed
-    ensures { λ r. ⌜ ((ports : List ℕ) → namedPointer Pointer.Li .effect (givenOf g word ports) ≡ pointerEffect (givenOf g word ports) r) ⌝ }
+fn li(g: Inputs) -> Moved
+    ensures { λ r. ⌜ ((word : ℕ) (ports : List ℕ) → namedMove Move.Li .effect (givenOf g word ports) ≡ moveEffect (givenOf g word ports) r) ⌝ }
 {
     let dph = g.core.registers.dph;
     let dpl = g.core.registers.dpl;
     if g.core.mark == MARK_LI {
-        return Pointed {
-            acc: g.core.registers.acc,
-            dph,
-            dpl,
-            mark: MARK_LI,
-            word,
-            skip: false,
-        };
+        return move_left(g.core.registers.acc, dph, dpl, MARK_LI, false);
     }
-    Pointed {
-        acc: g.code % 16,
-        dph,
-        dpl,
-        mark: MARK_LI,
-        word,
-        skip: false,
+    move_left(g.code % 16, dph, dpl, MARK_LI, false)
+}
+
+// DP and Acc, without M.
+pub fn move_group(op: Move, g: Inputs) -> Moved
+    requires { ⌜ Scalars (g .core) ⌝ }
+    ensures { λ r. ⌜ ((word : ℕ) (ports : List ℕ) → namedMove op .effect (givenOf g word ports) ≡ moveEffect (givenOf g word ports) r) ⌝ }
+{
+    let acc = g.core.registers.acc;
+    let dph = g.core.registers.dph;
+    let dpl = g.core.registers.dpl;
+    match op {
+        Move::Tal => move_left(acc, dph, acc, MARK_OTHER, false),
+        Move::Tla => move_left(dpl, dph, dpl, MARK_OTHER, false),
+        Move::Ded => move_left(acc, dph, (dpl + 15) % 16, MARK_OTHER, (dpl + 15) % 16 == 15),
+        Move::Ldi => ldi(g),
+        Move::Cli => move_left(acc, dph, dpl, MARK_OTHER, dpl == g.second % 16),
+        Move::Ind => move_left(acc, dph, (dpl + 1) % 16, MARK_OTHER, (dpl + 1) % 16 == 0),
+        Move::Ldz => move_left(acc, 0, g.code % 16, MARK_OTHER, false),
+        Move::Li => li(g),
     }
 }
 
 fn pointer_left(acc: u8, dph: u8, dpl: u8, word: u8, skip: bool) -> Pointed
-    ensures { λ r. ⌜ r ≡ record { acc = acc; dph = dph; dpl = dpl; mark = markOther; word = word; skip = skip } ⌝ }
+    ensures { λ r. ⌜ r ≡ record { acc = acc; dph = dph; dpl = dpl; word = word; skip = skip } ⌝ }
 {
     Pointed {
         acc,
         dph,
         dpl,
-        mark: MARK_OTHER,
         word,
         skip,
     }
 }
 
-// DP, and M with it; and LI.
+// DP, and M with it.
 pub fn pointer_group(op: Pointer, g: Inputs, word: u8) -> Pointed
     requires { ⌜ Scalars (g .core) × (word < 16) ⌝ }
     ensures { λ r. ⌜ ((ports : List ℕ) → namedPointer op .effect (givenOf g word ports) ≡ pointerEffect (givenOf g word ports) r) ⌝ }
@@ -411,18 +359,10 @@ pub fn pointer_group(op: Pointer, g: Inputs, word: u8) -> Pointed
     let dpl = g.core.registers.dpl;
     let b = g.code % 4;
     match op {
-        Pointer::Tal => pointer_left(acc, dph, acc, word, false),
-        Pointer::Tla => pointer_left(dpl, dph, dpl, word, false),
-        Pointer::Ded => pointer_left(acc, dph, (dpl + 15) % 16, word, (dpl + 15) % 16 == 15),
-        Pointer::Ldi => ldi(g, word),
-        Pointer::Cli => pointer_left(acc, dph, dpl, word, dpl == g.second % 16),
         Pointer::Xm => pointer_left(word, dph ^ b, dpl, acc, false),
         Pointer::Xmd => pointer_left(word, dph ^ b, (dpl + 15) % 16, acc, (dpl + 15) % 16 == 15),
-        Pointer::Ind => pointer_left(acc, dph, (dpl + 1) % 16, word, (dpl + 1) % 16 == 0),
         Pointer::Lm => pointer_left(word, dph ^ b, dpl, word, false),
         Pointer::Xmi => pointer_left(word, dph ^ b, (dpl + 1) % 16, acc, (dpl + 1) % 16 == 0),
-        Pointer::Ldz => pointer_left(acc, 0, g.code % 16, word, false),
-        Pointer::Li => li(g, word),
     }
 }
 
@@ -526,24 +466,6 @@ pub fn control_group(op: Control, g: Inputs) -> Controlled
     let inte = g.core.interrupt.inte;
     let timer = g.core.timer;
     match op {
-        Control::Nop => Controlled {
-            carry,
-            saved,
-            int,
-            inte,
-            timer,
-            mark: MARK_OTHER,
-            skip: false,
-        },
-        Control::None => Controlled {
-            carry,
-            saved,
-            int,
-            inte,
-            timer,
-            mark: MARK_OTHER,
-            skip: false,
-        },
         Control::Di => Controlled {
             carry,
             saved,
@@ -570,24 +492,6 @@ pub fn control_group(op: Control, g: Inputs) -> Controlled
             timer,
             mark: MARK_OTHER,
             skip: int == 1,
-        },
-        Control::Tc => Controlled {
-            carry,
-            saved,
-            int,
-            inte,
-            timer,
-            mark: MARK_OTHER,
-            skip: carry == 1,
-        },
-        Control::Ttm => Controlled {
-            carry,
-            saved,
-            int,
-            inte,
-            timer,
-            mark: MARK_OTHER,
-            skip: g.core.timer.tm == 1,
         },
         Control::Xc => Controlled {
             carry: saved,

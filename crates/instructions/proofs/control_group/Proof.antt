@@ -18,18 +18,6 @@ enum-told-4 c = search needs
 enum-told-5 : tie.Need-enum-told-5
 enum-told-5 c = search needs
 
-enum-told-6 : tie.Need-enum-told-6
-enum-told-6 c = search needs
-
-enum-told-7 : tie.Need-enum-told-7
-enum-told-7 c = search needs
-
-enum-told-8 : tie.Need-enum-told-8
-enum-told-8 c = search needs
-
-enum-told-9 : tie.Need-enum-told-9
-enum-told-9 c = search needs
-
 returns : tie.Need-returns
 returns c word ports = rw (c .enum-told .given .1)
 
@@ -43,19 +31,7 @@ returns-4 : tie.Need-returns-4
 returns-4 c word ports = rw (c .enum-told4 .given .1)
 
 returns-5 : tie.Need-returns-5
-returns-5 c word ports = rw (c .enum-told5 .given .1)
-
-returns-6 : tie.Need-returns-6
-returns-6 c word ports = rw (c .enum-told6 .given .1)
-
-returns-7 : tie.Need-returns-7
-returns-7 c word ports = rw (c .before .enum-told7 .given .1)
-
-returns-8 : tie.Need-returns-8
-returns-8 c word ports = rw (c .enum-told8 .given .1)
-
-returns-9 : tie.Need-returns-9
-returns-9 c word ports = rw (c .before .enum-told9 .given .1)
+returns-5 c word ports = rw (c .before .enum-told5 .given .1)
 
 pub control-group-spec : {M : Type 1} → statement M
 control-group-spec =
@@ -66,16 +42,8 @@ control-group-spec =
     enum-told-3
     enum-told-4
     enum-told-5
-    enum-told-6
-    enum-told-7
-    enum-told-8
-    enum-told-9
     returns
     returns-2
     returns-3
     returns-4
-    returns-5
-    returns-6
-    returns-7
-    returns-8
-    returns-9)
+    returns-5)
