@@ -51,16 +51,16 @@ module _ (rom : List ℕ) (l : Lines) (s : State) (c : Core) (at : ℕ) (log : L
   unfolding fetchStop instructionStop given
   stops-are = first-append (_ ∷ _ ∷ _ ∷ []) (_ ∷ [])
 
-  pub at-fetch : (k : ℕ) → fetchStop rom (c .flow .pc) ≡ suc k → answerOn at (unticked rom l s c) s log ≡ holds (suc k) s log
+  pub at-fetch : (k : ℕ) → fetchStop rom (c .flow .pc) ≡ suc k → answerOn at (unticked rom l s c) s log ≡ holds at (suc k) s log
   unfolding unticked answerOn given firstOf
   at-fetch k e = rw (stops-are, e)
 
-  pub at-skip : (k : ℕ) → fetchStop rom (c .flow .pc) ≡ 0 → skipStop (dues rom l s c) ≡ suc k → answerOn at (unticked rom l s c) s log ≡ holds (suc k) s log
+  pub at-skip : (k : ℕ) → fetchStop rom (c .flow .pc) ≡ 0 → skipStop (dues rom l s c) ≡ suc k → answerOn at (unticked rom l s c) s log ≡ holds at (suc k) s log
   unfolding unticked answerOn given firstOf
   at-skip k e q = rw (stops-are, e, q)
 
   module _ (e : fetchStop rom (c .flow .pc) ≡ 0) (q : skipStop (dues rom l s c) ≡ 0) where
-    pub at-room : length log - at < 8 * length (dues rom l s c .writes) → answerOn at (unticked rom l s c) s log ≡ holds 3 s log
+    pub at-room : length log - at < 8 * length (dues rom l s c .writes) → answerOn at (unticked rom l s c) s log ≡ holds at 3 s log
     unfolding unticked answerOn given firstOf
     at-room h =
         let t = lt-leb (length (logBytes (s .cycle .0) (dues rom l s c .writes))) (length log - at) (rw (records-length (s .cycle .0) (dues rom l s c .writes)) h) in
@@ -72,7 +72,7 @@ module _ (rom : List ℕ) (l : Lines) (s : State) (c : Core) (at : ℕ) (log : L
       ram = withWord (s .ram) (due rom c .address c) (dues rom l s c .word);
       ports = latched (dues rom l s c .writes) (s .ports);
       log = take at log ++ logBytes (s .cycle .0) (dues rom l s c .writes) ++ drop (at + length (logBytes (s .cycle .0) (dues rom l s c .writes))) log;
-      bytes = length (logBytes (s .cycle .0) (dues rom l s c .writes));
+      at = at + length (logBytes (s .cycle .0) (dues rom l s c .writes));
     }
     unfolding unticked answerOn given firstOf
     at-end h =
@@ -107,7 +107,7 @@ module _ (rom : List ℕ) (l : Lines) (s : State) (c : Core) (f : Fetched) (b : 
 
 -- a fetch that stops
 pub holds-fetch : (rom : List ℕ) (l : Lines) (s : State) (c : Core) (at : ℕ) (log : List ℕ) (k : ℕ) → (k ≡ 0 → ⊥) → k ≡ fetchStop rom (c .flow .pc)
-    → holds k s log ≡ answerOn at (unticked rom l s c) s log
+    → holds at k s log ≡ answerOn at (unticked rom l s c) s log
 holds-fetch rom l s c at log zero n e = absurd (n refl)
 holds-fetch rom l s c at log (suc k) n e = sym (at-fetch rom l s c at log k (sym e))
 
@@ -142,10 +142,10 @@ module _ {rom table : List ℕ} {l : Lines} {s : State} {c : Core} {at : ℕ} {l
     skip-same = rw (h .does .skip, h .does .core)
 
     -- a skip that stops
-    pub holds-skip : (p .stop ≡ 0 → ⊥) → holds (p .stop) s log ≡ answerOn at (unticked rom l s c) s log
+    pub holds-skip : (p .stop ≡ 0 → ⊥) → holds at (p .stop) s log ≡ answerOn at (unticked rom l s c) s log
     holds-skip = go (p .stop) (q .stop ∙ skip-same)
       where
-        go : (k : ℕ) → k ≡ skipStop (dues rom l s c) → (k ≡ 0 → ⊥) → holds k s log ≡ answerOn at (unticked rom l s c) s log
+        go : (k : ℕ) → k ≡ skipStop (dues rom l s c) → (k ≡ 0 → ⊥) → holds at k s log ≡ answerOn at (unticked rom l s c) s log
         go zero r n = absurd (n refl)
         go (suc k) r n = sym (at-skip rom l s c at log k (h .goes-on) (sym r))
 
@@ -154,7 +154,7 @@ module _ {rom table : List ℕ} {l : Lines} {s : State} {c : Core} {at : ℕ} {l
       none-skipped = sym skip-same ∙ sym (q .stop) ∙ t
 
       -- a log that lacks the bytes
-      pub holds-room : length log - at < 8 * length (writesOf (e .port) (e .value)) → holds 3 s log ≡ answerOn at (unticked rom l s c) s log
+      pub holds-room : length log - at < 8 * length (writesOf (e .port) (e .value)) → holds at 3 s log ≡ answerOn at (unticked rom l s c) s log
       holds-room r = sym (at-room rom l s c at log (h .goes-on) none-skipped (rw (h .does .writes) at r))
 
       over-same : p .over ≡ passedOver rom (dues rom l s c)
@@ -177,7 +177,7 @@ module _ {rom table : List ℕ} {l : Lines} {s : State} {c : Core} {at : ℕ} {l
           → core ≡ setOwed (f .cycles - 1 + p .over) (setPc (p .pc) (e .core))
           → ram ≡ set (s .ram) (e .at) (e .word)
           → Written (midOf at (length log - at) log) (s .ports) (s .cycle .0) (writesOf (e .port) (e .value)) part ports bytes
-          → startOf (record { core = core; bytes = bytes; stop = 0 }) ram ports (putMid at (length log - at) log part) ≡ answerOn at (unticked rom l s c) s log
+          → startOf (record { core = core; at = at + bytes; stop = 0 }) ram ports (putMid at (length log - at) log part) ≡ answerOn at (unticked rom l s c) s log
       goes r x y w =
           let d = h .does in
           let m : setOwed (f .cycles - 1 + p .over) (setPc (p .pc) (e .core)) ≡ owing rom (due rom c) (dues rom l s c)
@@ -187,6 +187,6 @@ module _ {rom table : List ℕ} {l : Lines} {s : State} {c : Core} {at : ℕ} {l
           let log-same = put-front at log (logBytes (s .cycle .0) (writesOf (e .port) (e .value))) (w .appended)
           ∙ ap (λ (ws : List Write). take at log ++ logBytes (s .cycle .0) ws ++ drop (at + length (logBytes (s .cycle .0) ws)) log) (d .writes) in
           let ports-same = w .latches ∙ ap (λ (ws : List Write). latched ws (s .ports)) (d .writes) in
-          let bytes-same = w .count ∙ ap (λ (ws : List Write). length (logBytes (s .cycle .0) ws)) (d .writes) in
-          (λ j. record { stop = 0; core = core-same j; ram = ram-same j; ports = ports-same j; log = log-same j; bytes = bytes-same j })
+          let at-same = ap (λ (n : ℕ). at + n) (w .count ∙ ap (λ (ws : List Write). length (logBytes (s .cycle .0) ws)) (d .writes)) in
+          (λ j. record { stop = 0; core = core-same j; ram = ram-same j; ports = ports-same j; log = log-same j; at = at-same j })
           ∙ sym (at-end rom l s c at log (h .goes-on) none-skipped (rw (d .writes) at r))

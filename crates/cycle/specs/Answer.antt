@@ -27,25 +27,25 @@ pub record Answer : Type 0 where
   pub ram : List ℕ
   pub ports : List ℕ
   pub log : List ℕ
-  pub bytes : ℕ
+  pub at : ℕ
 
 abbrev pub startOf : Started → List ℕ → List ℕ → List ℕ → Answer
-startOf r ram ports log = record { stop = r .stop; core = r .core; ram = ram; ports = ports; log = log; bytes = r .bytes }
+startOf r ram ports log = record { stop = r .stop; core = r .core; ram = ram; ports = ports; log = log; at = r .at }
 
 -- an instruction that isn't begun
-abbrev pub heldBack : Core → ℕ → Started
-heldBack c k = record { core = c; bytes = 0; stop = k }
+abbrev pub heldBack : Core → (at : ℕ) → ℕ → Started
+heldBack c at k = record { core = c; at = at; stop = k }
 
-abbrev pub holds : ℕ → State → List ℕ → Answer
-holds k s log = startOf (heldBack (s .core) k) (s .ram) (s .ports) log
+abbrev pub holds : (at : ℕ) → ℕ → State → List ℕ → Answer
+holds at k s log = startOf (heldBack (s .core) at k) (s .ram) (s .ports) log
 
 -- what an outcome is on a log that is empty from `at` on; 3 where its records don't fit
 unfoldable pub answerOn : ℕ → Out State → State → List ℕ → Answer
-answerOn at (stop k) s log = holds k s log
+answerOn at (stop k) s log = holds at k s log
 answerOn at (went t w b) s log =
     cond (leb (length w) (length log - at))
-    (record { stop = 0; core = t .core; ram = t .ram; ports = t .ports; log = take at log ++ w ++ drop (at + length w) log; bytes = length w })
-    (holds 3 s log)
+    (record { stop = 0; core = t .core; ram = t .ram; ports = t .ports; log = take at log ++ w ++ drop (at + length w) log; at = at + length w })
+    (holds at 3 s log)
 
 -- what an instruction asks of its ROM, table, lines and state
 pub record Ready (rom table : List ℕ) (l : Lines) (s : State) : Type 0 where

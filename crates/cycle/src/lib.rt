@@ -15,22 +15,18 @@ ghost use Rattle.upd546.specs.Parts.{setOwed, setPc};
 ghost use Rattle.laws.specs.Burst.{unticked};
 ghost use Rattle.cycle.specs.Answer.{stateOf, answerOn, startOf, heldBack, Ready};
 
-// The core with what it owes, before the timer steps, and the bytes appended to the log; or `stop`, the number why the
-// instruction isn't begun (0: it is), with the core as it was.
+// The core with what it owes, before the timer steps, and where the log is empty from then on; or `stop`, the number why the
+// instruction isn't begun (0: it is), with both as they were.
 pub struct Started {
     pub core: Core,
-    pub bytes: usize,
+    pub at: usize,
     pub stop: u8,
 }
 
-fn held(core: Core, stop: u8) -> Started
-    ensures { λ r. ⌜ r ≡ heldBack core stop ⌝ }
+fn held(core: Core, at: usize, stop: u8) -> Started
+    ensures { λ r. ⌜ r ≡ heldBack core at stop ⌝ }
 {
-    Started {
-        core,
-        bytes: 0,
-        stop,
-    }
+    Started { core, at, stop }
 }
 
 fn store(ram: &mut [u8; RAM_WORDS], at: usize, word: u8)
@@ -71,7 +67,7 @@ pub fn execute(
 {
     let f = fetch::fetch_at(rom, table, c.flow.pc);
     if f.stop != 0 {
-        return held(c, f.stop);
+        return held(c, at, f.stop);
     }
     let g = Inputs {
         core: c,
@@ -83,10 +79,10 @@ pub fn execute(
     let e = effect::effect_of(g, ram, ports);
     let p = fetch::pass_over(rom, table, e.skip, e.core.flow.pc);
     if p.stop != 0 {
-        return held(c, p.stop);
+        return held(c, at, p.stop);
     }
     if log.len() - at < portlog::room(e.port) {
-        return held(c, 3);
+        return held(c, at, 3);
     }
     let bytes = portlog::output(&mut log[at..], ports, start + done, e.port, e.value);
     store(ram, e.at, e.word);
@@ -94,7 +90,7 @@ pub fn execute(
     let next = owing(core, p.pc, f.cycles - 1 + p.over);
     Started {
         core: next,
-        bytes,
+        at: at + bytes,
         stop: 0,
     }
 }

@@ -5,6 +5,8 @@ use native.Mathlib.Omega.{arith}
 use denote.Ref.{now}
 use lib.ListN.{length, length-drop}
 use Rattle.laws.proofs.Tails.{mid-tail}
+use Rattle.laws.proofs.Cycle.{records-length}
+use Rattle.portlog.specs.Appending.{writesOf}
 use Rattle.cycle.specs.Answer.{stateOf}
 use Rattle.cycle.proofs.Executing.{Doing, does-due, holds-fetch, writes-valid, cycles-some, holds-skip, holds-room, owed-small, goes}
 use borrow.Author.Needs.{needs}
@@ -125,6 +127,18 @@ add-owing c =
 owing-requires : tie.Need-owing-requires
 owing-requires c κs = search needs
 
+-- what is written fits
+add-t22 : tie.Need-add-t22
+add-t22 c =
+    let at-output = c .before .before .before .before .before .before .before .before in
+    let at-if3 = at-output .before .before .before in
+    let at-room = at-if3 .before in
+    let at-effect-of = at-room .before .before .before .before in
+    let e = at-effect-of .effect-of .result in
+    let at-entry = at-effect-of .before .before .before .before .before .before .before .before in
+    let fits = rw (at-room .room .ensures (e .value)) at (at-if3 .if3 .left) in
+    omega (arith, fits, at-output .output .ensures .count, records-length (at-entry .args .start + at-entry .args .done) (writesOf (e .port) (e .value)), at-entry .pre .1, at-entry .good .1 .1 .1 .1 .1 .0 .0)
+
 same-length : tie.Need-same-length
 same-length c = search needs
 
@@ -165,5 +179,6 @@ execute-spec =
     sub-owing
     add-owing
     owing-requires
+    add-t22
     same-length
     returns-4)
