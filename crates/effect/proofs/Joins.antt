@@ -1,108 +1,81 @@
--- From a group's effect to the effect of the instruction that is decoded. Assumes nothing.
+-- From how a group ends to what the instruction of a code comes to. Assumes nothing.
 use mathlib.Core.Path.{_≡_, _∙_, refl, sym, ap, subst}
-use mathlib.Core.List.{List}
-use Prim.Native.Nat.{ℕ}
+use mathlib.Core.List.{List, [], _++_, append-nil}
+use Prim.Native.Nat.{ℕ, zero, suc, _+_, _-_}
+use native.Mathlib.Nat.{add-zero}
 use native.Mathlib.Omega.{arith}
-use lib.ListN.{length, getD, set}
-use lib.Seq.{set-getD, set-out}
-use Rattle.upd546.specs.declared.Core.{Core}
-use Rattle.upd546.specs.TheMachine.{placeOf, wordAt, withWord, ramLength, dpOf, flagWord}
-use Rattle.upd546.specs.Instructions as chip
-use Rattle.upd546.specs.Instructions.{Instruction, instruction, stores}
-use Rattle.decode.specs.declared.Sum.{Sum}
-use Rattle.decode.specs.declared.Sum.the-variants as sums
-use Rattle.decode.specs.declared.Bit.{Bit}
-use Rattle.decode.specs.declared.Bit.the-variants as bits
-use Rattle.decode.specs.declared.Pointer.{Pointer}
-use Rattle.decode.specs.declared.Pointer.the-variants as pointers
-use Rattle.decode.specs.declared.Flag.{Flag}
-use Rattle.decode.specs.declared.Flag.the-variants as flags
-use Rattle.decode.specs.Named.{namedSum, namedBit, namedPointer, namedFlag}
+use lib.ListN.{length, take, drop, take-append-drop}
+use lib.Seq.{set-getD}
+use borrow.Author.Tests.{le-leb}
+use Rattle.runs.specs.Machine.{went}
+use Rattle.upd546.specs.declared.State.{State}
+use Rattle.upd546.specs.TheMachine.{placeOf, wordAt, withWord}
+use Rattle.upd546.specs.Ports.{latched, logBytes}
+use Rattle.upd546.specs.Instructions.{Instruction, instruction}
+use Rattle.upd546.specs.OneMachineCycle.{onStop}
+use Rattle.laws.specs.Burst.{owing, started}
 use Rattle.instructions.specs.declared.Inputs.{Inputs}
 use Rattle.instructions.specs.Groups.{givenOf}
-use Rattle.effect.specs.declared.Effect.{Effect}
-use Rattle.effect.specs.Effects.{effectOf, DoesAs, Does}
+use Rattle.effect.specs.declared.Started.{Started}
+use Rattle.effect.specs.Answer.{Answer, stateOf, startOf, answerOn}
+use Rattle.effect.specs.Endings.{effectOn, skipStop, onSkip, keptOn, outcomeOf, Begins, Outputs, EndsAs, EndsOn, EndsWith}
 
--- which word the instructions of a group work on
-pub sum-at-dp : (op : Sum) (c : Core) → namedSum op .address c ≡ dpOf c
-sum-at-dp sums.S c = refl
-sum-at-dp sums.Daa c = refl
-sum-at-dp sums.Ad c = refl
-sum-at-dp sums.Ads c = refl
-sum-at-dp sums.Das c = refl
-sum-at-dp sums.Clc c = refl
-sum-at-dp sums.Cm c = refl
-sum-at-dp sums.Inc c = refl
-sum-at-dp sums.Dec c = refl
-sum-at-dp sums.Cma c = refl
-sum-at-dp sums.Cia c = refl
-sum-at-dp sums.Exl c = refl
-sum-at-dp sums.Adc c = refl
-sum-at-dp sums.Stc c = refl
-sum-at-dp sums.Inm c = refl
-sum-at-dp sums.Dem c = refl
+-- what the code stands for
+pub begins-named : {rom table : List ℕ} {cycles : ℕ} {i : Instruction} (g : Inputs) → i ≡ instruction (g .code) → Begins rom table cycles (instruction (g .code)) (g .core)
+    → Begins rom table cycles i (g .core)
+begins-named {rom} {table} {cycles} g named b = subst (λ (i : Instruction). Begins rom table cycles i (g .core)) (sym named) b
 
-pub bit-at-dp : (op : Bit) (c : Core) → namedBit op .address c ≡ dpOf c
-bit-at-dp bits.Tab c = refl
-bit-at-dp bits.Rar c = refl
-bit-at-dp bits.Cmb c = refl
-bit-at-dp bits.Tmb c = refl
-bit-at-dp bits.Rmb c = refl
-bit-at-dp bits.Smb c = refl
-bit-at-dp bits.Ci c = refl
+pub outputs-named : {i : Instruction} (g : Inputs) (ports : List ℕ) → i ≡ instruction (g .code) → Outputs (instruction (g .code)) g ports → Outputs i g ports
+outputs-named g ports named o = subst (λ (i : Instruction). Outputs i g ports) (sym named) o
 
-pub pointer-at-dp : (op : Pointer) (c : Core) → namedPointer op .address c ≡ dpOf c
-pointer-at-dp pointers.Tal c = refl
-pointer-at-dp pointers.Tla c = refl
-pointer-at-dp pointers.Ded c = refl
-pointer-at-dp pointers.Ldi c = refl
-pointer-at-dp pointers.Cli c = refl
-pointer-at-dp pointers.Xm c = refl
-pointer-at-dp pointers.Xmd c = refl
-pointer-at-dp pointers.Ind c = refl
-pointer-at-dp pointers.Lm c = refl
-pointer-at-dp pointers.Xmi c = refl
-pointer-at-dp pointers.Ldz c = refl
-pointer-at-dp pointers.Li c = refl
+module _ (rom : List ℕ) (at : ℕ) (g : Inputs) (ram ports : List ℕ) (n : ℕ) (log : List ℕ) where
+  abbrev here : State
+  here = stateOf (g .core) ram ports n
 
-pub flag-at-flags : (op : Flag) (c : Core) → namedFlag op .address c ≡ flagWord
-flag-at-flags flags.Fbf c = refl
-flag-at-flags flags.Fbt c = refl
-flag-at-flags flags.Rfb c = refl
-flag-at-flags flags.Sfb c = refl
+  -- the answer of the instruction i
+  abbrev answerOf : Instruction → Answer
+  answerOf i = answerOn at (outcomeOf rom i g here) here log
 
-pub flags-place : placeOf flagWord ≡ 89
-unfolding placeOf
-flags-place = refl
+  -- one that writes no port: held back, or begun with this RAM
+  quiet-answer : (i : Instruction) → effectOn i g ram ports .writes ≡ []
+      → startOf (onSkip (skipStop (effectOn i g ram ports)) rom at i (g .core) (effectOn i g ram ports))
+      (keptOn (skipStop (effectOn i g ram ports)) ram (i .address (g .core)) (effectOn i g ram ports .word)) ports log
+      ≡ answerOf i
+  unfolding answerOn
+  quiet-answer i w = go (skipStop (effectOn i g ram ports))
+    where
+      go : (k : ℕ) → startOf (onSkip k rom at i (g .core) (effectOn i g ram ports)) (keptOn k ram (i .address (g .core)) (effectOn i g ram ports .word)) ports log
+          ≡ answerOn at (onStop k (started rom i (givenOf g (wordAt ram (i .address (g .core))) ports) (effectOn i g ram ports) here)) here log
+      go zero =
+          let b : at ≡ at + 0 = sym (add-zero at) in
+          let front = sym (append-nil (take at log)) in
+          let l : log ≡ take at log ++ [] ++ drop (at + 0) log = sym (take-append-drop at log) ∙ (λ j. front j ++ drop (b j) log) in
+          let e = effectOn i g ram ports in
+          rw (w, le-leb 0 (length log - at) (omega arith))
+          (λ j. record { stop = 0; core = owing rom i e; ram = withWord ram (i .address (g .core)) (e .word); ports = ports; log = l j; at = b j })
+      go (suc k) = refl
 
-module _ (g : Inputs) (ram ports : List ℕ) (e : Effect) (i : Instruction) where
-  -- an instruction that works on its word
-  word-does : e .at ≡ placeOf (i .address (g .core)) → effectOf e ≡ i .effect (givenOf g (getD ram (e .at) 0) ports) → DoesAs i g ram ports e
-  word-does p q =
-      let f : effectOf e ≡ i .effect (givenOf g (wordAt ram (i .address (g .core))) ports) = q ∙ ap (λ (n : ℕ). i .effect (givenOf g (getD ram n 0) ports)) p in
-      record {
-        core = ap (λ (x : chip.Effect). x .core) f;
-        skip = ap (λ (x : chip.Effect). x .skip) f;
-        writes = ap (λ (x : chip.Effect). x .writes) f;
-        stored = ap (λ (n : ℕ). set ram n (e .word)) p ∙ ap (λ (x : chip.Effect). withWord ram (i .address (g .core)) (x .word)) f;
-      }
+  module _ {i : Instruction} (named : i ≡ instruction (g .code)) where
+    pub on-answers : {d : Started} {ram′ : List ℕ} → EndsOn rom at i g ram ports d ram′ → startOf d ram′ ports log ≡ answerOf (instruction (g .code))
+    on-answers e = (λ j. startOf (e .is j) (e .ram-is j) ports log) ∙ quiet-answer i (e .no-writes) ∙ ap answerOf named
 
-  -- an instruction that leaves its word alone
-  plain-does : length ram ≡ ramLength → e .at ≡ 96 → ((word : ℕ) → stores word (effectOf e) ≡ i .effect (givenOf g word ports)) → DoesAs i g ram ports e
-  plain-does l p q =
-      let a = i .address (g .core) in
-      let f = q (wordAt ram a) in
-      record {
-        core = ap (λ (x : chip.Effect). x .core) f;
-        skip = ap (λ (x : chip.Effect). x .skip) f;
-        writes = ap (λ (x : chip.Effect). x .writes) f;
-        stored = set-out ram (e .at) (e .word) (omega arith) ∙ sym (set-getD ram (placeOf a) 0) ∙ ap (λ (x : chip.Effect). withWord ram a (x .word)) f;
-      }
+    -- the RAM is as it was where the word is stored back
+    pub as-answers : {d : Started} → ((word : ℕ) (ports : List ℕ) → EndsAs rom at i g word ports d) → startOf d ram ports log ≡ answerOf (instruction (g .code))
+    as-answers f =
+        let e = f (wordAt ram (i .address (g .core))) ports in
+        on-answers (record { is = e .is; ram-is = kept (skipStop (effectOn i g ram ports)) ∙ ap (λ (w : ℕ). keptOn (skipStop (effectOn i g ram ports)) ram (i .address (g .core)) w) (sym (e .word-is)); no-writes = e .no-writes })
+      where
+        kept : (k : ℕ) → ram ≡ keptOn k ram (i .address (g .core)) (wordAt ram (i .address (g .core)))
+        kept zero = sym (set-getD ram (placeOf (i .address (g .core))) 0)
+        kept (suc k) = refl
 
--- the same of the instruction that the code stands for
-module _ (g : Inputs) (ram ports : List ℕ) (e : Effect) (i : Instruction) (named : i ≡ instruction (g .code)) where
-  pub does-word : (a : ℕ) → i .address (g .core) ≡ a → e .at ≡ placeOf a → effectOf e ≡ i .effect (givenOf g (getD ram (e .at) 0) ports) → Does g ram ports e
-  does-word a r p q = subst (λ (x : Instruction). DoesAs x g ram ports e) named (word-does g ram ports e i (p ∙ ap placeOf (sym r)) q)
-
-  pub does-plain : length ram ≡ ramLength → e .at ≡ 96 → ((word : ℕ) → stores word (effectOf e) ≡ i .effect (givenOf g word ports)) → Does g ram ports e
-  does-plain l p q = subst (λ (x : Instruction). DoesAs x g ram ports e) named (plain-does g ram ports e i l p q)
+    pub with-answers : {d : Started} {ports′ log′ : List ℕ} → ((word : ℕ) (ram : List ℕ) → EndsWith rom at i g word n ram ports log d ports′ log′)
+        → startOf d ram ports′ log′ ≡ answerOf (instruction (g .code))
+    with-answers f =
+        let a = i .address (g .core) in
+        let e = f (wordAt ram a) ram in
+        let x = effectOn i g ram ports in
+        let same : ram ≡ withWord ram a (x .word) = sym (set-getD ram (placeOf a) 0) ∙ ap (λ (w : ℕ). withWord ram a w) (sym (e .word-is)) in
+        e .is
+        ∙ ap (λ (r : List ℕ). answerOn at (onStop (skipStop x) (went (record { core = owing rom i x; ports = latched (x .writes) ports; ram = r; cycle = record { 0 = n + 1 } }) (logBytes n (x .writes)) 1)) here log) same
+        ∙ ap answerOf named

@@ -1,39 +1,51 @@
-// The effect of the instruction of a code: decoded, done by its group, and joined to one core.
-// It may not know how a byte is fetched, what a skip passes over, nor how a run goes.
+// An instruction up to its end: decoded, done by its group, with what it skips, its RAM word and its records. Each group has an
+// end of its own, so that what it doesn't change stays where it is (docs/MEASUREMENTS.md).
+// Every stop is decided before anything lent is changed. It may not know of lines, interrupts and the timer's steps, nor how a
+// run goes.
+use decode::Acc;
+use decode::Control;
 use decode::Decoded;
-use instructions::Controlled;
+use decode::Flag;
+use decode::Jump;
+use decode::Move;
+use decode::Pointer;
+use decode::Port;
+use decode::Sum;
+use decode::Test;
+use decode::Working;
 use instructions::FLAG_PLACE;
-use instructions::Flagged;
 use instructions::Inputs;
-use instructions::Jumped;
-use instructions::Pointed;
-use instructions::Ported;
-use instructions::Summed;
-use instructions::Worked;
-use portlog::NO_PORT;
+use tables::InstructionTable;
 use upd546::Core;
+use upd546::Flow;
 use upd546::LATCHES;
 use upd546::MARK_OTHER;
 use upd546::RAM_WORDS;
 ghost use mathlib.Core.Path.{_≡_};
 ghost use mathlib.Core.List.{List};
-ghost use Prim.Native.Nat.{ℕ};
-ghost use lib.ListN.{length, getD};
+ghost use Prim.Native.Nat.{ℕ, _+_, _<_, _≤_};
+ghost use lib.ListN.{length, getD, set};
+ghost use Rattle.runs.specs.Refusals.{cycleLimit};
 ghost use Rattle.upd546.specs.TheMachine.{ramLength};
-ghost use Rattle.upd546.specs.Instructions.{stores};
+ghost use Rattle.upd546.specs.Parts.{setMark, setOwed, setPc};
+ghost use Rattle.upd546.specs.Instructions.{instruction};
 ghost use Rattle.laws.specs.Valid.{Scalars, ValidPorts, ValidRam};
-ghost use Rattle.instructions.specs.Groups.{givenOf, sumEffect, pointerEffect, workingEffect, flagEffect, jumpEffect, controlEffect, portEffect};
-ghost use Rattle.effect.specs.Effects.{effectOf, nextOf, Does};
+ghost use Rattle.decode.specs.Named.{namedTest, namedAcc, namedSum, namedMove, namedPointer, namedWorking, namedFlag, namedJump, namedControl, namedPort};
+ghost use Rattle.effect.specs.Answer.{stateOf, startOf, heldBack, answerOn};
+ghost use Rattle.effect.specs.Endings.{Begins, Outputs, EndsAs, EndsOn, EndsWith, outcomeOf};
 
-// The core, the RAM word that is stored back and its place (`RAM_WORDS`: none), whether the next instruction is skipped, and the port
-// that is written with its value, as `Ported` has them.
-pub struct Effect {
+// The core with what it owes, before the timer steps, and where the log is empty from then on; or `stop`, the number why the
+// instruction isn't begun (0: it is), with both as they were.
+pub struct Started {
     pub core: Core,
     pub at: usize,
-    pub word: u8,
-    pub skip: bool,
-    pub port: u8,
-    pub value: u8,
+    pub stop: u8,
+}
+
+pub fn held(core: Core, at: usize, stop: u8) -> Started
+    ensures { λ r. ⌜ r ≡ heldBack core at stop ⌝ }
+{
+    Started { core, at, stop }
 }
 
 fn load(ram: &[u8; RAM_WORDS], at: usize) -> u8
@@ -46,164 +58,337 @@ fn load(ram: &[u8; RAM_WORDS], at: usize) -> u8
     0
 }
 
-// The core that every instruction leaves but for its own effects.
-fn next(g: Inputs) -> Core
-    ensures { λ r. ⌜ r ≡ nextOf g ⌝ }
+fn store(ram: &mut [u8; RAM_WORDS], at: usize, word: u8)
+    requires { ⌜ length (now ram) ≡ ramLength ⌝ }
+    ensures { λ _. ⌜ now (ram .exit) ≡ set (now (ram .entry)) at word ⌝ }
 {
-    let core = g.core;
-    let mut c = upd546::copy_core(core);
-    let pc = g.after;
-    c.flow.pc = pc;
-    c.mark = MARK_OTHER;
-    c
+    if at < RAM_WORDS {
+        ram[at] = word;
+    }
 }
 
-fn after_sum(g: Inputs, at: usize, r: Summed) -> Effect
-    ensures { λ e. ⌜ (e .at ≡ at) × ((word : ℕ) (ports : List ℕ) → effectOf e ≡ sumEffect (givenOf g word ports) r) ⌝ }
+// The core with PC, mark and what it owes. It is copied field by field: a struct that is copied whole here doubles the
+// instructions of a run.
+fn begun(c: Core, pc: u16, mark: u8, owed: u8) -> Core
+    ensures { λ r. ⌜ r ≡ setOwed owed (setMark mark (setPc pc c)) ⌝ }
 {
-    let mut c = next(g);
+    let mut d = upd546::copy_core(c);
+    d.flow.pc = pc;
+    d.mark = mark;
+    d.owed = owed;
+    d
+}
+
+// Instructions that only skip.
+fn tests(
+    rom: &[u8],
+    table: &InstructionTable,
+    op: Test,
+    g: Inputs,
+    cycles: u8,
+    at: usize,
+) -> Started
+    requires { ⌜ Begins (now rom) (now table) cycles (namedTest op) (g .core) ⌝ }
+    ensures { λ r. ⌜ ((word : ℕ) (ports : List ℕ) → EndsAs (now (rom .entry)) at (namedTest op) g word ports r) ⌝ }
+{
+    let skip = instructions::test_group(op, g);
+    let p = fetch::pass_over(rom, table, skip, g.after);
+    let core = g.core;
+    if p.stop != 0 {
+        return held(core, at, p.stop);
+    }
+    let c = begun(core, p.pc, MARK_OTHER, cycles - 1 + p.over);
+    Started {
+        core: c,
+        at,
+        stop: 0,
+    }
+}
+
+// Acc and C alone.
+fn accs(rom: &[u8], table: &InstructionTable, op: Acc, g: Inputs, cycles: u8, at: usize) -> Started
+    requires { ⌜ Begins (now rom) (now table) cycles (namedAcc op) (g .core) ⌝ }
+    ensures { λ r. ⌜ ((word : ℕ) (ports : List ℕ) → EndsAs (now (rom .entry)) at (namedAcc op) g word ports r) ⌝ }
+{
+    let r = instructions::acc_group(op, g);
+    let p = fetch::pass_over(rom, table, r.skip, g.after);
+    let core = g.core;
+    if p.stop != 0 {
+        return held(core, at, p.stop);
+    }
+    let mut c = begun(core, p.pc, MARK_OTHER, cycles - 1 + p.over);
     c.registers.acc = r.acc;
     c.registers.carry = r.carry;
-    Effect {
+    Started {
         core: c,
         at,
-        word: r.word,
-        skip: r.skip,
-        port: NO_PORT,
-        value: 0,
+        stop: 0,
     }
 }
 
-fn after_pointer(g: Inputs, at: usize, r: Pointed) -> Effect
-    ensures { λ e. ⌜ (e .at ≡ at) × ((word : ℕ) (ports : List ℕ) → effectOf e ≡ pointerEffect (givenOf g word ports) r) ⌝ }
+// Acc, C and M.
+fn sums(
+    rom: &[u8],
+    table: &InstructionTable,
+    op: Sum,
+    g: Inputs,
+    cycles: u8,
+    ram: &mut [u8; RAM_WORDS],
+    at: usize,
+) -> Started
+    requires { ⌜ Begins (now rom) (now table) cycles (namedSum op) (g .core) × ValidRam (now ram) ⌝ }
+    ensures { λ r. ⌜ ((ports : List ℕ) → EndsOn (now (rom .entry)) at (namedSum op) g (now (ram .entry)) ports r (now (ram .exit))) ⌝ }
 {
-    let mut c = next(g);
+    let place = instructions::dp_place(g.core.registers.dph, g.core.registers.dpl);
+    let r = instructions::sum_group(op, g, load(ram, place));
+    let p = fetch::pass_over(rom, table, r.skip, g.after);
+    let core = g.core;
+    if p.stop != 0 {
+        return held(core, at, p.stop);
+    }
+    store(ram, place, r.word);
+    let mut c = begun(core, p.pc, MARK_OTHER, cycles - 1 + p.over);
+    c.registers.acc = r.acc;
+    c.registers.carry = r.carry;
+    Started {
+        core: c,
+        at,
+        stop: 0,
+    }
+}
+
+// DP and Acc.
+fn moves(
+    rom: &[u8],
+    table: &InstructionTable,
+    op: Move,
+    g: Inputs,
+    cycles: u8,
+    at: usize,
+) -> Started
+    requires { ⌜ Begins (now rom) (now table) cycles (namedMove op) (g .core) ⌝ }
+    ensures { λ r. ⌜ ((word : ℕ) (ports : List ℕ) → EndsAs (now (rom .entry)) at (namedMove op) g word ports r) ⌝ }
+{
+    let r = instructions::move_group(op, g);
+    let p = fetch::pass_over(rom, table, r.skip, g.after);
+    let core = g.core;
+    if p.stop != 0 {
+        return held(core, at, p.stop);
+    }
+    let mut c = begun(core, p.pc, r.mark, cycles - 1 + p.over);
     c.registers.acc = r.acc;
     c.registers.dph = r.dph;
     c.registers.dpl = r.dpl;
-    c.mark = r.mark;
-    Effect {
+    Started {
         core: c,
         at,
-        word: r.word,
-        skip: r.skip,
-        port: NO_PORT,
-        value: 0,
+        stop: 0,
     }
 }
 
-fn after_working(g: Inputs, at: usize, r: Worked) -> Effect
-    ensures { λ e. ⌜ (e .at ≡ at) × ((word : ℕ) (ports : List ℕ) → effectOf e ≡ workingEffect (givenOf g word ports) r) ⌝ }
+// DP, and M with it.
+fn pointers(
+    rom: &[u8],
+    table: &InstructionTable,
+    op: Pointer,
+    g: Inputs,
+    cycles: u8,
+    ram: &mut [u8; RAM_WORDS],
+    at: usize,
+) -> Started
+    requires { ⌜ Begins (now rom) (now table) cycles (namedPointer op) (g .core) × ValidRam (now ram) ⌝ }
+    ensures { λ r. ⌜ ((ports : List ℕ) → EndsOn (now (rom .entry)) at (namedPointer op) g (now (ram .entry)) ports r (now (ram .exit))) ⌝ }
 {
-    let mut c = next(g);
+    let place = instructions::dp_place(g.core.registers.dph, g.core.registers.dpl);
+    let r = instructions::pointer_group(op, g, load(ram, place));
+    let p = fetch::pass_over(rom, table, r.skip, g.after);
+    let core = g.core;
+    if p.stop != 0 {
+        return held(core, at, p.stop);
+    }
+    store(ram, place, r.word);
+    let mut c = begun(core, p.pc, MARK_OTHER, cycles - 1 + p.over);
     c.registers.acc = r.acc;
     c.registers.dph = r.dph;
     c.registers.dpl = r.dpl;
-    Effect {
+    Started {
         core: c,
         at,
-        word: r.word,
-        skip: false,
-        port: NO_PORT,
-        value: 0,
+        stop: 0,
     }
 }
 
-fn after_flag(g: Inputs, at: usize, r: Flagged) -> Effect
-    ensures { λ e. ⌜ (e .at ≡ at) × ((word : ℕ) (ports : List ℕ) → effectOf e ≡ flagEffect (givenOf g word ports) r) ⌝ }
+// The words Z, W, S, R, Y and X: none skips.
+fn workings(op: Working, g: Inputs, cycles: u8, ram: &mut [u8; RAM_WORDS], at: usize) -> Started
+    requires { ⌜ (cycles ≡ namedWorking op .cycles) × (1 ≤ cycles) × Scalars (g .core) × ValidRam (now ram) ⌝ }
+    ensures { λ r. ⌜ ((rom ports : List ℕ) → EndsOn rom at (namedWorking op) g (now (ram .entry)) ports r (now (ram .exit))) ⌝ }
 {
-    let c = next(g);
-    Effect {
+    let place = instructions::working_place(op);
+    let r = instructions::working_group(op, g, load(ram, place));
+    store(ram, place, r.word);
+    let core = g.core;
+    let mut c = begun(core, g.after, MARK_OTHER, cycles - 1);
+    c.registers.acc = r.acc;
+    c.registers.dph = r.dph;
+    c.registers.dpl = r.dpl;
+    Started {
         core: c,
         at,
-        word: r.word,
-        skip: r.skip,
-        port: NO_PORT,
-        value: 0,
+        stop: 0,
     }
 }
 
-fn after_jump(g: Inputs, r: Jumped) -> Effect
-    ensures { λ e. ⌜ (e .at ≡ ramLength) × ((word : ℕ) (ports : List ℕ) → stores word (effectOf e) ≡ jumpEffect (givenOf g word ports) r) ⌝ }
+// Bits of the flag word.
+fn flags(
+    rom: &[u8],
+    table: &InstructionTable,
+    op: Flag,
+    g: Inputs,
+    cycles: u8,
+    ram: &mut [u8; RAM_WORDS],
+    at: usize,
+) -> Started
+    requires { ⌜ Begins (now rom) (now table) cycles (namedFlag op) (g .core) × ValidRam (now ram) ⌝ }
+    ensures { λ r. ⌜ ((ports : List ℕ) → EndsOn (now (rom .entry)) at (namedFlag op) g (now (ram .entry)) ports r (now (ram .exit))) ⌝ }
 {
-    let mut c = next(g);
-    let flow = r.flow;
+    let r = instructions::flag_group(op, g, load(ram, FLAG_PLACE));
+    let p = fetch::pass_over(rom, table, r.skip, g.after);
+    let core = g.core;
+    if p.stop != 0 {
+        return held(core, at, p.stop);
+    }
+    store(ram, FLAG_PLACE, r.word);
+    let c = begun(core, p.pc, MARK_OTHER, cycles - 1 + p.over);
+    Started {
+        core: c,
+        at,
+        stop: 0,
+    }
+}
+
+// PC and the stack.
+fn jumps(
+    rom: &[u8],
+    table: &InstructionTable,
+    op: Jump,
+    g: Inputs,
+    cycles: u8,
+    at: usize,
+) -> Started
+    requires { ⌜ Begins (now rom) (now table) cycles (namedJump op) (g .core) ⌝ }
+    ensures { λ r. ⌜ ((word : ℕ) (ports : List ℕ) → EndsAs (now (rom .entry)) at (namedJump op) g word ports r) ⌝ }
+{
+    let r = instructions::jump_group(op, g);
+    let p = fetch::pass_over(rom, table, r.skip, r.flow.pc);
+    let core = g.core;
+    if p.stop != 0 {
+        return held(core, at, p.stop);
+    }
+    let mut c = begun(core, p.pc, MARK_OTHER, cycles - 1 + p.over);
+    let stack = r.flow.stack;
+    let flow = Flow { pc: p.pc, stack };
     c.flow = flow;
-    Effect {
+    Started {
         core: c,
-        at: RAM_WORDS,
-        word: 0,
-        skip: r.skip,
-        port: NO_PORT,
-        value: 0,
+        at,
+        stop: 0,
     }
 }
 
-fn after_control(g: Inputs, r: Controlled) -> Effect
-    ensures { λ e. ⌜ (e .at ≡ ramLength) × ((word : ℕ) (ports : List ℕ) → stores word (effectOf e) ≡ controlEffect (givenOf g word ports) r) ⌝ }
+// Flip-flops, carries and the timer.
+fn controls(
+    rom: &[u8],
+    table: &InstructionTable,
+    op: Control,
+    g: Inputs,
+    cycles: u8,
+    at: usize,
+) -> Started
+    requires { ⌜ Begins (now rom) (now table) cycles (namedControl op) (g .core) ⌝ }
+    ensures { λ r. ⌜ ((word : ℕ) (ports : List ℕ) → EndsAs (now (rom .entry)) at (namedControl op) g word ports r) ⌝ }
 {
-    let mut c = next(g);
+    let r = instructions::control_group(op, g);
+    let p = fetch::pass_over(rom, table, r.skip, g.after);
+    let core = g.core;
+    if p.stop != 0 {
+        return held(core, at, p.stop);
+    }
+    let mut c = begun(core, p.pc, r.mark, cycles - 1 + p.over);
     c.registers.carry = r.carry;
     c.registers.saved = r.saved;
     c.interrupt.int = r.int;
     c.interrupt.inte = r.inte;
     let timer = r.timer;
     c.timer = timer;
-    c.mark = r.mark;
-    Effect {
+    Started {
         core: c,
-        at: RAM_WORDS,
-        word: 0,
-        skip: r.skip,
-        port: NO_PORT,
-        value: 0,
+        at,
+        stop: 0,
     }
 }
 
-fn after_port(g: Inputs, r: Ported) -> Effect
-    ensures { λ e. ⌜ (e .at ≡ ramLength) × ((word : ℕ) (ports : List ℕ) → stores word (effectOf e) ≡ portEffect (givenOf g word ports) r) ⌝ }
+// Ports. The log is lent whole, with its write place, and the cycle in two parts, so that other groups needn't work out either.
+fn writes(
+    rom: &[u8],
+    table: &InstructionTable,
+    op: Port,
+    g: Inputs,
+    cycles: u8,
+    ports: &mut [u8; LATCHES],
+    log: &mut [u8],
+    at: usize,
+    start: u64,
+    done: u64,
+) -> Started
+    requires { ⌜ Begins (now rom) (now table) cycles (namedPort op) (g .core) × Outputs (namedPort op) g (now ports) × ValidPorts (now ports) × (at ≤ length (now log)) × (start + done < cycleLimit) ⌝ }
+    ensures { λ r. ⌜ ((word : ℕ) (ram : List ℕ) → EndsWith (now (rom .entry)) at (namedPort op) g word (start + done) ram (now (ports .entry)) (now (log .entry)) r (now (ports .exit)) (now (log .exit))) ⌝ }
 {
-    let mut c = next(g);
+    let r = instructions::port_group(op, g, ports);
+    let p = fetch::pass_over(rom, table, r.skip, g.after);
+    let core = g.core;
+    if p.stop != 0 {
+        return held(core, at, p.stop);
+    }
+    if log.len() - at < portlog::room(r.port) {
+        return held(core, at, 3);
+    }
+    let bytes = portlog::output(&mut log[at..], ports, start + done, r.port, r.value);
+    let mut c = begun(core, p.pc, MARK_OTHER, cycles - 1 + p.over);
     c.registers.acc = r.acc;
-    Effect {
+    Started {
         core: c,
-        at: RAM_WORDS,
-        word: 0,
-        skip: r.skip,
-        port: r.port,
-        value: r.value,
+        at: at + bytes,
+        stop: 0,
     }
 }
 
-// What the instruction of g's code does.
-pub fn effect_of(g: Inputs, ram: &[u8; RAM_WORDS], ports: &[u8; LATCHES]) -> Effect
-    requires { ⌜ Scalars (g .core) × ValidRam (now ram) × ValidPorts (now ports) ⌝ }
-    ensures { λ e. ⌜ Does g (now (ram .entry)) (now (ports .entry)) e ⌝ }
+// What the instruction of g's code, of so many base cycles, comes to in cycle `start + done`, with the log empty from `at` on.
+pub fn outcome(
+    rom: &[u8],
+    table: &InstructionTable,
+    g: Inputs,
+    cycles: u8,
+    ram: &mut [u8; RAM_WORDS],
+    ports: &mut [u8; LATCHES],
+    log: &mut [u8],
+    at: usize,
+    start: u64,
+    done: u64,
+) -> Started
+    requires { ⌜ Begins (now rom) (now table) cycles (instruction (g .code)) (g .core) × Outputs (instruction (g .code)) g (now ports) × ValidRam (now ram) × ValidPorts (now ports) × (at ≤ length (now log)) × (start + done < cycleLimit) ⌝ }
+    ensures { λ r. ⌜ startOf r (now (ram .exit)) (now (ports .exit)) (now (log .exit)) ≡ answerOn at (outcomeOf (now (rom .entry)) (instruction (g .code)) g (stateOf (g .core) (now (ram .entry)) (now (ports .entry)) (start + done))) (stateOf (g .core) (now (ram .entry)) (now (ports .entry)) (start + done)) (now (log .entry)) ⌝ }
 {
     let decoded = decode::decode(g.code);
     match decoded {
-        Decoded::Sums(op) => {
-            let at = instructions::dp_place(g.core.registers.dph, g.core.registers.dpl);
-            after_sum(g, at, instructions::sum_group(op, g, load(ram, at)))
-        }
-        Decoded::Bits(op) => {
-            let at = instructions::dp_place(g.core.registers.dph, g.core.registers.dpl);
-            after_sum(g, at, instructions::bit_group(op, g, load(ram, at)))
-        }
-        Decoded::Pointers(op) => {
-            let at = instructions::dp_place(g.core.registers.dph, g.core.registers.dpl);
-            after_pointer(g, at, instructions::pointer_group(op, g, load(ram, at)))
-        }
-        Decoded::Workings(op) => {
-            let at = instructions::working_place(op);
-            after_working(g, at, instructions::working_group(op, g, load(ram, at)))
-        }
-        Decoded::Flags(op) => {
-            let at = FLAG_PLACE;
-            after_flag(g, at, instructions::flag_group(op, g, load(ram, at)))
-        }
-        Decoded::Jumps(op) => after_jump(g, instructions::jump_group(op, g)),
-        Decoded::Controls(op) => after_control(g, instructions::control_group(op, g)),
-        Decoded::Ports(op) => after_port(g, instructions::port_group(op, g, ports)),
+        Decoded::Tests(op) => tests(rom, table, op, g, cycles, at),
+        Decoded::Accs(op) => accs(rom, table, op, g, cycles, at),
+        Decoded::Sums(op) => sums(rom, table, op, g, cycles, ram, at),
+        Decoded::Moves(op) => moves(rom, table, op, g, cycles, at),
+        Decoded::Pointers(op) => pointers(rom, table, op, g, cycles, ram, at),
+        Decoded::Workings(op) => workings(op, g, cycles, ram, at),
+        Decoded::Flags(op) => flags(rom, table, op, g, cycles, ram, at),
+        Decoded::Jumps(op) => jumps(rom, table, op, g, cycles, at),
+        Decoded::Controls(op) => controls(rom, table, op, g, cycles, at),
+        Decoded::Ports(op) => writes(rom, table, op, g, cycles, ports, log, at, start, done),
     }
 }

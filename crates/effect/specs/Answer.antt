@@ -1,20 +1,13 @@
 -- What an instruction on lent RAM, latches and log comes to. Assumes nothing: these are definitions.
-use Prim.Native.Nat.{ℕ, _+_, _-_, _<_}
-use mathlib.Core.Path.{_≡_}
+use Prim.Native.Nat.{ℕ, _+_, _-_}
 use mathlib.Core.Bool.{cond}
 use mathlib.Core.List.{List, _++_}
 use lib.Dec.{leb}
 use lib.ListN.{length, take, drop}
 use Rattle.runs.specs.Machine.{Out, stop, went}
-use Rattle.runs.specs.Refusals.{cycleLimit}
-use Rattle.runs.specs.Laws.{Bytes}
 use Rattle.upd546.specs.declared.Core.{Core}
-use Rattle.upd546.specs.declared.Lines.{Lines}
 use Rattle.upd546.specs.declared.State.{State}
-use Rattle.upd546.specs.TheMachine.{romLength}
-use Rattle.tables.specs.Tables.{instructionTable}
-use Rattle.laws.specs.Valid.{Valid, ValidLines}
-use Rattle.cycle.specs.declared.Started.{Started}
+use Rattle.effect.specs.declared.Started.{Started}
 
 -- the state that a core, lent RAM and latches and the cycle number are
 abbrev pub stateOf : Core → List ℕ → List ℕ → ℕ → State
@@ -46,12 +39,3 @@ answerOn at (went t w b) s log =
     cond (leb (length w) (length log - at))
     (record { stop = 0; core = t .core; ram = t .ram; ports = t .ports; log = take at log ++ w ++ drop (at + length w) log; at = at + length w })
     (holds at 3 s log)
-
--- what an instruction asks of its ROM, table, lines and state
-pub record Ready (rom table : List ℕ) (l : Lines) (s : State) : Type 0 where
-  pub rom-length : length rom ≡ romLength
-  pub rom-bytes : Bytes rom
-  pub sizes : table ≡ instructionTable
-  pub lines : ValidLines l
-  pub valid : Valid s
-  pub below : s .cycle .0 < cycleLimit
