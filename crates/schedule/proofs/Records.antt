@@ -1,27 +1,45 @@
 -- A schedule's number from its records' numbers, and the cycles of an accepted one. Assumes nothing.
 use mathlib.Core.Path.{_≡_, _∙_, refl, sym, ap}
+use mathlib.Core.Bool.{Bool, true, false}
 use mathlib.Core.List.{List}
 use mathlib.Core.Logic.{⊎-elim}
-use Prim.Native.Nat.{ℕ, zero, suc, _+_, _-_, _*_, _%_, _<_, _≤_}
+use Prim.Native.Nat.{ℕ, zero, suc, _+_, _-_, _*_, _/_, _%_, _<_, _≤_}
 use native.Mathlib.Nat.{eq-or-lt-of-le}
 use native.Mathlib.Numerals.{add-one}
 use native.Mathlib.Omega.{arith}
-use lib.Dec.{ltb}
-use lib.ListN.{length}
-use borrow.Author.Tests.{ltb-true, lt-ltb, le-ltb, le-leb, lt-leb, eq-eqb, ne-eqb}
+use lib.Dec.{ltb, leb, eqb}
+use lib.ListN.{length, getD}
+use borrow.Author.Tests.{ltb-true, leb-true, eqb-true, lt-ltb, le-ltb, le-leb, lt-leb, eq-eqb, ne-eqb}
 use Rattle.runs.specs.Refusals.{firstOf, unless}
 use Rattle.runs.proofs.Refusals.{first-at, first-past, first-here, last-one, passes}
+use Rattle.upd546.specs.Bytes.{numberAt}
 use Rattle.upd546.specs.TheLineSchedule.{recordLength, maxRecords, recordCount, recordByte, recordCycle, bytesNumber, orderNumber, recordNumber, recordsNumber, scheduleNumber}
-use Rattle.schedule.specs.Cursor.{lastCycle}
+use Rattle.big_endian.proofs.Numbers.{number-next}
+use Rattle.schedule.specs.Checked.{lastCycle}
 
--- one record: its bytes, then its order
-pub bad-level : (sched : List ℕ) (i : ℕ) → 1 < recordByte sched i 8 → recordNumber sched i ≡ 13
-unfolding bytesNumber firstOf
-bad-level sched i h = rw (lt-leb (recordByte sched i 8) 1 h)
+-- The first eight bytes of a record, as two numbers of four: the ports are its last two.
+pub head-cycle : (sched : List ℕ) (at : ℕ) → at + 8 ≤ length sched → ((k : ℕ) → getD sched k 0 < 256)
+    → (4294967296 * numberAt sched at 4 + numberAt sched (at + 4) 4) / 65536 ≡ numberAt sched at 6
+head-cycle sched at h b =
+    let five = number-next sched at 4 refl (omega arith) in
+    let six = number-next sched at 5 refl (omega arith) in
+    let one = number-next sched (at + 4) 0 refl (omega arith) in
+    let two = number-next sched (at + 4) 1 refl (omega arith) in
+    let three = number-next sched (at + 4) 2 refl (omega arith) in
+    let four = number-next sched (at + 4) 3 refl (omega arith) in
+    let fifth : getD sched (at + 4 + 0) 0 ≡ getD sched (at + 4) 0 = ap (λ (k : ℕ). getD sched k 0) (omega arith) in
+    let sixth : getD sched (at + 4 + 1) 0 ≡ getD sched (at + 5) 0 = ap (λ (k : ℕ). getD sched k 0) (omega arith) in
+    omega (arith, five, six, one, two, three, four, fifth, sixth, b (at + 4 + 2), b (at + 4 + 3))
 
-pub bad-last : (sched : List ℕ) (i : ℕ) → recordByte sched i 8 ≤ 1 → (recordByte sched i 9 ≡ 0 → ⊥) → recordNumber sched i ≡ 13
+-- one record: its bytes, the last two as one number, then its order
+pub bad-bytes : (sched : List ℕ) (i : ℕ) → 1 < 256 * recordByte sched i 9 + recordByte sched i 8 → recordNumber sched i ≡ 13
 unfolding bytesNumber firstOf
-bad-last sched i h ne = rw (le-leb (recordByte sched i 8) 1 h, ne-eqb (recordByte sched i 9) 0 ne)
+bad-bytes sched i h = go (leb (recordByte sched i 8) 1) refl (eqb (recordByte sched i 9) 0) refl
+  where
+    go : (s : Bool) → leb (recordByte sched i 8) 1 ≡ s → (t : Bool) → eqb (recordByte sched i 9) 0 ≡ t → recordNumber sched i ≡ 13
+    go true p true q = absurd (omega (arith, leb-true (recordByte sched i 8) 1 p, eqb-true (recordByte sched i 9) 0 q))
+    go true p false q = rw (p, q)
+    go false p t q = rw p
 
 pub by-order : (sched : List ℕ) (i : ℕ) → recordByte sched i 8 ≤ 1 → recordByte sched i 9 ≡ 0 → recordNumber sched i ≡ orderNumber sched i
 unfolding bytesNumber firstOf
@@ -37,18 +55,28 @@ unfolding orderNumber lastCycle
 order-not sched zero n h = absurd (n refl)
 order-not sched (suc i) n h = rw (le-ltb (recordCycle sched i) (recordCycle sched (suc i)) h)
 
+pub order-refused : (sched : List ℕ) (i : ℕ) → (orderNumber sched i ≡ 0 → ⊥) → orderNumber sched i ≡ 14
+unfolding orderNumber
+order-refused sched zero n = absurd (n refl)
+order-refused sched (suc i) n = go (ltb (recordCycle sched i) (recordCycle sched (suc i))) n
+  where
+    go : (b : Bool) → (unless b 14 ≡ 0 → ⊥) → unless b 14 ≡ 14
+    go true m = absurd (m refl)
+    go false m = refl
+
 pub order-kept : (sched : List ℕ) (i : ℕ) → lastCycle sched i < recordCycle sched i → orderNumber sched i ≡ 0
 unfolding orderNumber lastCycle
 order-kept sched zero h = refl
 order-kept sched (suc i) h = rw (lt-ltb (recordCycle sched i) (recordCycle sched (suc i)) h)
 
-pub last-first : (sched : List ℕ) → 0 ≡ lastCycle sched 0
+-- the cycle of the record before, at the first record and one record on
+pub last-first : (sched : List ℕ) → lastCycle sched 0 ≡ 0
 unfolding lastCycle
 last-first sched = refl
 
-pub last-next : (sched : List ℕ) (i : ℕ) {cycle : ℕ} → cycle ≡ recordCycle sched i → cycle ≡ lastCycle sched (i + 1)
+pub last-next : (sched : List ℕ) (i : ℕ) → lastCycle sched (i + 1) ≡ recordCycle sched i
 unfolding lastCycle
-last-next sched i e = rw (add-one i, e)
+last-next sched i = rw (add-one i)
 
 -- the tests of the length
 pub too-long : (sched : List ℕ) → recordLength * maxRecords < length sched → scheduleNumber sched ≡ 12

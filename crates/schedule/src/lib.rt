@@ -6,11 +6,13 @@ use runs::Refusal;
 use upd546::CYCLE_BYTES;
 use upd546::Lines;
 ghost use mathlib.Core.Path.{_≡_};
-ghost use Prim.Native.Nat.{_+_, _<_, _≤_, _^_};
+ghost use Prim.Native.Nat.{_+_, _*_, _/_, _<_, _≤_, _^_};
+ghost use lib.Dec.{eqb};
 ghost use Rattle.runs.specs.Numbers.{outcomeNumber};
 ghost use Rattle.runs.specs.Refusals.{cycleLimit};
 ghost use Rattle.upd546.specs.TheLineSchedule.{recordLength, recordCount, recordByte, recordCycle, recordLines, recordNumber, scheduleNumber};
-ghost use Rattle.schedule.specs.Cursor.{lastCycle, nextCycle, linesAfter, Counted, Stands};
+ghost use Rattle.schedule.specs.Checked.{lastCycle, FirstRefused};
+ghost use Rattle.schedule.specs.Cursor.{nextCycle, linesAfter, Counted, Stands};
 
 // A record's bytes: 0 to 5 the cycle, 6 ports A and B, 7 ports C and D, 8 the INT level, 9 zero.
 const RECORD_LENGTH: usize = 10;
@@ -63,27 +65,77 @@ fn lines_at(sched: &[u8], i: usize) -> Lines
     }
 }
 
-// Whether record i, which has this cycle, is accepted, where those before it are; `last` is the cycle of the record before it.
-fn record_check(sched: &[u8], i: usize, cycle: u64, last: u64) -> Outcome
-    requires { ⌜ (i < recordCount (now sched)) × (cycle ≡ recordCycle (now sched) i) × (last ≡ lastCycle (now sched) i) ⌝ }
-    ensures { λ r. ⌜ outcomeNumber r ≡ recordNumber (now (sched .entry)) i ⌝ }
+// The first eight bytes of record i as one number: the cycle, and the ports below it. Read as four and four, the compiler makes
+// one load of them.
+fn head_at(sched: &[u8], i: usize) -> u64
+    requires { ⌜ i < recordCount (now sched) ⌝ }
+    ensures { λ r. ⌜ r / 65536 ≡ recordCycle (now (sched .entry)) i ⌝ }
 {
-    if 1 < byte_at(sched, i, 8) {
-        return Outcome::Refused(Refusal::RecordBytes);
-    }
-    if byte_at(sched, i, 9) != 0 {
-        return Outcome::Refused(Refusal::RecordBytes);
-    }
-    if i == 0 {
-        return Outcome::Done;
-    }
-    if cycle <= last {
-        return Outcome::Refused(Refusal::RecordOrder);
-    }
-    Outcome::Done
+    let at = RECORD_LENGTH * i;
+    let high = big_endian::number_at(sched, at, 4);
+    let low = big_endian::number_at(sched, at + 4, 4);
+    4294967296 * high + low
 }
 
-// Whether a schedule is accepted, and if not, why. The cycle of each record is read once.
+// The last two bytes of record i as one number with the INT level as its low byte: one load, and one test of both. It is at most 1
+// where the level is 0 or 1 and the last byte is zero.
+fn tail_at(sched: &[u8], i: usize) -> u16
+    requires { ⌜ i < recordCount (now sched) ⌝ }
+    ensures { λ r. ⌜ r ≡ 256 * recordByte (now (sched .entry)) i 9 + recordByte (now (sched .entry)) i 8 ⌝ }
+{
+    let int = byte_at(sched, i, 8) as u16;
+    let zero = byte_at(sched, i, 9) as u16;
+    256 * zero + int
+}
+
+// Whether record i, which has this head, is accepted, where those before it are. `last` is the greatest head that has the cycle
+// of the record before it, so that comparing heads compares cycles.
+fn accepts(sched: &[u8], i: usize, head: u64, last: u64) -> bool
+    requires { ⌜ (i < recordCount (now sched)) × (head / 65536 ≡ recordCycle (now sched) i) × (last ≡ 65536 * lastCycle (now sched) i + 65535) ⌝ }
+    ensures { λ r. ⌜ r ≡ eqb (recordNumber (now (sched .entry)) i) 0 ⌝ }
+{
+    if 1 < tail_at(sched, i) {
+        return false;
+    }
+    if i == 0 {
+        return true;
+    }
+    if head <= last {
+        return false;
+    }
+    true
+}
+
+// The number of records before the first that is refused.
+fn accepted(sched: &[u8]) -> usize
+    ensures { λ r. ⌜ FirstRefused (now (sched .entry)) r ⌝ }
+{
+    let count = sched.len() / RECORD_LENGTH;
+    let mut last: u64 = 65535;
+    let mut i = 0;
+    while i < count {
+        let head = head_at(sched, i);
+        if !accepts(sched, i, head, last) {
+            return i;
+        }
+        last = head / 65536 * 65536 + 65535;
+        i += 1;
+    }
+    i
+}
+
+// Why record i is refused.
+fn refusal_at(sched: &[u8], i: usize) -> Outcome
+    requires { ⌜ (i < recordCount (now sched)) × (recordNumber (now sched) i ≡ 0 → ⊥) ⌝ }
+    ensures { λ r. ⌜ outcomeNumber r ≡ recordNumber (now (sched .entry)) i ⌝ }
+{
+    if tail_at(sched, i) <= 1 {
+        return Outcome::Refused(Refusal::RecordOrder);
+    }
+    Outcome::Refused(Refusal::RecordBytes)
+}
+
+// Whether a schedule is accepted, and if not, why.
 pub fn check(sched: &[u8]) -> Outcome
     ensures { λ r. ⌜ outcomeNumber r ≡ scheduleNumber (now (sched .entry)) ⌝ }
 {
@@ -93,17 +145,9 @@ pub fn check(sched: &[u8]) -> Outcome
     if sched.len() % RECORD_LENGTH != 0 {
         return Outcome::Refused(Refusal::ScheduleLength);
     }
-    let count = sched.len() / RECORD_LENGTH;
-    let mut last: u64 = 0;
-    let mut i = 0;
-    while i < count {
-        let cycle = cycle_at(sched, i);
-        let found = record_check(sched, i, cycle, last);
-        if runs::outcome_number(found) != 0 {
-            return found;
-        }
-        last = cycle;
-        i += 1;
+    let i = accepted(sched);
+    if i < sched.len() / RECORD_LENGTH {
+        return refusal_at(sched, i);
     }
     Outcome::Done
 }
