@@ -312,14 +312,11 @@ pub fn register_table() -> RegisterTable
     REGISTERS
 }
 
-// The half of its entry that a code has.
+// The half of its entry that a code has. Taken by a shift, which is faster than a branch (docs/MEASUREMENTS.md).
 fn half_for(code: u8, entry: u8) -> u8
     ensures { λ r. ⌜ r ≡ halfFor code entry ⌝ }
 {
-    if code < 128 {
-        return entry % 16;
-    }
-    entry / 16
+    (entry >> (code / 128 * 4)) % 16
 }
 
 // The bytes and base cycles of a code, for decoding and for skipping.
