@@ -1,9 +1,10 @@
 -- A turn of the loop: what it asks, and what it comes to. Assumes nothing: these are definitions.
 use mathlib.Core.Path.{_≡_}
-use mathlib.Core.Bool.{Bool, true, false}
+use mathlib.Core.Bool.{Bool, true, false, cond}
 use mathlib.Core.List.{List, _++_}
 use mathlib.Core.Option.{some}
 use Prim.Native.Nat.{ℕ, _+_, _-_, _<_, _≤_, min}
+use lib.Dec.{eqb}
 use lib.ListN.{length, drop}
 use Rattle.runs.specs.Refusals.{cycleLimit}
 use Rattle.runs.specs.TwoRunners.{still, within}
@@ -14,7 +15,7 @@ use Rattle.upd546.specs.declared.Interrupt.{Interrupt}
 use Rattle.upd546.specs.declared.Lines.{Lines}
 use Rattle.upd546.specs.declared.State.{State}
 use Rattle.upd546.specs.declared.Timer.{Timer}
-use Rattle.upd546.specs.TheMachine.{romLength, markStm}
+use Rattle.upd546.specs.TheMachine.{romLength, markEi, markStm}
 use Rattle.upd546.specs.Parts.{setOwed}
 use Rattle.upd546.specs.TheLineSchedule.{linesAt}
 use Rattle.upd546.specs.Timer.{ticksLeft}
@@ -26,6 +27,8 @@ use Rattle.laws.specs.Valid.{Valid}
 use Rattle.tables.specs.Tables.{instructionTable, positionTable}
 use Rattle.cycle.specs.Answer.{stateOf}
 use Rattle.burst.specs.declared.Stretch.{Stretch}
+use Rattle.burst.specs.declared.Late.{Late}
+use Rattle.burst.specs.declared.Events.{Events}
 
 -- at the boundary before the state's cycle: `left` cycles are left, the lines are l up to the cycle `next`, and the runner doesn't
 -- jump here
@@ -55,6 +58,14 @@ pub record Horizon (interrupt : Interrupt) (timer : Timer) (next n left h : ℕ)
   pub before-tick : 0 < timer .register → h ≤ ticksLeft timer
   pub free : 1 < h → Free interrupt
 
+-- where EI or STM, ending after `done` cycles, leaves an event that is h cycles away, and the cycles after which the timer was set:
+-- EI moves it where an interrupt may be due, STM sets the timer, and one that has come stays. `quiet` cycles are up to the end of
+-- the run and the next record.
+pub record Moves (mark int : ℕ) (timer : Timer) (done h since quiet : ℕ) (e : Events) : Type 0 where
+  pub come : h ≤ done → (e .horizon ≡ h) × (e .since ≡ since)
+  pub ei : done < h → mark ≡ markEi → (e .horizon ≡ cond (eqb int 1) done h) × (e .since ≡ since)
+  pub stm : done < h → (mark ≡ markEi → ⊥) → (e .horizon ≡ min quiet (done + ticksLeft timer)) × (e .since ≡ done)
+
 -- no cycle is begun: its number, and nothing has changed
 pub record Held (rom sched : List ℕ) (s : State) (log : List ℕ) (number : ℕ) (ram ports log′ : List ℕ) : Type 0 where
   pub stops : within upd546 rom sched (length log) 1 s ≡ still s (some number)
@@ -83,15 +94,17 @@ pub record Forwards (core : Core) (cycles : ℕ) : Type 0 where
   pub register : core .timer .register < 64
   pub ticks-left : (core .mark ≡ markStm → ⊥) → 0 < core .timer .register → cycles ≤ ticksLeft (core .timer)
 
--- what a burst comes to: the same, with the timer behind by its cycles
-pub record Bursts (skips : Bool) (rom sched : List ℕ) (next left : ℕ) (s : State) (log : List ℕ) (r : Stretch) (ram ports log′ : List ℕ) : Type 0 where
-  pub held : r .cycles ≡ 0 → Held rom sched s log (r .stop) ram ports log′
-  pub went : (r .cycles ≡ 0 → ⊥) → Went skips rom sched next left s log (forward (r .cycles) (r .core)) (r .cycles) (r .begun) (r .bytes) ram ports log′
-  pub forwards : Forwards (r .core) (r .cycles)
+-- what a burst comes to: the same, with the timer behind
+pub record Bursts (skips : Bool) (rom sched : List ℕ) (next left : ℕ) (s : State) (log : List ℕ) (r : Late) (ram ports log′ : List ℕ) : Type 0 where
+  pub held : r .stretch .cycles ≡ 0 → Held rom sched s log (r .stretch .stop) ram ports log′
+  pub went : (r .stretch .cycles ≡ 0 → ⊥)
+      → Went skips rom sched next left s log (forward (r .late) (r .stretch .core)) (r .stretch .cycles) (r .stretch .begun) (r .stretch .bytes) ram ports log′
+  pub forwards : Forwards (r .stretch .core) (r .late)
 
 -- where a burst ends whose last instruction ends after `done` cycles: at the event, with the rest owed
-abbrev pub endedAt : Core → (done begun bytes h : ℕ) → Stretch
-endedAt c done begun bytes h = record { core = setOwed (done - h) c; cycles = min done h; begun = begun; bytes = bytes; stop = 0 }
+abbrev pub endedAt : Core → (done begun bytes h since : ℕ) → Late
+endedAt c done begun bytes h since =
+    record { stretch = record { core = setOwed (done - h) c; cycles = min done h; begun = begun; bytes = bytes; stop = 0 }; late = min done h - since }
 
 -- one cycle that begins no instruction
 abbrev pub oneCycle : Core → Stretch

@@ -1,7 +1,7 @@
 // A turn of the loop of both runners: the cycle of an acceptance, an owed cycle, or a burst.
 // A burst is instructions one after the other up to the next event: a record of the schedule, the end of the run, the timer's
 // last tick, an interrupt that may be due. Until then the lines stay, TM stays and no interrupt is accepted, so the timer is left
-// behind and brought forward once, at the end.
+// behind and brought forward once, at the end. EI and STM move the next event; the burst goes on.
 // It may not know how a schedule is read, what an instruction does, nor what a run answers.
 use tables::InstructionTable;
 use tables::PositionTable;
@@ -16,12 +16,14 @@ use upd546::RAM_WORDS;
 use upd546::Timer;
 ghost use mathlib.Core.Path.{_≡_};
 ghost use Prim.Native.Nat.{_+_, _-_, _<_, _≤_};
+ghost use Rattle.runs.specs.Refusals.{cycleLimit};
+ghost use Rattle.upd546.specs.TheMachine.{markEi};
 ghost use Rattle.upd546.specs.Timer.{ticksLeft};
 ghost use Rattle.laws.specs.Timer.{ticks};
 ghost use Rattle.laws.specs.Burst.{forward};
 ghost use Rattle.tables.specs.Tables.{positionTable, registerTable};
 ghost use Rattle.cycle.specs.Answer.{stateOf};
-ghost use Rattle.burst.specs.Turn.{Turn, Due, Horizon, Turned, Bursts, Forwards, endedAt, oneCycle};
+ghost use Rattle.burst.specs.Turn.{Turn, Due, Horizon, Moves, Turned, Bursts, Forwards, endedAt, oneCycle};
 
 // The core, the cycles, the instructions begun and the bytes appended to the log; or `stop`, the number why no cycle was begun.
 pub struct Stretch {
@@ -30,6 +32,12 @@ pub struct Stretch {
     pub begun: u64,
     pub bytes: usize,
     pub stop: u8,
+}
+
+// A stretch whose timer is behind by so many cycles.
+pub struct Late {
+    pub stretch: Stretch,
+    pub late: u64,
 }
 
 // The cycles up to the next event.
@@ -54,32 +62,75 @@ fn horizon_of(
     jump::lesser(quiet, jump::ticks_left(positions, timer))
 }
 
+// The cycles up to the next event, and the cycles after which the timer was set; both from the start of the burst on.
+pub struct Events {
+    pub horizon: u64,
+    pub since: u64,
+}
+
+// The next event after EI or STM that ends after `done` cycles. EI lets in an interrupt that is kept back: it may be due at once.
+// STM sets the timer. An event that has come stays.
+fn events_after(
+    positions: &PositionTable,
+    mark: u8,
+    int: u8,
+    timer: Timer,
+    done: u64,
+    horizon: u64,
+    since: u64,
+    quiet: u64,
+) -> Events
+    requires { ⌜ (now positions ≡ positionTable) × (timer .register < 64) × ((mark ≡ markEi → ⊥) → 0 < timer .register) × (horizon ≤ cycleLimit) ⌝ }
+    ensures { λ r. ⌜ Moves mark int timer done horizon since quiet r ⌝ }
+{
+    if mark == MARK_EI {
+        if (int == 1) & (done < horizon) {
+            return Events {
+                horizon: done,
+                since,
+            };
+        }
+        return Events { horizon, since };
+    }
+    if done < horizon {
+        return Events {
+            horizon: jump::lesser(quiet, done + jump::ticks_left(positions, timer)),
+            since: done,
+        };
+    }
+    Events { horizon, since }
+}
+
 // Where a burst ends whose last instruction ends after `done` cycles: at the event, with the rest owed.
-fn ended(c: Core, done: u64, begun: u64, bytes: usize, horizon: u64) -> Stretch
-    requires { ⌜ (c .owed ≡ 0) × (done ≤ horizon + 3) ⌝ }
-    ensures { λ r. ⌜ r ≡ endedAt c done begun bytes horizon ⌝ }
+fn ended(c: Core, done: u64, begun: u64, bytes: usize, horizon: u64, since: u64) -> Late
+    requires { ⌜ (c .owed ≡ 0) × (done ≤ horizon + 3) × (since ≤ done) × (since ≤ horizon) ⌝ }
+    ensures { λ r. ⌜ r ≡ endedAt c done begun bytes horizon since ⌝ }
 {
     if horizon < done {
         let mut core = c;
         core.owed = (done - horizon) as u8;
-        return Stretch {
+        let stretch = Stretch {
             core,
             cycles: horizon,
             begun,
             bytes,
             stop: 0,
         };
+        let late = horizon - since;
+        return Late { stretch, late };
     }
-    Stretch {
+    let stretch = Stretch {
         core: c,
         cycles: done,
         begun,
         bytes,
         stop: 0,
-    }
+    };
+    let late = done - since;
+    Late { stretch, late }
 }
 
-// Instructions one after the other, from the core `before` at cycle n on. It ends after EI and STM, before an instruction that
+// Instructions one after the other, from the core `before` at cycle n on. It ends at the next event, before an instruction that
 // can't be begun, and, where the runner jumps and the timer runs, before a loop that waits on it.
 fn burst(
     rom: &[u8],
@@ -95,13 +146,14 @@ fn burst(
     n: u64,
     left: u64,
     skips: bool,
-) -> Stretch
+) -> Late
     requires { ⌜ Turn skips (now rom) (now sched) (now table) (now positions) lines next left (stateOf before (now ram) (now ports) n) × Due (stateOf before (now ram) (now ports) n) ⌝ }
     ensures { λ r. ⌜ Bursts skips (now (rom .entry)) (now (sched .entry)) next left (stateOf before (now (ram .entry)) (now (ports .entry)) n) (now (log .entry)) r (now (ram .exit)) (now (ports .exit)) (now (log .exit)) ⌝ }
 {
     let first = steps::taken(lines, before);
-    let horizon = horizon_of(positions, first.interrupt, first.timer, next, n, left);
-    let watch = skips & (first.timer.register != 0);
+    let mut horizon = horizon_of(positions, first.interrupt, first.timer, next, n, left);
+    let mut watch = skips & (first.timer.register != 0);
+    let mut since: u64 = 0;
     let mut core = first;
     let mut done: u64 = 0;
     let mut begun: u64 = 0;
@@ -109,25 +161,42 @@ fn burst(
     loop {
         let o = cycle::execute(rom, table, core, ram, ports, log, at, lines, n, done);
         if o.stop != 0 {
-            return Stretch {
+            let stretch = Stretch {
                 core,
                 cycles: done,
                 begun,
                 bytes: at,
                 stop: o.stop,
             };
+            let late = done - since;
+            return Late { stretch, late };
         }
         core = o.core;
-        at = at + o.bytes;
+        at = o.at;
         begun = begun + 1;
         done = done + 1 + core.owed as u64;
         core.owed = 0;
-        if (core.mark == MARK_EI) | (core.mark == MARK_STM) | (horizon <= done) {
-            return ended(core, done, begun, at, horizon);
+        if (core.mark == MARK_EI) | (core.mark == MARK_STM) {
+            let e = events_after(
+                positions,
+                core.mark,
+                core.interrupt.int,
+                core.timer,
+                done,
+                horizon,
+                since,
+                jump::lesser(left, next - n),
+            );
+            horizon = e.horizon;
+            since = e.since;
+            watch = watch | (skips & (core.mark == MARK_STM));
+        }
+        if horizon <= done {
+            return ended(core, done, begun, at, horizon, since);
         }
         if watch {
             if jump::waits(rom, core.flow.pc) {
-                return ended(core, done, begun, at, horizon);
+                return ended(core, done, begun, at, horizon, since);
             }
         }
     }
@@ -219,16 +288,16 @@ pub fn turn(
         left,
         skips,
     );
-    if b.cycles == 0 {
-        return b;
+    if b.stretch.cycles == 0 {
+        return b.stretch;
     }
-    let late = b.core;
-    let core = brought_forward(positions, registers, late, b.cycles);
+    let late = b.stretch.core;
+    let core = brought_forward(positions, registers, late, b.late);
     Stretch {
         core,
-        cycles: b.cycles,
-        begun: b.begun,
-        bytes: b.bytes,
+        cycles: b.stretch.cycles,
+        begun: b.stretch.begun,
+        bytes: b.stretch.bytes,
         stop: 0,
     }
 }
