@@ -54,8 +54,8 @@ pub first-register : {skips : Bool} {rom sched table positions : List ℕ} {l : 
 unfolding taken
 first-register k = k .valid .core .scalars .register
 
--- the machine stands at t, after `done` cycles that appended w; the next event is h cycles away from s, and the timer was set after
--- `since` cycles
+-- the machine stands at t, after `done` cycles that appended w; the next event is h cycles after s, and the timer of the core was
+-- the machine's after `since` cycles
 pub record Riding (skips : Bool) (rom sched : List ℕ) (l : Lines) (next left : ℕ) (s : State) (log₀ : List ℕ)
     (core : Core) (ram ports log : List ℕ) (at done begun h since : ℕ) : Type 0 where
   pub t : State

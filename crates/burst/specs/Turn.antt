@@ -58,9 +58,9 @@ pub record Horizon (interrupt : Interrupt) (timer : Timer) (next n left h : ℕ)
   pub before-tick : 0 < timer .register → h ≤ ticksLeft timer
   pub free : 1 < h → Free interrupt
 
--- where EI or STM, ending after `done` cycles, leaves an event that is h cycles away, and the cycles after which the timer was set:
--- EI moves it where an interrupt may be due, STM sets the timer, and one that has come stays. `quiet` cycles are up to the end of
--- the run and the next record.
+-- what EI or STM, ending after `done` cycles, makes of the next event, h cycles after the start of the burst, and of `since`, the
+-- cycles after which the timer was set. An event that has come stays. After EI with INT 1 an interrupt may be due. STM sets the
+-- timer; `quiet` cycles are up to the next record and the end of the run.
 pub record Moves (mark int : ℕ) (timer : Timer) (done h since quiet : ℕ) (e : Events) : Type 0 where
   pub come : h ≤ done → (e .horizon ≡ h) × (e .since ≡ since)
   pub ei : done < h → mark ≡ markEi → (e .horizon ≡ cond (eqb int 1) done h) × (e .since ≡ since)
@@ -101,7 +101,8 @@ pub record Bursts (skips : Bool) (rom sched : List ℕ) (next left : ℕ) (s : S
       → Went skips rom sched next left s log (forward (r .late) (r .stretch .core)) (r .stretch .cycles) (r .stretch .begun) (r .stretch .bytes) ram ports log′
   pub forwards : Forwards (r .stretch .core) (r .late)
 
--- where a burst ends whose last instruction ends after `done` cycles: at the event, with the rest owed
+-- where a burst ends whose last instruction ends after `done` cycles: at the event, with the rest owed; the timer was set after
+-- `since` cycles
 abbrev pub endedAt : Core → (done begun bytes h since : ℕ) → Late
 endedAt c done begun bytes h since =
     record { stretch = record { core = setOwed (done - h) c; cycles = min done h; begun = begun; bytes = bytes; stop = 0 }; late = min done h - since }

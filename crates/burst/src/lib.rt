@@ -101,7 +101,8 @@ fn events_after(
     Events { horizon, since }
 }
 
-// Where a burst ends whose last instruction ends after `done` cycles: at the event, with the rest owed.
+// Where a burst ends whose last instruction ends after `done` cycles: at the event, with the rest owed. The timer was set after
+// `since` cycles.
 fn ended(c: Core, done: u64, begun: u64, bytes: usize, horizon: u64, since: u64) -> Late
     requires { ⌜ (c .owed ≡ 0) × (done ≤ horizon + 3) × (since ≤ done) × (since ≤ horizon) ⌝ }
     ensures { λ r. ⌜ r ≡ endedAt c done begun bytes horizon since ⌝ }
