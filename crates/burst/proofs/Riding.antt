@@ -36,8 +36,9 @@ use Rattle.laws.proofs.Jump.{cycle-executes}
 use Rattle.laws.proofs.Burst.{tm-stays, ticks-stopped, forward-none, forward-on, forward-stm, execute-late, Begun, begun-is, reaches-later}
 use Rattle.jump.specs.Boundary.{Shows}
 use Rattle.jump.proofs.Lengths.{stopped, no-loop}
-use Rattle.cycle.specs.declared.Started.{Started}
-use Rattle.cycle.specs.Answer.{Answer, stateOf, startOf, answerOn, Ready}
+use Rattle.effect.specs.declared.Started.{Started}
+use Rattle.effect.specs.Answer.{Answer, stateOf, startOf, answerOn}
+use Rattle.cycle.specs.Ready.{Ready}
 use Rattle.burst.specs.declared.Events.{Events}
 use Rattle.burst.specs.Turn.{Turn, Due, Horizon, Moves, Bursts, endedAt}
 use Rattle.burst.proofs.Moving.{Moved, unmoved, moved, neither, either, watch-moved}

@@ -25,7 +25,7 @@ use Rattle.laws.specs.Burst.{Free, forward}
 use Rattle.laws.specs.Stops.{StopNumber}
 use Rattle.laws.specs.Valid.{Valid}
 use Rattle.tables.specs.Tables.{instructionTable, positionTable}
-use Rattle.cycle.specs.Answer.{stateOf}
+use Rattle.effect.specs.Answer.{stateOf}
 use Rattle.burst.specs.declared.Stretch.{Stretch}
 use Rattle.burst.specs.declared.Late.{Late}
 use Rattle.burst.specs.declared.Events.{Events}

@@ -22,7 +22,7 @@ ghost use Rattle.upd546.specs.Timer.{ticksLeft};
 ghost use Rattle.laws.specs.Timer.{ticks};
 ghost use Rattle.laws.specs.Burst.{forward};
 ghost use Rattle.tables.specs.Tables.{positionTable, registerTable};
-ghost use Rattle.cycle.specs.Answer.{stateOf};
+ghost use Rattle.effect.specs.Answer.{stateOf};
 ghost use Rattle.burst.specs.Turn.{Turn, Due, Horizon, Moves, Turned, Bursts, Forwards, endedAt, oneCycle};
 
 // The core, the cycles, the instructions begun and the bytes appended to the log; or `stop`, the number why no cycle was begun.

@@ -33,7 +33,7 @@ use Rattle.schedule.specs.declared.Cursor.{Cursor}
 use Rattle.schedule.specs.Cursor.{Stands}
 use Rattle.schedule.proofs.Standing.{next-record, next-some, stays}
 use Rattle.laws.proofs.Tails.{mid-tail, put-tail}
-use Rattle.cycle.specs.Answer.{stateOf}
+use Rattle.effect.specs.Answer.{stateOf}
 use Rattle.burst.specs.declared.Stretch.{Stretch}
 use Rattle.burst.specs.Turn.{Turn, Turned}
 use Rattle.jump.specs.Boundary.{Boundary, Jumpable}

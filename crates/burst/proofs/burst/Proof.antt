@@ -7,7 +7,7 @@ use Prim.Native.Nat.{_+_, _-_}
 use native.Mathlib.Omega.{arith}
 use lib.Dec.{eqb}
 use denote.Ref.{now}
-use Rattle.cycle.specs.Answer.{stateOf}
+use Rattle.effect.specs.Answer.{stateOf}
 use Rattle.burst.proofs.Moving.{Moved, either, unwatched}
 use Rattle.burst.proofs.Riding.{Setting, Riding, Rides, Answers, rides, ready, at-fits, stops-here, stop-length, owed-small, go-length, register-small, runs, stays-after, moved-after, watches-on, watches-still, since-small, event-near, ends, rides-on, stands-still, not-waiting, first-register}
 use Rattle.burst.proofs.burst.Statement.{statement}
