@@ -191,6 +191,7 @@ module _ {skips : Bool} {rom sched table positions : List ℕ} {l : Lines} {next
       record Unbegun : Type 0 where
         stops : within upd546 rom sched (length log₀ - at) 1 (c .t) ≡ still (c .t) (some (r .stop))
         known : (r .stop ≡ 3 → ⊥) → StopNumber (r .stop)
+        core-is : r .core ≡ core
         ram-is : ram′ ≡ ram
         ports-is : ports′ ≡ ports
         log-is : log′ ≡ log
@@ -205,6 +206,7 @@ module _ {skips : Bool} {rom sched table positions : List ℕ} {l : Lines} {next
               record {
                 stops = one-stops upd546 rom sched (length log₀ - at) (c .t) i q ∙ ap (λ (y : ℕ). still (c .t) (some y)) (sym same);
                 known = λ d. subst StopNumber (sym same) (stop-number rom sched (c .t) i q);
+                core-is = ap (λ (y : Answer). y .core) z;
                 ram-is = ap (λ (y : Answer). y .ram) z;
                 ports-is = ap (λ (y : Answer). y .ports) z;
                 log-is = ap (λ (y : Answer). y .log) z;
@@ -223,17 +225,19 @@ module _ {skips : Bool} {rom sched table positions : List ℕ} {l : Lines} {next
                   record {
                     stops = one-fills upd546 rom sched (length log₀ - at) (c .t) _ x e q (omega (arith, full, log-length)) ∙ ap (λ (y : ℕ). still (c .t) (some y)) (sym same);
                     known = λ d. absurd (d same);
+                    core-is = ap (λ (y : Answer). y .core) z;
                     ram-is = ap (λ (y : Answer). y .ram) z;
                     ports-is = ap (λ (y : Answer). y .ports) z;
                     log-is = ap (λ (y : Answer). y .log) z;
                   }
 
       pub stops-here : (r .stop ≡ 0 → ⊥)
-          → Bursts skips rom sched next left s log₀ (record { stretch = record { core = core; cycles = done; begun = begun; bytes = at; stop = r .stop }; late = late })
+          → Bursts skips rom sched next left s log₀ (record { stretch = record { core = r .core; cycles = done; begun = begun; bytes = at; stop = r .stop }; late = late })
           ram′ ports′ log′
       stops-here g =
           let o = unbegun g in
-          record {
+          rw (o .core-is)
+          (record {
             held = λ z.
                 let e = c .at-start z in
                 let none-written : at ≡ 0 = c .place ∙ ap length (e .1) in
@@ -259,7 +263,7 @@ module _ {skips : Bool} {rom sched table positions : List ℕ} {l : Lines} {next
               register = c .valid .core .scalars .register;
               ticks-left = λ n q. omega (arith, c .inside, c .set, c .before-tick q);
             };
-          }
+          })
 
       pub stop-length : (r .stop ≡ 0 → ⊥) → length log′ ≡ length log₀
       stop-length g = ap length (unbegun g .log-is) ∙ log-length

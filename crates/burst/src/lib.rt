@@ -162,8 +162,9 @@ fn burst(
     loop {
         let o = cycle::execute(rom, table, core, ram, ports, log, at, lines, n, done);
         if o.stop != 0 {
+            let held = o.core;
             let stretch = Stretch {
-                core,
+                core: held,
                 cycles: done,
                 begun,
                 bytes: at,

@@ -83,7 +83,7 @@ pub fn fetch_at(rom: &[u8], table: &InstructionTable, pc: u16) -> Fetched
         return stopped(23);
     }
     let next = steps::follows(pc);
-    if size.bytes == 1 {
+    if size.bytes < 2 {
         return Fetched {
             stop: 0,
             code,

@@ -52,7 +52,7 @@ returns-3 c =
     let s = size-at (now (at-entry .args .rom)) (at-entry .args .pc) (at-byte-in .byte-in .ensures)
     (at-size-of .size-of .ensures) in
     begins-one (now (at-entry .args .rom)) (at-entry .args .pc) _ (at-if1 .if1 .left) (omega (arith, s .1, at-if2 .if2 .left))
-    (sym (s .0) ∙ c .if3 .taken) refl (at-byte-in .byte-in .ensures) refl (at-follows .follows .ensures) (s .1)
+    (omega (arith, s .0, bytes-at (now (at-entry .args .rom)) (at-entry .args .pc), c .if3 .taken)) refl (at-byte-in .byte-in .ensures) refl (at-follows .follows .ensures) (s .1)
 
 stopped-requires-3 : tie.Need-stopped-requires-3
 stopped-requires-3 c κs = search needs
