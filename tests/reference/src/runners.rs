@@ -116,6 +116,7 @@ pub fn run_observed<O: Observer>(
             log: Log::new(log),
             begun: 0,
             observer,
+            before_lines: (0, 0, 0),
         }
         .go_by(runner, n),
         Err(number) => Answer {
@@ -160,6 +161,8 @@ struct Run<'a, O> {
     log: Log<'a>,
     begun: u64,
     observer: O,
+    /// The cycle at which lines were last taken, and the level and INT before them.
+    before_lines: (u64, u8, u8),
 }
 
 impl<O: Observer> Run<'_, O> {
@@ -208,25 +211,19 @@ impl<O: Observer> Run<'_, O> {
     /// boundary".
     #[inline(always)]
     fn cycle(&mut self) -> Result<(), u8> {
-        self.schedule.go_to(self.state.cycle);
-        let line = self.schedule.lines().int;
-        let state = &mut self.state;
-
-        if state.owed > 0 {
+        if self.state.owed > 0 {
             // b and c.
-            state.see(line);
-            state.owed -= 1;
-        } else if state.accepts() {
+            self.take_lines();
+            self.state.owed -= 1;
+        } else if self.state.accepts() {
             // a, then b: a fall counts also in an acceptance cycle.
-            state.accept();
-            state.see(line);
+            self.state.accept();
+            self.take_lines();
         } else {
             // b and c; a stop takes b back.
-            let (level, int) = (state.level, state.int);
-            state.see(line);
+            self.take_lines();
             if let Err(stop) = self.instruction() {
-                self.state.level = level;
-                self.state.int = int;
+                self.take_back_lines();
                 return Err(stop);
             }
         }
@@ -238,6 +235,33 @@ impl<O: Observer> Run<'_, O> {
         }
         state.cycle += 1;
         Ok(())
+    }
+
+    /// Step b: "Lines of n are taken." Up to the next record they are those of the cycle before,
+    /// which the machine has seen.
+    #[inline(always)]
+    fn take_lines(&mut self) {
+        if self.state.cycle >= self.schedule.next() {
+            self.take_new_lines();
+        }
+    }
+
+    #[cold]
+    fn take_new_lines(&mut self) {
+        let state = &mut self.state;
+        self.schedule.go_to(state.cycle);
+        self.before_lines = (state.cycle, state.level, state.int);
+        state.see(self.schedule.lines().int);
+    }
+
+    /// Takes back what step b did in this cycle.
+    #[cold]
+    fn take_back_lines(&mut self) {
+        let (cycle, level, int) = self.before_lines;
+        if cycle == self.state.cycle {
+            self.state.level = level;
+            self.state.int = int;
+        }
     }
 
     /// "one instruction has all its effects and owed becomes its cycles less 1." A stop leaves
@@ -322,10 +346,14 @@ impl<O: Observer> Run<'_, O> {
         {
             return 0;
         }
-        self.schedule.go_to(state.cycle);
-        if self.schedule.lines().int != state.level {
+        let mut schedule = self.schedule.clone();
+        if state.cycle >= schedule.next() {
+            schedule.go_to(state.cycle);
+        }
+        if schedule.lines().int != state.level {
             return 0;
         }
+        self.schedule = schedule;
         // "the largest even number at most r and the cycles left, with no schedule record in the
         // j - 1 cycles after the present one".
         let no_record = self.schedule.next() - state.cycle;

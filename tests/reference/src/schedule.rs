@@ -65,10 +65,12 @@ pub(crate) fn lines_of(record: &[u8]) -> Lines {
 }
 
 /// A place in a schedule without faults; it only moves forward.
+#[derive(Clone)]
 pub(crate) struct Cursor<'a> {
     /// "those of the last record at or before n; with none, ports 0 and INT high"
     lines: Lines,
-    /// The cycle of the record after it; with none, a cycle that is never reached.
+    /// The cycle at which other lines are taken: at first any, then that of the record after the
+    /// cycle last gone to; with none, a cycle that is never reached.
     next: u64,
     /// The schedule from that record on.
     rest: &'a [u8],
@@ -76,23 +78,26 @@ pub(crate) struct Cursor<'a> {
 
 impl<'a> Cursor<'a> {
     pub(crate) fn new(schedule: &'a [u8]) -> Cursor<'a> {
-        let mut cursor = Cursor {
+        Cursor {
             lines: Lines {
                 ports: [0; 4],
                 int: 1,
             },
             next: 0,
             rest: schedule,
-        };
-        cursor.look_ahead();
-        cursor
+        }
     }
 
     /// Moves to this cycle, which lies nowhere before the last one.
-    #[inline]
     pub(crate) fn go_to(&mut self, cycle: u64) {
-        while cycle >= self.next {
-            self.pass();
+        self.next = u64::MAX;
+        while let Some((record, rest)) = self.rest.split_at_checked(RECORD) {
+            if cycle < cycle_of(record) {
+                self.next = cycle_of(record);
+                break;
+            }
+            self.lines = lines_of(record);
+            self.rest = rest;
         }
     }
 
@@ -102,23 +107,9 @@ impl<'a> Cursor<'a> {
         &self.lines
     }
 
-    /// The cycle of the first record after the one last gone to.
+    /// Up to this cycle the lines are those of the cycle last gone to.
+    #[inline]
     pub(crate) fn next(&self) -> u64 {
         self.next
-    }
-
-    #[cold]
-    fn pass(&mut self) {
-        self.lines = lines_of(self.rest);
-        self.rest = &self.rest[RECORD..];
-        self.look_ahead();
-    }
-
-    fn look_ahead(&mut self) {
-        self.next = if self.rest.is_empty() {
-            u64::MAX
-        } else {
-            cycle_of(self.rest)
-        };
     }
 }

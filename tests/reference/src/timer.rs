@@ -10,6 +10,19 @@ const fn next_register(register: u8) -> u8 {
     ((register << 1) & 63) | (((register >> 5) ^ (register >> 4)) & 1)
 }
 
+/// The register after each one; 0, a timer that is stopped, stays.
+static NEXT: [u8; 64] = next_registers();
+
+const fn next_registers() -> [u8; 64] {
+    let mut table = [0; 64];
+    let mut register = 0;
+    while register < 64 {
+        table[register] = next_register(register as u8);
+        register += 1;
+    }
+    table
+}
+
 /// The register at each position, "the register 1 having position 0".
 static REGISTERS: [u8; PERIOD] = registers();
 
@@ -51,7 +64,7 @@ impl State {
     /// timer (one shot: house), else it falls by 1."
     #[inline]
     pub(crate) fn step_timer(&mut self) {
-        self.register = next_register(self.register);
+        self.register = NEXT[usize::from(self.register & 63)];
         if self.register == 1 {
             if self.counter == 0 {
                 self.ring();
