@@ -1,57 +1,82 @@
-//! The instructions: their bytes and base cycles, and what each does in its first cycle.
+//! The instructions: their mnemonics, bytes and base cycles, and what each does in its first cycle.
 
 use crate::log::Log;
-use crate::machine::{State, EI, FLAG, LDI, LI, OTHER, R, S, STM, W, X, Y, Z};
-use crate::numbers::NO_INSTRUCTION;
+use crate::machine::{mark, word, State};
+use crate::numbers::{ABOVE_ROM, NO_INSTRUCTION};
+use crate::runners::LAST_ADDRESS;
 use crate::schedule::Lines;
 
-pub(crate) const TTM: u8 = 0x05;
-pub(crate) const RTS: u8 = 0x49;
-pub(crate) const JCP: u8 = 0xC0;
+/// The instructions, in the order of the document's lists.
+#[rustfmt::skip]
+#[derive(Clone, Copy, PartialEq, Eq, Debug)]
+pub(crate) enum Mnemonic {
+    /// "1C and 45 are no instructions".
+    None,
+    // One cycle.
+    NOP, DI, S, TIT, TC, TTM, DAA, TAL, AD, ADS, DAS, CLC, CM, INC, DEC, OP, CMA, CIA, TLA, DED, EXL, ADC, XC, STC,
+    INM, DEM, TAB, XM, XMD, RAR, EI, IP, IND, CMB, LM, XMI, TPB, TMB, RPB, SPB, RMB, SMB, LDZ, LI, CZP, JCP,
+    // Two cycles.
+    FBF, FBT, IA, JPA, TAZ, TAW, OE, TLY, THX, RT, RTS, XAZ, XAW, XLS, XHR, XLY, XHX, TPA, REB, SEB, RFB, SFB,
+    // Two bytes, two cycles.
+    STM, LDI, CLI, CI, OCD, JMP, CAL,
+}
+use Mnemonic::*;
 
-/// Bytes and base cycles of a code.
+#[rustfmt::skip]
+const fn mnemonic(code: u8) -> Mnemonic {
+    match code {
+        0x00 => NOP, 0x01 => DI, 0x02 => S, 0x03 => TIT, 0x04 => TC, 0x05 => TTM, 0x06 => DAA, 0x07 => TAL,
+        0x08 => AD, 0x09 => ADS, 0x0A => DAS, 0x0B => CLC, 0x0C => CM, 0x0D => INC, 0x0E => OP, 0x0F => DEC,
+        0x10 => CMA, 0x11 => CIA, 0x12 => TLA, 0x13 => DED, 0x14 => STM, 0x15 => LDI, 0x16 => CLI, 0x17 => CI,
+        0x18 => EXL, 0x19 => ADC, 0x1A => XC, 0x1B => STC, 0x1C => None, 0x1D => INM, 0x1E => OCD, 0x1F => DEM,
+        0x20..=0x23 => FBF, 0x24..=0x27 => TAB, 0x28..=0x2B => XM, 0x2C..=0x2F => XMD,
+        0x30 => RAR, 0x31 => EI, 0x32 => IP, 0x33 => IND, 0x34..=0x37 => CMB, 0x38..=0x3B => LM, 0x3C..=0x3F => XMI,
+        0x40 => IA, 0x41 => JPA, 0x42 => TAZ, 0x43 => TAW, 0x44 => OE, 0x45 => None, 0x46 => TLY, 0x47 => THX,
+        0x48 => RT, 0x49 => RTS, 0x4A => XAZ, 0x4B => XAW, 0x4C => XLS, 0x4D => XHR, 0x4E => XLY, 0x4F => XHX,
+        0x50..=0x53 => TPB, 0x54..=0x57 => TPA, 0x58..=0x5B => TMB, 0x5C..=0x5F => FBT,
+        0x60..=0x63 => RPB, 0x64..=0x67 => REB, 0x68..=0x6B => RMB, 0x6C..=0x6F => RFB,
+        0x70..=0x73 => SPB, 0x74..=0x77 => SEB, 0x78..=0x7B => SMB, 0x7C..=0x7F => SFB,
+        0x80..=0x8F => LDZ, 0x90..=0x9F => LI, 0xA0..=0xA7 => JMP, 0xA8..=0xAF => CAL, 0xB0..=0xBF => CZP,
+        0xC0..=0xFF => JCP,
+    }
+}
+
+/// What a code tells of its instruction.
 #[derive(Clone, Copy, PartialEq, Eq, Debug)]
 pub(crate) struct Form {
+    pub mnemonic: Mnemonic,
     pub bytes: u8,
+    /// Base cycles.
     pub cycles: u8,
+    /// "its cycles less 1"
+    pub owed: u8,
 }
 
 /// "One 256-entry table of bytes and base cycles serves decoding and skipping."
 pub(crate) static FORMS: [Form; 256] = forms();
 
 const fn forms() -> [Form; 256] {
-    let mut table = [Form {
-        bytes: 1,
-        cycles: 1,
-    }; 256];
+    let mut table = [form(0); 256];
     let mut code = 0;
     while code < 256 {
-        match code {
-            // "1C and 45 are no instructions; a skip passes over either as one byte, and their
-            // base cycles read 0".
-            0x1C | 0x45 => table[code].cycles = 0,
-            // "Two cycles".
-            0x20..=0x23
-            | 0x40..=0x44
-            | 0x46..=0x4F
-            | 0x54..=0x57
-            | 0x5C..=0x5F
-            | 0x64..=0x67
-            | 0x6C..=0x6F
-            | 0x74..=0x77
-            | 0x7C..=0x7F => table[code].cycles = 2,
-            // "Two bytes, two cycles".
-            0x14..=0x17 | 0x1E | 0xA0..=0xAF => {
-                table[code] = Form {
-                    bytes: 2,
-                    cycles: 2,
-                }
-            }
-            _ => {}
-        }
+        table[code] = form(code as u8);
         code += 1;
     }
     table
+}
+
+#[rustfmt::skip]
+const fn form(code: u8) -> Form {
+    let mnemonic = mnemonic(code);
+    let (bytes, cycles) = match mnemonic {
+        // "a skip passes over either as one byte, and their base cycles read 0".
+        None => (1, 0),
+        FBF | FBT | IA | JPA | TAZ | TAW | OE | TLY | THX | RT | RTS | XAZ | XAW | XLS | XHR | XLY | XHX | TPA | REB
+        | SEB | RFB | SFB => (1, 2),
+        STM | LDI | CLI | CI | OCD | JMP | CAL => (2, 2),
+        _ => (1, 1),
+    };
+    Form { mnemonic, bytes, cycles, owed: cycles.saturating_sub(1) }
 }
 
 /// The ports, as DPL names them.
@@ -61,7 +86,7 @@ const E: u8 = 4;
 const I: u8 = 8;
 
 /// Carries out the instruction at PC, a second byte and the address after it being given, and
-/// tells whether it skips: PC is then where the skip begins. With a stop, 23 or 3, nothing has
+/// tells whether it skips: PC is then where the skip begins. With a stop, 22, 23 or 3, nothing has
 /// changed.
 #[inline(always)]
 pub(crate) fn execute(
@@ -72,229 +97,218 @@ pub(crate) fn execute(
     lines: &Lines,
     log: &mut Log,
 ) -> Result<bool, u8> {
-    let bit = code & 3;
+    // "b is a 2-bit bit number, k a 4-bit and m a 2-bit operand."
+    let b = || code & 3;
+    let m = || code & 3;
+    let k = || code & 15;
     let mut next = after;
-    let mut mark = OTHER;
+    let mut kind = mark::OTHER;
     let mut skip = false;
 
-    match code {
+    match FORMS[usize::from(code)].mnemonic {
         // One cycle.
-        0x00 => {}              // NOP
-        0x01 => s.inte = 0,     // DI
-        0x02 => s.set_m(s.acc), // S
-        0x03 => {
-            // TIT
+        NOP => {}
+        DI => s.inte = 0,
+        S => s.set_m(s.acc),
+        TIT => {
             skip = s.int == 1;
             s.int = 0;
         }
-        0x04 => skip = s.carry == 1,      // TC
-        0x05 => skip = s.tm == 1,         // TTM
-        0x06 => s.acc = (s.acc + 6) & 15, // DAA
-        0x07 => s.dpl = s.acc,            // TAL
-        0x08 => {
-            // AD: "skip on carry, C kept".
+        TC => skip = s.carry == 1,
+        TTM => skip = s.tm == 1,
+        DAA => s.acc = (s.acc + 6) & 15,
+        TAL => s.dpl = s.acc,
+        AD => {
+            // "skip on carry, C kept".
             let sum = s.acc + s.m();
             s.acc = sum & 15;
             skip = sum > 15;
         }
-        0x09 => {
-            // ADS
+        ADS => {
             add_with_carry(s);
             skip = s.carry == 1;
         }
-        0x0A => s.acc = (s.acc + 10) & 15, // DAS
-        0x0B => s.carry = 0,               // CLC
-        0x0C => skip = s.acc == s.m(),     // CM
-        0x0D => {
-            // INC
+        DAS => s.acc = (s.acc + 10) & 15,
+        CLC => s.carry = 0,
+        CM => skip = s.acc == s.m(),
+        INC => {
             s.acc = (s.acc + 1) & 15;
             skip = s.acc == 0;
         }
-        0x0E => {
-            // OP: "writes C to I".
+        DEC => {
+            s.acc = (s.acc + 15) & 15;
+            skip = s.acc == 15;
+        }
+        OP => {
+            // "writes C to I".
             if (C..=I).contains(&s.dpl) {
                 log.room(1)?;
                 write_port(s, s.dpl, s.acc, log);
             }
         }
-        0x0F => {
-            // DEC
-            s.acc = (s.acc + 15) & 15;
-            skip = s.acc == 15;
-        }
-        0x10 => s.acc = 15 - s.acc,                         // CMA
-        0x11 => s.acc = (16 - s.acc) & 15,                  // CIA
-        0x12 => s.acc = s.dpl,                              // TLA
-        0x13 => skip = dec_dpl(s),                          // DED
-        0x18 => s.acc ^= s.m(),                             // EXL
-        0x19 => add_with_carry(s),                          // ADC
-        0x1A => std::mem::swap(&mut s.carry, &mut s.saved), // XC
-        0x1B => s.carry = 1,                                // STC
-        0x1D => {
-            // INM: "a skip looks at the computed value".
+        CMA => s.acc = 15 - s.acc,
+        CIA => s.acc = (16 - s.acc) & 15,
+        TLA => s.acc = s.dpl,
+        DED => skip = dec_dpl(s),
+        EXL => s.acc ^= s.m(),
+        ADC => add_with_carry(s),
+        XC => std::mem::swap(&mut s.carry, &mut s.saved),
+        STC => s.carry = 1,
+        INM => {
+            // "a skip looks at the computed value".
             let value = (s.m() + 1) & 15;
             s.set_m(value);
             skip = value == 0;
         }
-        0x1F => {
-            // DEM
+        DEM => {
             let value = (s.m() + 15) & 15;
             s.set_m(value);
             skip = value == 15;
         }
-        0x24..=0x27 => skip = has_bit(s.acc, bit), // TAB
-        0x28..=0x2B => {
-            // XM
+        TAB => skip = has_bit(s.acc, b()),
+        XM => {
             swap_m(s);
-            s.dph ^= bit;
+            s.dph ^= m();
         }
-        0x2C..=0x2F => {
-            // XMD
+        XMD => {
             swap_m(s);
-            s.dph ^= bit;
+            s.dph ^= m();
             skip = dec_dpl(s);
         }
-        0x30 => {
-            // RAR: "right through C".
+        RAR => {
+            // "right through C".
             let out = s.acc & 1;
             s.acc = s.carry << 3 | s.acc >> 1;
             s.carry = out;
         }
-        0x31 => {
-            // EI
+        EI => {
             s.inte = 1;
-            mark = EI;
+            kind = mark::EI;
         }
-        0x32 => s.acc = read_port(s, lines), // IP
-        0x33 => skip = inc_dpl(s),           // IND
-        0x34..=0x37 => skip = has_bit(s.acc, bit) == has_bit(s.m(), bit), // CMB
-        0x38..=0x3B => {
-            // LM
+        IP => s.acc = read_port(s, lines),
+        IND => skip = inc_dpl(s),
+        CMB => skip = has_bit(s.acc, b()) == has_bit(s.m(), b()),
+        LM => {
             s.acc = s.m();
-            s.dph ^= bit;
+            s.dph ^= m();
         }
-        0x3C..=0x3F => {
-            // XMI
+        XMI => {
             swap_m(s);
-            s.dph ^= bit;
+            s.dph ^= m();
             skip = inc_dpl(s);
         }
-        0x50..=0x53 => skip = has_bit(read_port(s, lines), bit), // TPB
-        0x58..=0x5B => skip = has_bit(s.m(), bit),               // TMB
-        0x60..=0x63 => {
-            // RPB
-            if has_port_bit(s.dpl, bit) {
+        TPB => skip = has_bit(read_port(s, lines), b()),
+        TMB => skip = has_bit(s.m(), b()),
+        RPB => {
+            if has_port_bit(s.dpl, b()) {
                 log.room(1)?;
-                write_port(s, s.dpl, without_bit(latch(s, s.dpl), bit), log);
+                write_port(s, s.dpl, without_bit(latch(s, s.dpl), b()), log);
             }
         }
-        0x68..=0x6B => s.set_m(without_bit(s.m(), bit)), // RMB
-        0x70..=0x73 => {
-            // SPB
-            if has_port_bit(s.dpl, bit) {
+        SPB => {
+            if has_port_bit(s.dpl, b()) {
                 log.room(1)?;
-                write_port(s, s.dpl, with_bit(latch(s, s.dpl), bit), log);
+                write_port(s, s.dpl, with_bit(latch(s, s.dpl), b()), log);
             }
         }
-        0x78..=0x7B => s.set_m(with_bit(s.m(), bit)), // SMB
-        0x80..=0x8F => {
-            // LDZ: "DP=k".
+        RMB => s.set_m(without_bit(s.m(), b())),
+        SMB => s.set_m(with_bit(s.m(), b())),
+        LDZ => {
+            // "DP=k".
             s.dph = 0;
-            s.dpl = code & 15;
+            s.dpl = k();
         }
-        0x90..=0x9F => {
-            // LI: R-5, "directly after an LI is a NOP that keeps its mark".
-            if s.mark != LI {
-                s.acc = code & 15;
+        LI => {
+            // R-5: "directly after an LI is a NOP that keeps its mark".
+            if s.mark != mark::LI {
+                s.acc = k();
             }
-            mark = LI;
+            kind = mark::LI;
         }
-        0xB0..=0xBF => {
-            // CZP: "call 4 times k".
+        CZP => {
+            // "call 4 times k".
             s.push(after);
-            next = u16::from(code & 15) << 2;
+            next = u16::from(k()) << 2;
         }
-        0xC0..=0xFF => next = in_page(s.pc, code & 63), // JCP
+        JCP => next = in_page(s.pc, code & 63),
 
         // Two cycles.
-        0x20..=0x23 => skip = !has_bit(s.ram[FLAG], bit), // FBF
-        0x5C..=0x5F => skip = has_bit(s.ram[FLAG], bit),  // FBT
-        0x40 => s.acc = lines.ports[0],                   // IA
-        0x41 => next = in_page(s.pc, s.acc << 2),         // JPA
-        0x42 => s.ram[Z] = s.acc,                         // TAZ
-        0x43 => s.ram[W] = s.acc,                         // TAW
-        0x44 => {
-            // OE
+        FBF => skip = !has_bit(s.ram[word::FLAG], b()),
+        FBT => skip = has_bit(s.ram[word::FLAG], b()),
+        IA => s.acc = lines.ports[0],
+        JPA => next = in_page(s.pc, s.acc << 2),
+        TAZ => s.ram[word::Z] = s.acc,
+        TAW => s.ram[word::W] = s.acc,
+        OE => {
             log.room(1)?;
             write_port(s, E, s.acc, log);
         }
-        0x46 => s.ram[Y] = s.dpl, // TLY
-        0x47 => s.ram[X] = s.dph, // THX
-        0x48 => next = s.pop(),   // RT
-        0x49 => {
-            // RTS: "then always a skip".
+        TLY => s.ram[word::Y] = s.dpl,
+        THX => s.ram[word::X] = s.dph,
+        RT => next = s.pop(),
+        RTS => {
+            // "then always a skip", which begins in the ROM.
+            if s.stack[0] > LAST_ADDRESS {
+                return Err(ABOVE_ROM);
+            }
             next = s.pop();
             skip = true;
         }
-        0x4A => std::mem::swap(&mut s.acc, &mut s.ram[Z]), // XAZ
-        0x4B => std::mem::swap(&mut s.acc, &mut s.ram[W]), // XAW
-        0x4C => std::mem::swap(&mut s.dpl, &mut s.ram[S]), // XLS
-        0x4D => swap_dph(s, R),                            // XHR
-        0x4E => std::mem::swap(&mut s.dpl, &mut s.ram[Y]), // XLY
-        0x4F => swap_dph(s, X),                            // XHX
-        0x54..=0x57 => skip = has_bit(lines.ports[0], bit), // TPA
-        0x64..=0x67 => {
-            // REB
+        XAZ => std::mem::swap(&mut s.acc, &mut s.ram[word::Z]),
+        XAW => std::mem::swap(&mut s.acc, &mut s.ram[word::W]),
+        XLS => std::mem::swap(&mut s.dpl, &mut s.ram[word::S]),
+        XHR => swap_dph(s, word::R),
+        XLY => std::mem::swap(&mut s.dpl, &mut s.ram[word::Y]),
+        XHX => swap_dph(s, word::X),
+        TPA => skip = has_bit(lines.ports[0], b()),
+        REB => {
             log.room(1)?;
-            write_port(s, E, without_bit(latch(s, E), bit), log);
+            write_port(s, E, without_bit(latch(s, E), b()), log);
         }
-        0x74..=0x77 => {
-            // SEB
+        SEB => {
             log.room(1)?;
-            write_port(s, E, with_bit(latch(s, E), bit), log);
+            write_port(s, E, with_bit(latch(s, E), b()), log);
         }
-        0x6C..=0x6F => s.ram[FLAG] = without_bit(s.ram[FLAG], bit), // RFB
-        0x7C..=0x7F => s.ram[FLAG] = with_bit(s.ram[FLAG], bit),    // SFB
+        RFB => s.ram[word::FLAG] = without_bit(s.ram[word::FLAG], b()),
+        SFB => s.ram[word::FLAG] = with_bit(s.ram[word::FLAG], b()),
 
         // Two bytes, two cycles.
-        0x14 => {
-            // STM
+        STM => {
             s.start_timer(second & 63);
-            mark = STM;
+            kind = mark::STM;
         }
-        0x15 => {
-            // LDI: "directly after mark LDI a NOP of two cycles that keeps the mark".
-            if s.mark != LDI {
+        LDI => {
+            // "directly after mark LDI a NOP of two cycles that keeps the mark".
+            if s.mark != mark::LDI {
                 s.dph = second >> 4 & 7;
                 s.dpl = second & 15;
             }
-            mark = LDI;
+            kind = mark::LDI;
         }
-        0x16 => skip = s.dpl == second & 15, // CLI
-        0x17 => skip = s.acc == second & 15, // CI
-        0x1E => {
-            // OCD: "D=high half, C=low"; it "appends C, then D".
+        CLI => skip = s.dpl == second & 15,
+        CI => skip = s.acc == second & 15,
+        OCD => {
+            // "D=high half, C=low"; it "appends C, then D".
             log.room(2)?;
             write_port(s, C, second & 15, log);
             write_port(s, D, second >> 4, log);
         }
-        0xA0..=0xA7 => next = far(code, second), // JMP
-        0xA8..=0xAF => {
-            // CAL
+        JMP => next = far(code, second),
+        CAL => {
             s.push(after);
             next = far(code, second);
         }
 
-        0x1C | 0x45 => return Err(NO_INSTRUCTION),
+        None => return Err(NO_INSTRUCTION),
     }
 
     s.pc = next;
-    s.mark = mark;
+    s.mark = kind;
     Ok(skip)
 }
 
 /// "Acc+M+C into Acc and C".
-#[inline]
+#[inline(always)]
 fn add_with_carry(s: &mut State) {
     let sum = s.acc + s.m() + s.carry;
     s.acc = sum & 15;
@@ -302,21 +316,21 @@ fn add_with_carry(s: &mut State) {
 }
 
 /// "inc DPL": skips if DPL becomes 0.
-#[inline]
+#[inline(always)]
 fn inc_dpl(s: &mut State) -> bool {
     s.dpl = (s.dpl + 1) & 15;
     s.dpl == 0
 }
 
 /// "dec DPL": skips if DPL becomes 15.
-#[inline]
+#[inline(always)]
 fn dec_dpl(s: &mut State) -> bool {
     s.dpl = (s.dpl + 15) & 15;
     s.dpl == 15
 }
 
 /// "swap Acc, M"
-#[inline]
+#[inline(always)]
 fn swap_m(s: &mut State) {
     let m = s.m();
     s.set_m(s.acc);
@@ -324,43 +338,43 @@ fn swap_m(s: &mut State) {
 }
 
 /// "a 3-bit DPH is stored with bit 3 clear, and takes the low 3 bits"
-#[inline]
+#[inline(always)]
 fn swap_dph(s: &mut State, word: usize) {
     let stored = s.ram[word];
     s.ram[word] = s.dph;
     s.dph = stored & 7;
 }
 
-#[inline]
+#[inline(always)]
 fn has_bit(value: u8, bit: u8) -> bool {
     value >> bit & 1 == 1
 }
 
-#[inline]
+#[inline(always)]
 fn with_bit(value: u8, bit: u8) -> u8 {
     value | 1 << bit
 }
 
-#[inline]
+#[inline(always)]
 fn without_bit(value: u8, bit: u8) -> u8 {
     value & !(1 << bit)
 }
 
 /// "JCP and JPA stay in the page that holds the instruction."
-#[inline]
+#[inline(always)]
 pub(crate) fn in_page(at: u16, address: u8) -> u16 {
     at & 0x7C0 | u16::from(address)
 }
 
 /// JMP and CAL: "3 bits and the second byte".
-#[inline]
+#[inline(always)]
 pub(crate) fn far(code: u8, second: u8) -> u16 {
     u16::from(code & 7) << 8 | u16::from(second)
 }
 
 /// What the port that DPL names reads: "IP and TPB read lines A to D, else 0", amended by R-2: "On C
 /// and D a bit now reads 1 if the line or the latch is 1."
-#[inline]
+#[inline(always)]
 fn read_port(s: &State, lines: &Lines) -> u8 {
     let line = lines.named(s.dpl);
     match s.dpl {
@@ -370,18 +384,18 @@ fn read_port(s: &State, lines: &Lines) -> u8 {
 }
 
 /// "SPB and RPB E to I; anything else, and bit 3 of I, has no effect."
-#[inline]
+#[inline(always)]
 fn has_port_bit(port: u8, bit: u8) -> bool {
     (E..=I).contains(&port) && !(port == I && bit == 3)
 }
 
-#[inline]
+#[inline(always)]
 fn latch(s: &State, port: u8) -> u8 {
     s.ports[usize::from(port - C)]
 }
 
 /// Writes a latch, "I of 3 bits", and appends "the whole latch after the write".
-#[inline]
+#[inline(always)]
 fn write_port(s: &mut State, port: u8, value: u8, log: &mut Log) {
     let value = if port == I { value & 7 } else { value };
     s.ports[usize::from(port - C)] = value;
@@ -441,7 +455,9 @@ mod tests {
         assert_eq!(all.len(), 256);
         for (code, (listed, bytes, cycles)) in (0..=255).zip(all) {
             assert_eq!(listed, code);
-            assert_eq!(FORMS[usize::from(code)], Form { bytes, cycles });
+            let form = FORMS[usize::from(code)];
+            assert_eq!((form.bytes, form.cycles), (bytes, cycles));
+            assert_eq!(form.owed, cycles.max(1) - 1);
         }
     }
 }

@@ -38,13 +38,16 @@ pub fn records(log: &[u8]) -> impl DoubleEndedIterator<Item = Record> + '_ {
 /// "A run starts at the lent log's first byte; each record it writes into the part of the log that
 /// is still empty."
 pub(crate) struct Log<'a> {
-    bytes: &'a mut [u8],
+    empty: &'a mut [u8],
     written: usize,
 }
 
 impl<'a> Log<'a> {
     pub(crate) fn new(bytes: &'a mut [u8]) -> Log<'a> {
-        Log { bytes, written: 0 }
+        Log {
+            empty: bytes,
+            written: 0,
+        }
     }
 
     pub(crate) fn written(&self) -> usize {
@@ -52,9 +55,9 @@ impl<'a> Log<'a> {
     }
 
     /// Stop 3: "the log lacks the 8 or 16 bytes of the next instruction".
-    #[inline]
+    #[inline(always)]
     pub(crate) fn room(&self, records: usize) -> Result<(), u8> {
-        if self.bytes.len() - self.written >= records * RECORD {
+        if self.empty.len() >= records * RECORD {
             Ok(())
         } else {
             Err(LOG_FULL)
@@ -62,10 +65,12 @@ impl<'a> Log<'a> {
     }
 
     /// Appends one record; its room has been looked at.
-    #[inline]
+    #[inline(always)]
     pub(crate) fn append(&mut self, cycle: u64, port: u8, value: u8) {
         let record = cycle << 16 | u64::from(port) << 8 | u64::from(value);
-        self.bytes[self.written..self.written + RECORD].copy_from_slice(&record.to_be_bytes());
+        let (place, empty) = std::mem::take(&mut self.empty).split_at_mut(RECORD);
+        place.copy_from_slice(&record.to_be_bytes());
+        self.empty = empty;
         self.written += RECORD;
     }
 }

@@ -1,12 +1,14 @@
 //! "The machine": the state, its widths, its stack and its RAM.
 
 /// "Mark: other, LDI, EI or STM, the kind of the last instruction begun", in the image's order.
-pub(crate) const OTHER: u8 = 0;
-pub(crate) const LDI: u8 = 1;
-pub(crate) const EI: u8 = 2;
-pub(crate) const STM: u8 = 3;
-/// R-5: "The mark gains the value 4 for LI in image byte 16".
-pub(crate) const LI: u8 = 4;
+pub(crate) mod mark {
+    pub(crate) const OTHER: u8 = 0;
+    pub(crate) const LDI: u8 = 1;
+    pub(crate) const EI: u8 = 2;
+    pub(crate) const STM: u8 = 3;
+    /// R-5: "The mark gains the value 4 for LI in image byte 16".
+    pub(crate) const LI: u8 = 4;
+}
 
 /// "Cycle number, at most 2^48 - 1".
 pub(crate) const LAST_CYCLE: u64 = (1 << 48) - 1;
@@ -15,13 +17,15 @@ pub(crate) const LAST_CYCLE: u64 = (1 << 48) - 1;
 const INTERRUPT: u16 = 0x03C;
 
 /// The RAM array's columns of row 7: "Word 79 is the flag word; Z, W, S, R, Y, X are 7A to 7F".
-pub(crate) const FLAG: usize = 0x59;
-pub(crate) const Z: usize = 0x5A;
-pub(crate) const W: usize = 0x5B;
-pub(crate) const S: usize = 0x5C;
-pub(crate) const R: usize = 0x5D;
-pub(crate) const Y: usize = 0x5E;
-pub(crate) const X: usize = 0x5F;
+pub(crate) mod word {
+    pub(crate) const FLAG: usize = 0x59;
+    pub(crate) const Z: usize = 0x5A;
+    pub(crate) const W: usize = 0x5B;
+    pub(crate) const S: usize = 0x5C;
+    pub(crate) const R: usize = 0x5D;
+    pub(crate) const Y: usize = 0x5E;
+    pub(crate) const X: usize = 0x5F;
+}
 
 /// Where each row begins in the RAM array; rows 5 and 6 don't exist.
 const ROWS: [Option<u8>; 8] = [
@@ -88,7 +92,7 @@ impl State {
             inte: 0,
             tm: 0,
             level: 1,
-            mark: OTHER,
+            mark: mark::OTHER,
             owed: 0,
             register: 0,
             counter: 0,
@@ -110,7 +114,7 @@ impl State {
             && flags.iter().all(|&flag| flag <= 1)
             && self.dph <= 7
             && self.dpl <= 15
-            && self.mark <= LI
+            && self.mark <= mark::LI
             && self.owed <= 3
             && self.register <= 63
             && self.counter <= 63
@@ -122,13 +126,13 @@ impl State {
     }
 
     /// "A push shifts down and loses the oldest".
-    #[inline]
+    #[inline(always)]
     pub(crate) fn push(&mut self, address: u16) {
         self.stack = [address, self.stack[0], self.stack[1]];
     }
 
     /// "a pop shifts up and the lowest keeps its value"
-    #[inline]
+    #[inline(always)]
     pub(crate) fn pop(&mut self) -> u16 {
         let newest = self.stack[0];
         self.stack = [self.stack[1], self.stack[2], self.stack[2]];
@@ -136,7 +140,7 @@ impl State {
     }
 
     /// M, "the 4-bit RAM word at DP"; "rows 5 and 6 read 0".
-    #[inline]
+    #[inline(always)]
     pub(crate) fn m(&self) -> u8 {
         match ROWS[usize::from(self.dph & 7)] {
             Some(row) => self.ram[usize::from(row + (self.dpl & 15))],
@@ -145,7 +149,7 @@ impl State {
     }
 
     /// Stores into M; rows 5 and 6 "lose writes".
-    #[inline]
+    #[inline(always)]
     pub(crate) fn set_m(&mut self, value: u8) {
         if let Some(row) = ROWS[usize::from(self.dph & 7)] {
             self.ram[usize::from(row + (self.dpl & 15))] = value;
@@ -154,23 +158,25 @@ impl State {
 
     /// Whether step a accepts the interrupt: "If owed is 0, INTE and INT are 1 and the mark isn't
     /// EI"; R-5: "No interrupt is accepted while the mark is LDI or LI".
-    #[inline]
+    #[inline(always)]
     pub(crate) fn accepts(&self) -> bool {
-        self.owed == 0 && self.inte == 1 && self.int == 1 && !matches!(self.mark, EI | LDI | LI)
+        self.owed == 0
+            && self.inte & self.int != 0
+            && !matches!(self.mark, mark::EI | mark::LDI | mark::LI)
     }
 
     /// Step a: "push PC, PC becomes 03C, INT and INTE become 0, mark other".
-    #[inline]
+    #[inline(always)]
     pub(crate) fn accept(&mut self) {
         self.push(self.pc);
         self.pc = INTERRUPT;
         self.int = 0;
         self.inte = 0;
-        self.mark = OTHER;
+        self.mark = mark::OTHER;
     }
 
     /// Step b: "A fall of INT sets the INT flip-flop".
-    #[inline]
+    #[inline(always)]
     pub(crate) fn see(&mut self, line: u8) {
         if self.level > line {
             self.int = 1;
@@ -180,7 +186,7 @@ impl State {
 }
 
 /// The address after this one: "Only the low 8 bits count up, so 0FF is followed by 000".
-#[inline]
+#[inline(always)]
 pub(crate) fn following(address: u16) -> u16 {
     (address & 0x700) | ((address + 1) & 0x0FF)
 }
@@ -227,8 +233,9 @@ mod tests {
                 assert_eq!(state.m(), if exists { (row + column) & 15 } else { 0 });
             }
         }
-        for (word, column) in [FLAG, Z, W, S, R, Y, X].into_iter().zip(9..) {
-            assert_eq!(state.ram[word], (7 + column) & 15);
+        use word::{FLAG, R, S, W, X, Y, Z};
+        for (place, column) in [FLAG, Z, W, S, R, Y, X].into_iter().zip(9..) {
+            assert_eq!(state.ram[place], (7 + column) & 15);
         }
     }
 }

@@ -159,6 +159,8 @@ mod tests {
         }
         for code in 0..=255 {
             assert_eq!(mnemonic(code), names[usize::from(code)]);
+            let form = format!("{:?}", FORMS[usize::from(code)].mnemonic);
+            assert_eq!(form.replace("None", "none"), names[usize::from(code)]);
         }
     }
 

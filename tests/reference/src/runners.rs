@@ -1,14 +1,19 @@
 //! "Two runners": the plain one and the timer-skipping one.
 
-use crate::instructions::{execute, FORMS, JCP, RTS, TTM};
+use crate::instructions::{execute, FORMS};
 use crate::log::Log;
-use crate::machine::{following, State, LAST_CYCLE, OTHER, STM};
+use crate::machine::{following, mark, State, LAST_CYCLE};
 use crate::numbers::{ABOVE_ROM, CYCLE_LIMIT, FIELD, FINISHED, ROM_LENGTH};
 use crate::schedule::{self, Cursor};
 
 /// "ROM: 2,000 bytes, 000 to 7CF."
 pub(crate) const ROM_BYTES: usize = 2_000;
-const LAST_ADDRESS: u16 = 0x7CF;
+pub(crate) const LAST_ADDRESS: u16 = 0x7CF;
+
+/// Codes that the runner looks for.
+const TTM: u8 = 0x05;
+const RTS: u8 = 0x49;
+const JCP: u8 = 0xC0;
 
 /// "A run also gives clock cycles, four per machine cycle".
 const CLOCKS: u64 = 4;
@@ -112,11 +117,11 @@ pub fn run_observed<O: Observer>(
         Ok(rom) => Run {
             rom,
             schedule: Cursor::new(schedule),
+            before_lines: (state.cycle, state.level, state.int),
             state: state.clone(),
             log: Log::new(log),
             begun: 0,
             observer,
-            before_lines: (0, 0, 0),
         }
         .go_by(runner, n),
         Err(number) => Answer {
@@ -157,12 +162,12 @@ fn admit<'a>(
 struct Run<'a, O> {
     rom: &'a [u8; ROM_BYTES],
     schedule: Cursor<'a>,
+    /// The cycle of which lines were taken last, and the level and INT before that.
+    before_lines: (u64, u8, u8),
     state: State,
     log: Log<'a>,
     begun: u64,
     observer: O,
-    /// The cycle at which lines were last taken, and the level and INT before them.
-    before_lines: (u64, u8, u8),
 }
 
 impl<O: Observer> Run<'_, O> {
@@ -173,28 +178,29 @@ impl<O: Observer> Run<'_, O> {
         }
     }
 
+    /// A function for each runner, since one with both loops is slower.
+    #[inline(never)]
     fn go<const SKIPPING: bool>(mut self, n: u64) -> Answer {
-        let mut cycles = 0;
-        let mut steps = 0;
+        let start = self.state.cycle;
+        let end = start + n;
+        // Cycles that took no step of their own.
+        let mut spared = 0;
         let mut number = FINISHED;
-        while cycles < n {
+        while self.state.cycle < end {
             let jump = if SKIPPING {
-                self.jump_length(n - cycles)
+                self.jump_length(end - self.state.cycle)
             } else {
                 0
             };
             if jump >= 2 {
                 self.jump(jump);
-                cycles += jump;
-            } else {
-                if let Err(stop) = self.cycle() {
-                    number = stop;
-                    break;
-                }
-                cycles += 1;
+                spared += jump - 1;
+            } else if let Err(stop) = self.cycle() {
+                number = stop;
+                break;
             }
-            steps += 1;
         }
+        let cycles = self.state.cycle - start;
         Answer {
             number,
             refused: false,
@@ -203,7 +209,7 @@ impl<O: Observer> Run<'_, O> {
             clocks: CLOCKS * cycles,
             begun: self.begun,
             written: self.log.written(),
-            steps,
+            steps: cycles - spared,
         }
     }
 
@@ -220,25 +226,25 @@ impl<O: Observer> Run<'_, O> {
             self.state.accept();
             self.take_lines();
         } else {
-            // b and c; a stop takes b back.
+            // b and c.
             self.take_lines();
             if let Err(stop) = self.instruction() {
-                self.take_back_lines();
+                self.take_back();
                 return Err(stop);
             }
         }
 
         // d.
         let state = &mut self.state;
-        if state.register != 0 && state.mark != STM {
+        if state.register != 0 && state.mark != mark::STM {
             state.step_timer();
         }
         state.cycle += 1;
         Ok(())
     }
 
-    /// Step b: "Lines of n are taken." Up to the next record they are those of the cycle before,
-    /// which the machine has seen.
+    /// Step b: "Lines of n are taken." From one record to the next they are those that the machine
+    /// has seen, and nothing changes.
     #[inline(always)]
     fn take_lines(&mut self) {
         if self.state.cycle >= self.schedule.next() {
@@ -249,23 +255,26 @@ impl<O: Observer> Run<'_, O> {
     #[cold]
     fn take_new_lines(&mut self) {
         let state = &mut self.state;
-        self.schedule.go_to(state.cycle);
         self.before_lines = (state.cycle, state.level, state.int);
+        self.schedule.go_to(state.cycle);
         state.see(self.schedule.lines().int);
     }
 
-    /// Takes back what step b did in this cycle.
+    /// Takes back what was done of a cycle in which an instruction was due that stops: step b, and
+    /// owed, which was 0.
     #[cold]
-    fn take_back_lines(&mut self) {
+    fn take_back(&mut self) {
+        let state = &mut self.state;
+        state.owed = 0;
         let (cycle, level, int) = self.before_lines;
-        if cycle == self.state.cycle {
-            self.state.level = level;
-            self.state.int = int;
+        if cycle == state.cycle {
+            state.level = level;
+            state.int = int;
         }
     }
 
     /// "one instruction has all its effects and owed becomes its cycles less 1." A stop leaves
-    /// everything as it was: "22, 23 and 3, in that order but 23 before a second byte".
+    /// all but owed as it was: "22, 23 and 3, in that order but 23 before a second byte".
     #[inline(always)]
     fn instruction(&mut self) -> Result<(), u8> {
         let at = self.state.pc;
@@ -279,15 +288,11 @@ impl<O: Observer> Run<'_, O> {
         }
 
         // Where a skip would begin; above the ROM the instruction must not skip.
-        let landing = if code == RTS {
-            self.state.stack[0]
-        } else {
-            after
-        };
-        if landing > LAST_ADDRESS && self.would_skip(code, second, after) {
+        if after > LAST_ADDRESS && self.would_skip(code, second, after) {
             return Err(ABOVE_ROM);
         }
 
+        self.state.owed = form.owed;
         let skip = execute(
             &mut self.state,
             code,
@@ -296,7 +301,6 @@ impl<O: Observer> Run<'_, O> {
             self.schedule.lines(),
             &mut self.log,
         )?;
-        self.state.owed = form.cycles - 1;
         let passed = skip.then_some(self.state.pc);
         if skip {
             self.skip();
@@ -317,14 +321,15 @@ impl<O: Observer> Run<'_, O> {
         self.state.owed += bytes;
     }
 
-    /// Whether the instruction at PC would skip in this cycle: tried on a copy. One that writes to
-    /// the log never skips, so the copy needs no log.
+    /// Whether the instruction at PC would skip in this cycle what stands after it: tried on a copy.
+    /// One that writes to the log never skips, so the copy needs no log. The skip of RTS begins
+    /// elsewhere, and `execute` looks there.
     #[cold]
     fn would_skip(&self, code: u8, second: u8, after: u16) -> bool {
         let mut copy = self.state.clone();
         let mut no_log = Log::new(&mut []);
         let lines = self.schedule.lines();
-        execute(&mut copy, code, second, after, lines, &mut no_log) == Ok(true)
+        code != RTS && execute(&mut copy, code, second, after, lines, &mut no_log) == Ok(true)
     }
 
     /// Stop 22: "a byte above 7CF is needed".
@@ -339,21 +344,29 @@ impl<O: Observer> Run<'_, O> {
     fn jump_length(&mut self, left: u64) -> u64 {
         let state = &self.state;
         if state.owed != 0
-            || state.tm == 1
             || state.register == 0
-            || (state.int == 1 && state.inte == 1)
-            || self.waiting_loop().is_none()
+            || state.tm == 1
+            || state.inte & state.int != 0
+            || self.fetch(state.pc) != Ok(TTM)
         {
             return 0;
         }
-        let mut schedule = self.schedule.clone();
-        if state.cycle >= schedule.next() {
-            schedule.go_to(state.cycle);
-        }
-        if schedule.lines().int != state.level {
+        self.wait_length(left)
+    }
+
+    /// j where a TTM is due and the timer is running.
+    #[cold]
+    fn wait_length(&mut self, left: u64) -> u64 {
+        if self.waiting_loop().is_none() {
             return 0;
         }
-        self.schedule = schedule;
+        let state = &self.state;
+        let here = self.schedule.at(state.cycle);
+        if here.lines().int != state.level {
+            return 0;
+        }
+        // Lines whose INT is the level seen change nothing in step b.
+        self.schedule = here;
         // "the largest even number at most r and the cycles left, with no schedule record in the
         // j - 1 cycles after the present one".
         let no_record = self.schedule.next() - state.cycle;
@@ -380,7 +393,7 @@ impl<O: Observer> Run<'_, O> {
             self.observer.begun(following(pc), back, None, j / 2);
         }
         self.state.step_timer_by(j);
-        self.state.mark = OTHER;
+        self.state.mark = mark::OTHER;
         self.state.cycle += j;
         self.begun += j;
     }

@@ -17,7 +17,7 @@ pub(crate) struct Lines {
 
 impl Lines {
     /// The lines of the port that DPL names, 0 if it has none.
-    #[inline]
+    #[inline(always)]
     pub(crate) fn named(&self, dpl: u8) -> u8 {
         self.ports.get(usize::from(dpl)).copied().unwrap_or(0)
     }
@@ -101,14 +101,23 @@ impl<'a> Cursor<'a> {
         }
     }
 
+    /// A cursor that has moved to this cycle.
+    pub(crate) fn at(&self, cycle: u64) -> Cursor<'a> {
+        let mut cursor = self.clone();
+        if cycle >= cursor.next {
+            cursor.go_to(cycle);
+        }
+        cursor
+    }
+
     /// The lines of the cycle last gone to.
-    #[inline]
+    #[inline(always)]
     pub(crate) fn lines(&self) -> &Lines {
         &self.lines
     }
 
     /// Up to this cycle the lines are those of the cycle last gone to.
-    #[inline]
+    #[inline(always)]
     pub(crate) fn next(&self) -> u64 {
         self.next
     }

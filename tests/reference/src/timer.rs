@@ -62,7 +62,7 @@ impl State {
 
     /// One step of a running timer. "When a step returns to 1: counter 0 sets TM and stops the
     /// timer (one shot: house), else it falls by 1."
-    #[inline]
+    #[inline(always)]
     pub(crate) fn step_timer(&mut self) {
         self.register = NEXT[usize::from(self.register & 63)];
         if self.register == 1 {
