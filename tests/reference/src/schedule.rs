@@ -47,9 +47,9 @@ pub(crate) fn refusal(schedule: &[u8]) -> u8 {
 }
 
 pub(crate) fn cycle_of(record: &[u8]) -> u64 {
-    record[..6]
-        .iter()
-        .fold(0, |cycle, &byte| cycle << 8 | u64::from(byte))
+    let mut bytes = [0; 8];
+    bytes[2..].copy_from_slice(&record[..6]);
+    u64::from_be_bytes(bytes)
 }
 
 pub(crate) fn lines_of(record: &[u8]) -> Lines {
