@@ -1,6 +1,6 @@
 //! "Two runners": the plain one and the timer-skipping one.
 
-use crate::instructions::{execute, FORMS};
+use crate::instructions::{execute, in_page, FORMS};
 use crate::log::Log;
 use crate::machine::{following, mark, State, LAST_CYCLE};
 use crate::numbers::{ABOVE_ROM, CYCLE_LIMIT, FIELD, FINISHED, ROM_LENGTH};
@@ -354,10 +354,10 @@ impl<O: Observer> Run<'_, O> {
         self.wait_length(left)
     }
 
-    /// j where a TTM is due and the timer is running.
+    /// The same where "the byte at PC is TTM" and the timer is running.
     #[cold]
     fn wait_length(&mut self, left: u64) -> u64 {
-        if self.waiting_loop().is_none() {
+        if self.jcp_back().is_none() {
             return 0;
         }
         let state = &self.state;
@@ -373,21 +373,16 @@ impl<O: Observer> Run<'_, O> {
         state.ticks_left().min(left).min(no_record) & !1
     }
 
-    /// The JCP of the loop: "the byte at PC is TTM and the next address holds a JCP back to it".
-    fn waiting_loop(&self) -> Option<u8> {
-        let pc = self.state.pc;
-        let next = following(pc);
-        if self.fetch(pc) != Ok(TTM) {
-            return None;
-        }
+    /// The code of "a JCP back to it" that "the next address holds".
+    fn jcp_back(&self) -> Option<u8> {
+        let next = following(self.state.pc);
         let back = self.fetch(next).ok()?;
-        let target = next & 0x7C0 | u16::from(back & 63);
-        (back >= JCP && target == pc).then_some(back)
+        (back >= JCP && in_page(next, back & 63) == self.state.pc).then_some(back)
     }
 
     /// j cycles in one step: TTM and JCP in turn, a timer step in each.
     fn jump(&mut self, j: u64) {
-        if let Some(back) = self.waiting_loop() {
+        if let Some(back) = self.jcp_back() {
             let pc = self.state.pc;
             self.observer.begun(pc, TTM, None, j / 2);
             self.observer.begun(following(pc), back, None, j / 2);
