@@ -90,14 +90,18 @@ impl<'a> Cursor<'a> {
 
     /// Moves to this cycle, which lies nowhere before the last one.
     pub(crate) fn go_to(&mut self, cycle: u64) {
+        let mut passed = None;
         self.next = u64::MAX;
         while let Some((record, rest)) = self.rest.split_at_checked(RECORD) {
             if cycle < cycle_of(record) {
                 self.next = cycle_of(record);
                 break;
             }
-            self.lines = lines_of(record);
+            passed = Some(record);
             self.rest = rest;
+        }
+        if let Some(record) = passed {
+            self.lines = lines_of(record);
         }
     }
 
