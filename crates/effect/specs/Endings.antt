@@ -1,19 +1,20 @@
 -- How an instruction ends, up to the step of the timer, by what its group touches. Assumes nothing: these are definitions.
-use Prim.Native.Nat.{ℕ, zero, suc, _+_, _≤_}
+use Prim.Native.Nat.{ℕ, zero, suc, _+_, _<_, _≤_}
 use mathlib.Core.Path.{_≡_}
 use mathlib.Core.Bool.{cond}
 use mathlib.Core.List.{List, []}
 use lib.ListN.{length}
 use Rattle.runs.specs.Machine.{Out, went}
+use Rattle.runs.specs.Refusals.{cycleLimit}
 use Rattle.upd546.specs.declared.Core.{Core}
 use Rattle.upd546.specs.declared.State.{State}
 use Rattle.upd546.specs.TheMachine.{romLength, wordAt, withWord}
 use Rattle.upd546.specs.Ports.{latched, logBytes}
-use Rattle.upd546.specs.Instructions.{Effect, Instruction}
+use Rattle.upd546.specs.Instructions.{Effect, Instruction, instruction}
 use Rattle.upd546.specs.OneMachineCycle.{needs, onStop}
 use Rattle.tables.specs.Tables.{instructionTable}
 use Rattle.laws.specs.Burst.{owing, started}
-use Rattle.laws.specs.Valid.{Scalars}
+use Rattle.laws.specs.Valid.{Scalars, ValidPorts, ValidRam}
 use Rattle.laws.specs.Writes.{All, ValidWrite}
 use Rattle.instructions.specs.declared.Inputs.{Inputs}
 use Rattle.instructions.specs.Groups.{givenOf}
@@ -87,3 +88,21 @@ portOutcome rom i e s =
 pub record EndsWith (rom : List ℕ) (at : ℕ) (i : Instruction) (g : Inputs) (word n : ℕ) (ram ports log : List ℕ) (d : Started) (ports′ log′ : List ℕ) : Type 0 where
   pub is : startOf d ram ports′ log′ ≡ answerOn at (portOutcome rom i (effectOf i g word ports) (stateOf (g .core) ram ports n)) (stateOf (g .core) ram ports n) log
   pub word-is : effectOf i g word ports .word ≡ word
+
+-- what a group asks that writes ports in cycle n, with the log empty from `at` on
+pub record Writes (rom table : List ℕ) (cycles : ℕ) (i : Instruction) (g : Inputs) (ports log : List ℕ) (at n : ℕ) : Type 0 where
+  pub begins : Begins rom table cycles i (g .core)
+  pub outputs : Outputs i g ports
+  pub latches : ValidPorts ports
+  pub place : at ≤ length log
+  pub below : n < cycleLimit
+
+-- what is asked of the instruction of g's code, and what it comes to
+pub record Carries (rom table : List ℕ) (cycles : ℕ) (g : Inputs) (ram ports log : List ℕ) (at n : ℕ) : Type 0 where
+  pub writes : Writes rom table cycles (instruction (g .code)) g ports log at n
+  pub words : ValidRam ram
+
+abbrev pub ComesTo : (rom : List ℕ) (g : Inputs) (ram ports log : List ℕ) (at n : ℕ) → Started → (ram′ ports′ log′ : List ℕ) → Type 0
+ComesTo rom g ram ports log at n r ram′ ports′ log′ =
+    let s = stateOf (g .core) ram ports n in
+    startOf r ram′ ports′ log′ ≡ answerOn at (outcomeOf rom (instruction (g .code)) g s) s log

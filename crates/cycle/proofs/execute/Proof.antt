@@ -36,7 +36,7 @@ outcome-requires c κs =
     let r = at-entry .pre .0 in
     let b = begins (now (a .rom)) (a .lines) (now (a .ram)) (now (a .ports)) (a .start + a .done) (a .c) (at-fetch-at .fetch-at .result) (sym (f .stop) ∙ left) (f .begins left) r in
     let o = outputs (now (a .rom)) (a .lines) (now (a .ram)) (now (a .ports)) (a .start + a .done) (a .c) (at-fetch-at .fetch-at .result) (sym (f .stop) ∙ left) (f .begins left) r in
-    (b, o, r .valid .ram, r .valid .ports, at-entry .pre .1, r .below)
+    record { writes = record { begins = b; outputs = o; latches = r .valid .ports; place = at-entry .pre .1; below = r .below }; words = r .valid .ram }
 
 same-length : tie.Need-same-length
 same-length c = search needs
