@@ -152,19 +152,22 @@ pub fn check(sched: &[u8]) -> Outcome
     Outcome::Done
 }
 
-// The number of records at or before cycle n.
+// The number of records at or before cycle n, by halves: all before `low` are, and that at `high`, if there is one, isn't.
 fn records_until(sched: &[u8], n: u64) -> usize
+    requires { ⌜ scheduleNumber (now sched) ≡ 0 ⌝ }
     ensures { λ r. ⌜ Counted (now (sched .entry)) n r ⌝ }
 {
-    let count = sched.len() / RECORD_LENGTH;
-    let mut i = 0;
-    while i < count {
-        if n < cycle_at(sched, i) {
-            return i;
+    let mut low = 0;
+    let mut high = sched.len() / RECORD_LENGTH;
+    while low < high {
+        let middle = (low + high) / 2;
+        if n < cycle_at(sched, middle) {
+            high = middle;
+        } else {
+            low = middle + 1;
         }
-        i += 1;
     }
-    i
+    low
 }
 
 // The cycle of record i, or `NO_CYCLE` where there is none.
@@ -196,14 +199,14 @@ fn lines_after(sched: &[u8], taken: usize) -> Lines
     }
 }
 
-// The cursor at cycle n, found from the first record on.
+// The cursor at cycle n.
 pub fn start(sched: &[u8], n: MachineCycles) -> Cursor
     requires { ⌜ scheduleNumber (now sched) ≡ 0 ⌝ }
     ensures { λ r. ⌜ Stands (now (sched .entry)) (n .0) r ⌝ }
 {
     let index = records_until(sched, n.0);
-    let next = next_at(sched, index);
     let lines = lines_after(sched, index);
+    let next = next_at(sched, index);
     Cursor { index, next, lines }
 }
 
