@@ -125,7 +125,7 @@ fn finishes() -> Vec<Input> {
 /// not above the last"
 fn schedules() -> Vec<Input> {
     let records: Vec<u8> = (0..20_000)
-        .flat_map(|k| record(k, 37 * k as u8, 0, 1))
+        .flat_map(|k| record(k, (37 * k) as u8, 0, 1))
         .collect();
     let of_length = |length: usize, end| {
         let name = format!("a schedule of {length} bytes that rises");

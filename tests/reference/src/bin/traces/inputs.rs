@@ -33,7 +33,7 @@ pub fn all() -> Vec<Input> {
 /// rise, and no two neighbours are alike.
 fn long() -> Vec<Input> {
     let records: Vec<u8> = (0..20_000)
-        .flat_map(|k| record(k, 37 * k as u8, 0, 1))
+        .flat_map(|k| record(k, (37 * k) as u8, 0, 1))
         .collect();
     // IA, OE and JCP 000: line A of every fifth cycle, the last record's among them.
     let of = |name: &str, schedule: &[u8], last| {
