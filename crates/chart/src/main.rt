@@ -1,8 +1,6 @@
 // Prints the chart of the codes, bytes and base cycles of each, and the positions of the timer's register.
 // It may not know how the tables are packed: it reads them as the runners do.
-use columns::column;
-use columns::number;
-use libc::STDOUT_FILENO;
+use streams::Output;
 use tables::InstructionTable;
 use tables::PositionTable;
 ghost use mathlib.Core.Path.{_≡_};
@@ -12,37 +10,39 @@ ghost use Rattle.tables.specs.Tables.{instructionTable, positionTable};
 fn main() {
     let instructions = tables::instruction_table();
     let positions = tables::position_table();
-    io::write_all(STDOUT_FILENO, b"bytes/cycles of code 00, 01, ..\n");
+    let mut out = streams::write(Output::Whole(0), b"bytes/cycles of code 00, 01, ..\n");
     let mut high: u8 = 0;
     while high < 16 {
-        codes(&instructions, high);
+        out = codes(&instructions, high, out);
         high += 1;
     }
-    io::write_all(STDOUT_FILENO, b"positions of register 1, 2, ..\n");
+    out = streams::write(out, b"positions of register 1, 2, ..\n");
     let mut register: u8 = 1;
     while register < 64 {
-        place(&positions, register);
+        out = place(&positions, register, out);
         register += 1;
     }
-    io::write_all(STDOUT_FILENO, b"\n");
+    out = streams::write(out, b"\n");
+    streams::end_whole(b"chart", out);
 }
 
 // The line of the 16 codes with this high half.
-fn codes(table: &InstructionTable, high: u8)
+fn codes(table: &InstructionTable, high: u8, before: Output) -> Output
     requires { ⌜ (now table ≡ instructionTable) × (high < 16) ⌝ }
 {
+    let mut out = before;
     let mut low: u8 = 0;
     while low < 16 {
         let size = tables::size_of(table, 16 * high + low);
-        number(size.bytes as u64, b"/");
-        column(size.cycles as u64);
+        out = streams::write_number(out, size.bytes as u64, b'/');
+        out = streams::write_number(out, size.cycles as u64, b' ');
         low += 1;
     }
-    io::write_all(STDOUT_FILENO, b"\n");
+    streams::write(out, b"\n")
 }
 
-fn place(table: &PositionTable, register: u8)
+fn place(table: &PositionTable, register: u8, before: Output) -> Output
     requires { ⌜ (now table ≡ positionTable) × (0 < register) × (register < 64) ⌝ }
 {
-    column(tables::position(table, register) as u64);
+    streams::write_number(before, tables::position(table, register) as u64, b' ')
 }

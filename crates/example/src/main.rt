@@ -4,9 +4,9 @@
 use driver::DriveAnswer;
 use driver::KeptMachine;
 use driver::Runner;
-use libc::STDOUT_FILENO;
 use runs::MachineCycles;
 use runs::Outcome;
+use streams::Output;
 use upd546::CYCLE_BYTES;
 use upd546::LOG_RECORD;
 use upd546::ROM_LENGTH;
@@ -15,6 +15,12 @@ use upd546::layout::IMAGE_LENGTH;
 
 // 10 cycles in two runs: each run of n cycles has 8n + 8 bytes of it.
 const LOG_LENGTH: usize = 8 * 10 + 16;
+
+// What standard output has so far, and the place where the log is empty.
+struct Told {
+    out: Output,
+    at: usize,
+}
 
 fn main() {
     let mut rom = [0u8; ROM_LENGTH];
@@ -25,14 +31,14 @@ fn main() {
     rom[4] = 0x1C;
     let mut log = [0u8; LOG_LENGTH];
     let mut image = [0u8; IMAGE_LENGTH];
-    let written = evening(&rom, &mut log, &mut image);
-    morning(&rom, &mut log, written, &image);
+    let told = evening(&rom, &mut log, &mut image);
+    let out = morning(told, &rom, &mut log, &image);
     image[DP_AT] = 0x80;
-    damaged(&image);
+    streams::end_whole(b"example", damaged(out, &image));
 }
 
-// Three cycles from the fresh state by the plain runner, and a save. The place where the log is empty.
-fn evening(rom: &[u8], log: &mut [u8], image: &mut [u8]) -> usize {
+// Three cycles from the fresh state by the plain runner, and a save.
+fn evening(rom: &[u8], log: &mut [u8], image: &mut [u8]) -> Told {
     let schedule = [0u8; 0];
     let state = upd546::fresh_state();
     let answer = driver::advance(
@@ -43,17 +49,21 @@ fn evening(rom: &[u8], log: &mut [u8], image: &mut [u8]) -> usize {
         log,
         MachineCycles(3),
     );
-    show(answer, log, 0);
+    let shown = show(Output::Whole(0), answer, log, 0);
     let machine = answer.machine;
-    tell(b"saved", save::save(machine.state, image));
-    answer.report.written
+    let out = tell(shown, b"saved", save::save(machine.state, image));
+    Told {
+        out,
+        at: answer.report.written,
+    }
 }
 
 // The bytes are restored, and the panel goes on by the timer-skipping runner. It stops at the code that is none, with number 23.
-fn morning(rom: &[u8], log: &mut [u8], at: usize, image: &[u8]) {
+fn morning(told: Told, rom: &[u8], log: &mut [u8], image: &[u8]) -> Output {
     let kept = restore::restore(image);
     let outcome = kept.outcome;
-    tell(b"restored", outcome);
+    let before = told.out;
+    let out = tell(before, b"restored", outcome);
     let schedule = [0u8; 0];
     let state = kept.state;
     let answer = driver::advance_from(
@@ -62,67 +72,58 @@ fn morning(rom: &[u8], log: &mut [u8], at: usize, image: &[u8]) {
         rom,
         &schedule,
         log,
-        at,
+        told.at,
         MachineCycles(7),
     );
-    show(answer, log, at);
+    show(out, answer, log, told.at)
 }
 
 // DP has 7 bits, so the image is refused with 34. The answer's state is the fresh one.
-fn damaged(image: &[u8]) {
+fn damaged(before: Output, image: &[u8]) -> Output {
     let kept = restore::restore(image);
     let outcome = kept.outcome;
-    tell(b"damaged", outcome);
+    tell(before, b"damaged", outcome)
 }
 
 // The records that a run wrote from a place of the log on, its cycles and instructions, and its number.
-fn show(answer: DriveAnswer, log: &[u8], at: usize) {
+fn show(before: Output, answer: DriveAnswer, log: &[u8], at: usize) -> Output {
     let report = answer.report;
-    records(log, at, report.written);
+    let listed = records(before, log, at, report.written);
     let end = report.end;
-    io::write_all(STDOUT_FILENO, b"end");
-    number(report.cycles.0);
-    number(report.begun);
-    number(runs::end_number(end) as u64);
-    line();
+    let mut out = streams::write(listed, b"end ");
+    out = streams::write_number(out, report.cycles.0, b' ');
+    out = streams::write_number(out, report.begun, b' ');
+    streams::write_number(out, runs::end_number(end) as u64, b'\n')
 }
 
 // Each record: the cycle, the port and its latch after the write.
-fn records(log: &[u8], from: usize, written: usize) {
+fn records(before: Output, log: &[u8], from: usize, written: usize) -> Output {
+    let mut out = before;
     let mut at = from;
     let mut left = written;
     while LOG_RECORD <= left {
         if log.len() < LOG_RECORD {
-            return;
+            return out;
         }
         if log.len() - LOG_RECORD < at {
-            return;
+            return out;
         }
-        io::write_all(STDOUT_FILENO, b"record");
-        number(big_endian::number_at(log, at, CYCLE_BYTES));
-        byte(log[at + 6]);
-        byte(log[at + 7]);
-        line();
+        out = streams::write(out, b"record ");
+        out = streams::write_number(out, big_endian::number_at(log, at, CYCLE_BYTES), b' ');
+        out = byte(out, log[at + 6], b' ');
+        out = byte(out, log[at + 7], b'\n');
         at += LOG_RECORD;
         left -= LOG_RECORD;
     }
+    out
 }
 
-fn tell(what: &[u8], outcome: Outcome) {
-    io::write_all(STDOUT_FILENO, what);
-    number(runs::outcome_number(outcome) as u64);
-    line();
+fn tell(before: Output, what: &[u8], outcome: Outcome) -> Output {
+    let named = streams::write(before, what);
+    let out = streams::write(named, b" ");
+    streams::write_number(out, runs::outcome_number(outcome) as u64, b'\n')
 }
 
-fn byte(b: u8) {
-    number(b as u64);
-}
-
-fn number(n: u64) {
-    io::write_all(STDOUT_FILENO, b" ");
-    io::print_decimal(STDOUT_FILENO, n);
-}
-
-fn line() {
-    io::write_all(STDOUT_FILENO, b"\n");
+fn byte(before: Output, b: u8, after: u8) -> Output {
+    streams::write_number(before, b as u64, after)
 }

@@ -2,8 +2,8 @@
 // from the fresh state, each a call of the board on a log that has room for all its records; their logs, one behind the other, are the
 // log of one unbroken run (demand 3). A refusal is told as `trace` tells it. It may not know how a run goes, nor what an image holds.
 use board::REPORT_LENGTH;
-use libc::STDIN_FILENO;
-use libc::STDOUT_FILENO;
+use streams::Input;
+use streams::Output;
 use upd546::ROM_LENGTH;
 use upd546::layout::IMAGE_LENGTH;
 ghost use mathlib.Core.Path.{_≡_};
@@ -24,63 +24,91 @@ const WRITTEN_AT: usize = 16;
 
 const COUNT_BYTES: usize = 8;
 
+// What is left of the cycles, what standard output has, and the number of the last call.
+struct Going {
+    left: u64,
+    out: Output,
+    number: u8,
+}
+
 // The buffer holds more than every input that isn't refused, so what is behind it need not be read.
 fn main() {
     let mut input = io::large_buffer();
-    let got = io::read_full(STDIN_FILENO, &mut input);
-    panel(&input[..got]);
+    let read = streams::fill(&mut input);
+    match read {
+        Input::Full => panel(&input),
+        Input::Ended(got) => panel(&input[..got]),
+        Input::Unread => streams::end_unread(b"ports"),
+    }
 }
 
 fn panel(input: &[u8]) {
     if input.len() < SCHEDULE_AT {
-        refused(21);
+        streams::end_refused(b"ports", 21);
         return;
     }
     let n = big_endian::number_at(input, 0, COUNT_LENGTH);
     all(&input[COUNT_LENGTH..SCHEDULE_AT], &input[SCHEDULE_AT..], n);
 }
 
-// All slices; one at least, so that a refusal is told for n = 0 too.
+// All slices; one at least, so that a refusal is told for n = 0 too. A refusal comes with the first, before anything is written, and its
+// 11 bytes are no log: `waits` refuses them with 41.
 fn all(rom: &[u8], sched: &[u8], n: u64) {
     let mut image = [0u8; IMAGE_LENGTH];
     board::wharfnettle_fresh(&mut image);
-    let mut left = slice(&mut image, rom, sched, n);
-    while 0 < left {
-        left = slice(&mut image, rom, sched, left);
+    let mut going = slice(&mut image, rom, sched, n, Output::Whole(0));
+    while 0 < going.left {
+        let out = going.out;
+        going = slice(&mut image, rom, sched, going.left, out);
     }
+    if board::ran(going.number) {
+        let out = going.out;
+        streams::end_whole(b"ports", out);
+        return;
+    }
+    streams::end_refused(b"ports", going.number);
 }
 
-// One slice of the cycles that are left: a call of the board, its log bytes written to standard output. After a stop or a refusal no cycles
-// are left.
-fn slice(image: &mut [u8; IMAGE_LENGTH], rom: &[u8], sched: &[u8], left: u64) -> u64
-    ensures { λ r. ⌜ r ≤ left - 1 ⌝ }
+// One slice of the cycles that are left: a call of the board, its log bytes written to standard output. After a stop, a refusal or a write
+// that failed no cycles are left.
+fn slice(
+    image: &mut [u8; IMAGE_LENGTH],
+    rom: &[u8],
+    sched: &[u8],
+    left: u64,
+    before: Output,
+) -> Going
+    ensures { λ r. ⌜ r .left ≤ left - 1 ⌝ }
 {
     let asked = least(left, SLICE_CYCLES);
     let mut log = [0u8; LOG_LENGTH];
     let mut report = [0u8; REPORT_LENGTH];
     let number = board::wharfnettle_call(image, rom, sched, &mut log, asked, 1, &mut report);
     let written = big_endian::number_at(&report, WRITTEN_AT, COUNT_BYTES) as usize;
-    if written <= LOG_LENGTH {
-        io::write_all(STDOUT_FILENO, &log[..written]);
+    let out = streams::write_first(before, &log, written);
+    if (number != 0) | is_cut(out) {
+        return Going {
+            left: 0,
+            out,
+            number,
+        };
     }
-    if number == 0 {
-        return left - asked;
+    Going {
+        left: left - asked,
+        out,
+        number,
     }
-    if !board::ran(number) {
-        refused(number);
+}
+
+fn is_cut(out: Output) -> bool {
+    match out {
+        Output::Whole(_) => false,
+        Output::Cut(_) => true,
     }
-    0
 }
 
 fn least(a: u64, b: u64) -> u64
     ensures { λ r. ⌜ r ≡ min a b ⌝ }
 {
     if a < b { a } else { b }
-}
-
-// "A refusal prints only `refused` and the number." Its 11 bytes are no log: `waits` refuses them with 41.
-fn refused(number: u8) {
-    io::write_all(STDOUT_FILENO, b"refused ");
-    io::print_decimal(STDOUT_FILENO, number as u64);
-    io::write_all(STDOUT_FILENO, b"\n");
 }

@@ -5,10 +5,10 @@ use Rattle.chart.proofs.codes.Statement.{statement}
 use Rattle.chart.proofs.codes.Tie as tie
 
 abbrev Inv-loop : tie.InvT-loop
-Inv-loop table high low₀ t5 t6 low = low ≤ 16
+Inv-loop table high out₀ low₀ t7 out low = low ≤ 16
 
 abbrev μ-loop : tie.MeasureT-loop
-μ-loop table high low₀ t5 t6 low = 16 - low
+μ-loop table high out₀ low₀ t7 out low = 16 - low
 
 loop-holds : tie.Need-loop-holds Inv-loop μ-loop
 loop-holds c = search needs
@@ -22,20 +22,17 @@ add-size-of c = search needs
 size-of-requires : tie.Need-size-of-requires Inv-loop μ-loop
 size-of-requires c κs = search needs
 
-cast-number : tie.Need-cast-number Inv-loop μ-loop
-cast-number c = search needs
+cast-write-number : tie.Need-cast-write-number Inv-loop μ-loop
+cast-write-number c = search needs
 
-slice-aggregate-number : tie.Need-slice-aggregate-number Inv-loop μ-loop
-slice-aggregate-number c = search needs
+write-number-requires : tie.Need-write-number-requires Inv-loop μ-loop
+write-number-requires c κs = search needs
 
-number-requires : tie.Need-number-requires Inv-loop μ-loop
-number-requires c κs = search needs
+cast-write-number-2 : tie.Need-cast-write-number-2 Inv-loop μ-loop
+cast-write-number-2 c = search needs
 
-cast-column : tie.Need-cast-column Inv-loop μ-loop
-cast-column c = search needs
-
-column-requires : tie.Need-column-requires Inv-loop μ-loop
-column-requires c κs = search needs
+write-number-requires-2 : tie.Need-write-number-requires-2 Inv-loop μ-loop
+write-number-requires-2 c κs = search needs
 
 add-low : tie.Need-add-low Inv-loop μ-loop
 add-low c = search needs
@@ -46,11 +43,11 @@ loop-less c = search needs
 loop-again : tie.Need-loop-again Inv-loop μ-loop
 loop-again c = search needs
 
-slice-aggregate-write-all : tie.Need-slice-aggregate-write-all Inv-loop μ-loop
-slice-aggregate-write-all c = search needs
+slice-aggregate-write : tie.Need-slice-aggregate-write Inv-loop μ-loop
+slice-aggregate-write c = search needs
 
-write-all-requires : tie.Need-write-all-requires Inv-loop μ-loop
-write-all-requires c κs = search needs
+write-requires : tie.Need-write-requires Inv-loop μ-loop
+write-requires c κs = search needs
 
 returns : tie.Need-returns Inv-loop μ-loop
 returns c = search needs
@@ -65,14 +62,13 @@ codes-spec =
     mul-size-of
     add-size-of
     size-of-requires
-    cast-number
-    slice-aggregate-number
-    number-requires
-    cast-column
-    column-requires
+    cast-write-number
+    write-number-requires
+    cast-write-number-2
+    write-number-requires-2
     add-low
     loop-less
     loop-again
-    slice-aggregate-write-all
-    write-all-requires
+    slice-aggregate-write
+    write-requires
     returns)

@@ -5,16 +5,16 @@ use Rattle.chart.proofs.main.Statement.{statement}
 use Rattle.chart.proofs.main.Tie as tie
 
 abbrev Inv-loop : tie.InvT-loop
-Inv-loop instructions positions high₀ t6 t7 high = high ≤ 16
+Inv-loop instructions positions out₀ high₀ t7 t8 t9 out high = high ≤ 16
 
 abbrev μ-loop : tie.MeasureT-loop
-μ-loop instructions positions high₀ t6 t7 high = 16 - high
+μ-loop instructions positions out₀ high₀ t7 t8 t9 out high = 16 - high
 
 abbrev Inv-loop2 : tie.InvT-loop2
-Inv-loop2 positions high register₀ t7 register = (0 < register) × (register ≤ 64)
+Inv-loop2 positions out₀ high register₀ t8 t9 out register = (0 < register) × (register ≤ 64)
 
 abbrev μ-loop2 : tie.MeasureT-loop2
-μ-loop2 positions high register₀ t7 register = 64 - register
+μ-loop2 positions out₀ high register₀ t8 t9 out register = 64 - register
 
 instruction-table-requires : tie.Need-instruction-table-requires Inv-loop μ-loop Inv-loop2 μ-loop2
 instruction-table-requires c κs = search needs
@@ -22,11 +22,11 @@ instruction-table-requires c κs = search needs
 position-table-requires : tie.Need-position-table-requires Inv-loop μ-loop Inv-loop2 μ-loop2
 position-table-requires c κs = search needs
 
-slice-aggregate-write-all : tie.Need-slice-aggregate-write-all Inv-loop μ-loop Inv-loop2 μ-loop2
-slice-aggregate-write-all c = search needs
+slice-aggregate-write : tie.Need-slice-aggregate-write Inv-loop μ-loop Inv-loop2 μ-loop2
+slice-aggregate-write c = search needs
 
-write-all-requires : tie.Need-write-all-requires Inv-loop μ-loop Inv-loop2 μ-loop2
-write-all-requires c κs = search needs
+write-requires : tie.Need-write-requires Inv-loop μ-loop Inv-loop2 μ-loop2
+write-requires c κs = search needs
 
 loop-holds : tie.Need-loop-holds Inv-loop μ-loop Inv-loop2 μ-loop2
 loop-holds c = search needs
@@ -43,12 +43,11 @@ loop-less c = search needs
 loop-again : tie.Need-loop-again Inv-loop μ-loop Inv-loop2 μ-loop2
 loop-again c = search needs
 
-slice-aggregate-write-all-2 :
-    tie.Need-slice-aggregate-write-all-2 Inv-loop μ-loop Inv-loop2 μ-loop2
-slice-aggregate-write-all-2 c = search needs
+slice-aggregate-write-2 : tie.Need-slice-aggregate-write-2 Inv-loop μ-loop Inv-loop2 μ-loop2
+slice-aggregate-write-2 c = search needs
 
-write-all-requires-2 : tie.Need-write-all-requires-2 Inv-loop μ-loop Inv-loop2 μ-loop2
-write-all-requires-2 c κs = search needs
+write-requires-2 : tie.Need-write-requires-2 Inv-loop μ-loop Inv-loop2 μ-loop2
+write-requires-2 c κs = search needs
 
 loop2-holds : tie.Need-loop2-holds Inv-loop μ-loop Inv-loop2 μ-loop2
 loop2-holds c = search needs
@@ -65,12 +64,17 @@ loop2-less c = search needs
 loop2-again : tie.Need-loop2-again Inv-loop μ-loop Inv-loop2 μ-loop2
 loop2-again c = search needs
 
-slice-aggregate-write-all-3 :
-    tie.Need-slice-aggregate-write-all-3 Inv-loop μ-loop Inv-loop2 μ-loop2
-slice-aggregate-write-all-3 c = search needs
+slice-aggregate-write-3 : tie.Need-slice-aggregate-write-3 Inv-loop μ-loop Inv-loop2 μ-loop2
+slice-aggregate-write-3 c = search needs
 
-write-all-requires-3 : tie.Need-write-all-requires-3 Inv-loop μ-loop Inv-loop2 μ-loop2
-write-all-requires-3 c κs = search needs
+write-requires-3 : tie.Need-write-requires-3 Inv-loop μ-loop Inv-loop2 μ-loop2
+write-requires-3 c κs = search needs
+
+slice-aggregate-end-whole : tie.Need-slice-aggregate-end-whole Inv-loop μ-loop Inv-loop2 μ-loop2
+slice-aggregate-end-whole c = search needs
+
+end-whole-requires : tie.Need-end-whole-requires Inv-loop μ-loop Inv-loop2 μ-loop2
+end-whole-requires c κs = search needs
 
 returns : tie.Need-returns Inv-loop μ-loop Inv-loop2 μ-loop2
 returns c = search needs
@@ -85,20 +89,22 @@ main-spec =
     μ-loop2
     instruction-table-requires
     position-table-requires
-    slice-aggregate-write-all
-    write-all-requires
+    slice-aggregate-write
+    write-requires
     loop-holds
     codes-requires
     add-high
     loop-less
     loop-again
-    slice-aggregate-write-all-2
-    write-all-requires-2
+    slice-aggregate-write-2
+    write-requires-2
     loop2-holds
     place-requires
     add-register
     loop2-less
     loop2-again
-    slice-aggregate-write-all-3
-    write-all-requires-3
+    slice-aggregate-write-3
+    write-requires-3
+    slice-aggregate-end-whole
+    end-whole-requires
     returns)

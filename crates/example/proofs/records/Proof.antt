@@ -5,10 +5,10 @@ use Rattle.example.proofs.records.Statement.{statement}
 use Rattle.example.proofs.records.Tie as tie
 
 abbrev Inv-loop : tie.InvT-loop
-Inv-loop log from written at₀ left₀ t6 at left = 0 ≤ left
+Inv-loop log from written out₀ at₀ left₀ t8 out at left = 0 ≤ left
 
 abbrev μ-loop : tie.MeasureT-loop
-μ-loop log from written at₀ left₀ t6 at left = left
+μ-loop log from written out₀ at₀ left₀ t8 out at left = left
 
 loop-holds : tie.Need-loop-holds Inv-loop μ-loop
 loop-holds c = search needs
@@ -22,17 +22,17 @@ sub-if2 c = search needs
 returns-2 : tie.Need-returns-2 Inv-loop μ-loop
 returns-2 c = search needs
 
-slice-aggregate-write-all : tie.Need-slice-aggregate-write-all Inv-loop μ-loop
-slice-aggregate-write-all c = search needs
+slice-aggregate-write : tie.Need-slice-aggregate-write Inv-loop μ-loop
+slice-aggregate-write c = search needs
 
-write-all-requires : tie.Need-write-all-requires Inv-loop μ-loop
-write-all-requires c κs = search needs
+write-requires : tie.Need-write-requires Inv-loop μ-loop
+write-requires c κs = search needs
 
 number-at-requires : tie.Need-number-at-requires Inv-loop μ-loop
 number-at-requires c κs = search needs
 
-number-requires : tie.Need-number-requires Inv-loop μ-loop
-number-requires c κs = search needs
+write-number-requires : tie.Need-write-number-requires Inv-loop μ-loop
+write-number-requires c κs = search needs
 
 add-byte : tie.Need-add-byte Inv-loop μ-loop
 add-byte c = search needs
@@ -51,9 +51,6 @@ shared-slice-read-byte-2 c = search needs
 
 byte-requires-2 : tie.Need-byte-requires-2 Inv-loop μ-loop
 byte-requires-2 c κs = search needs
-
-line-requires : tie.Need-line-requires Inv-loop μ-loop
-line-requires c κs = search needs
 
 add-at : tie.Need-add-at Inv-loop μ-loop
 add-at c = search needs
@@ -77,17 +74,16 @@ records-spec =
     returns
     sub-if2
     returns-2
-    slice-aggregate-write-all
-    write-all-requires
+    slice-aggregate-write
+    write-requires
     number-at-requires
-    number-requires
+    write-number-requires
     add-byte
     shared-slice-read-byte
     byte-requires
     add-byte-2
     shared-slice-read-byte-2
     byte-requires-2
-    line-requires
     add-at
     loop-less
     loop-again

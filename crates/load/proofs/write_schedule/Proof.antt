@@ -1,8 +1,6 @@
--- The records that were made lie within the buffer. Assumes nothing.
-use mathlib.Core.Path.{sym}
+-- A schedule that was made has few records. Assumes nothing.
 use Prim.Native.Nat.{_≤_}
 use native.Mathlib.Omega.{arith}
-use lib.Seq.{length-take-le}
 use Rattle.generator.proofs.Loads.{made-fits}
 use borrow.Author.Needs.{needs}
 use Rattle.load.proofs.write_schedule.Statement.{statement}
@@ -17,8 +15,11 @@ slice-aggregate-make-schedule c = search needs
 make-schedule-requires : tie.Need-make-schedule-requires
 make-schedule-requires c κs = search needs
 
-write-refused-requires : tie.Need-write-refused-requires
-write-refused-requires c κs = search needs
+slice-aggregate-end-refused : tie.Need-slice-aggregate-end-refused
+slice-aggregate-end-refused c = search needs
+
+end-refused-requires : tie.Need-end-refused-requires
+end-refused-requires c κs = search needs
 
 returns : tie.Need-returns
 returns c = search needs
@@ -30,14 +31,17 @@ few c = made-fits _ _ _ (c .before .before .make-schedule .ensures) (c .if1 .lef
 mul-size : tie.Need-mul-size
 mul-size c = omega (arith, few c)
 
-array-share-prefix-space : tie.Need-array-share-prefix-space
-array-share-prefix-space c = omega (arith, few c, c .before .space2 .given)
+slice-aggregate-write-first : tie.Need-slice-aggregate-write-first
+slice-aggregate-write-first c = search needs
 
-slice-aggregate-write-all : tie.Need-slice-aggregate-write-all
-slice-aggregate-write-all c = sym (length-take-le _ _ (omega (arith, few (c .before), c .before .before .space2 .given)))
+write-first-requires : tie.Need-write-first-requires
+write-first-requires c κs = search needs
 
-write-all-requires : tie.Need-write-all-requires
-write-all-requires c κs = search needs
+slice-aggregate-end-whole : tie.Need-slice-aggregate-end-whole
+slice-aggregate-end-whole c = search needs
+
+end-whole-requires : tie.Need-end-whole-requires
+end-whole-requires c κs = search needs
 
 returns-2 : tie.Need-returns-2
 returns-2 c = search needs
@@ -49,10 +53,12 @@ write-schedule-spec =
     large-buffer-requires
     slice-aggregate-make-schedule
     make-schedule-requires
-    write-refused-requires
+    slice-aggregate-end-refused
+    end-refused-requires
     returns
     mul-size
-    array-share-prefix-space
-    slice-aggregate-write-all
-    write-all-requires
+    slice-aggregate-write-first
+    write-first-requires
+    slice-aggregate-end-whole
+    end-whole-requires
     returns-2)

@@ -4,10 +4,10 @@ use Rattle.ports.proofs.all.Statement.{statement}
 use Rattle.ports.proofs.all.Tie as tie
 
 abbrev Inv-loop : tie.InvT-loop
-Inv-loop rom sched n image₀ left₀ image left = Unit {0}
+Inv-loop rom sched n image₀ going₀ t8 t9 image going = Unit {0}
 
 abbrev μ-loop : tie.MeasureT-loop
-μ-loop rom sched n image₀ left₀ image left = left
+μ-loop rom sched n image₀ going₀ t8 t9 image going = going .left
 
 slice-aggregate-wharfnettle-fresh : tie.Need-slice-aggregate-wharfnettle-fresh Inv-loop μ-loop
 slice-aggregate-wharfnettle-fresh c = search needs
@@ -30,8 +30,26 @@ loop-less c = search needs
 loop-again : tie.Need-loop-again Inv-loop μ-loop
 loop-again c = search needs
 
+ran-requires : tie.Need-ran-requires Inv-loop μ-loop
+ran-requires c κs = search needs
+
+slice-aggregate-end-whole : tie.Need-slice-aggregate-end-whole Inv-loop μ-loop
+slice-aggregate-end-whole c = search needs
+
+end-whole-requires : tie.Need-end-whole-requires Inv-loop μ-loop
+end-whole-requires c κs = search needs
+
 returns : tie.Need-returns Inv-loop μ-loop
 returns c = search needs
+
+slice-aggregate-end-refused : tie.Need-slice-aggregate-end-refused Inv-loop μ-loop
+slice-aggregate-end-refused c = search needs
+
+end-refused-requires : tie.Need-end-refused-requires Inv-loop μ-loop
+end-refused-requires c κs = search needs
+
+returns-2 : tie.Need-returns-2 Inv-loop μ-loop
+returns-2 c = search needs
 
 pub all-spec : {M : Type 1} → statement M
 all-spec =
@@ -46,4 +64,10 @@ all-spec =
     slice-requires-2
     loop-less
     loop-again
-    returns)
+    ran-requires
+    slice-aggregate-end-whole
+    end-whole-requires
+    returns
+    slice-aggregate-end-refused
+    end-refused-requires
+    returns-2)

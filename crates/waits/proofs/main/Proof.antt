@@ -2,21 +2,19 @@
 use mathlib.Core.Path.{_≡_}
 use Prim.Native.Nat.{_-_}
 use lib.ListN.{length}
+use Rattle.streams.proofs.Inputs.{ended-counts}
 use borrow.Author.Needs.{needs}
 use Rattle.waits.proofs.main.Statement.{statement}
 use Rattle.waits.proofs.main.Tie as tie
 
 abbrev Inv-loop : tie.InvT-loop
-Inv-loop part₀ text reading₀ k₀ part reading k = 65536 ≡ length part
+Inv-loop part₀ reading₀ k₀ t6 t7 part reading k = 65536 ≡ length part
 
 abbrev μ-loop : tie.MeasureT-loop
-μ-loop part₀ text reading₀ k₀ part reading k = 70368744177664 - k
+μ-loop part₀ reading₀ k₀ t6 t7 part reading k = 70368744177664 - k
 
 large-buffer-requires : tie.Need-large-buffer-requires Inv-loop μ-loop
 large-buffer-requires c κs = search needs
-
-buffer-requires : tie.Need-buffer-requires Inv-loop μ-loop
-buffer-requires c κs = search needs
 
 no-parts-requires : tie.Need-no-parts-requires Inv-loop μ-loop
 no-parts-requires c κs = search needs
@@ -24,20 +22,48 @@ no-parts-requires c κs = search needs
 loop-holds : tie.Need-loop-holds Inv-loop μ-loop
 loop-holds c = search needs
 
-slice-aggregate-read-full : tie.Need-slice-aggregate-read-full Inv-loop μ-loop
-slice-aggregate-read-full c = search needs
+slice-aggregate-fill : tie.Need-slice-aggregate-fill Inv-loop μ-loop
+slice-aggregate-fill c = search needs
 
-read-full-requires : tie.Need-read-full-requires Inv-loop μ-loop
-read-full-requires c κs = search needs
+fill-requires : tie.Need-fill-requires Inv-loop μ-loop
+fill-requires c κs = search needs
+
+enum-told : tie.Need-enum-told Inv-loop μ-loop
+enum-told c = search needs
+
+slice-aggregate-end-unread : tie.Need-slice-aggregate-end-unread Inv-loop μ-loop
+slice-aggregate-end-unread c = search needs
+
+end-unread-requires : tie.Need-end-unread-requires Inv-loop μ-loop
+end-unread-requires c κs = search needs
+
+returns : tie.Need-returns Inv-loop μ-loop
+returns c = search needs
+
+enum-known-read : tie.Need-enum-known-read Inv-loop μ-loop
+enum-known-read c = search needs
 
 array-share-prefix-part : tie.Need-array-share-prefix-part Inv-loop μ-loop
-array-share-prefix-part c = search needs
+array-share-prefix-part c = ended-counts _ _ _ (c .before .before .before .before .before .fill .ensures) (c .before .read .given .1) .0
 
 slice-aggregate-part-read : tie.Need-slice-aggregate-part-read Inv-loop μ-loop
-slice-aggregate-part-read c = search needs
+slice-aggregate-part-read c =
+    ended-counts _ _ _ (c .before .before .before .before .before .before .fill .ensures) (c .before .before .read .given .1) .1
 
 part-read-requires : tie.Need-part-read-requires Inv-loop μ-loop
 part-read-requires c κs = search needs
+
+tell-requires : tie.Need-tell-requires Inv-loop μ-loop
+tell-requires c κs = search needs
+
+returns-2 : tie.Need-returns-2 Inv-loop μ-loop
+returns-2 c = search needs
+
+slice-aggregate-part-read-2 : tie.Need-slice-aggregate-part-read-2 Inv-loop μ-loop
+slice-aggregate-part-read-2 c = search needs
+
+part-read-requires-2 : tie.Need-part-read-requires-2 Inv-loop μ-loop
+part-read-requires-2 c κs = search needs
 
 add-k : tie.Need-add-k Inv-loop μ-loop
 add-k c = search needs
@@ -48,20 +74,14 @@ loop-less c = search needs
 loop-again : tie.Need-loop-again Inv-loop μ-loop
 loop-again c = search needs
 
-waits-requires : tie.Need-waits-requires Inv-loop μ-loop
-waits-requires c κs = search needs
+slice-aggregate-end-unread-2 : tie.Need-slice-aggregate-end-unread-2 Inv-loop μ-loop
+slice-aggregate-end-unread-2 c = search needs
 
-array-share-prefix-text : tie.Need-array-share-prefix-text Inv-loop μ-loop
-array-share-prefix-text c = search needs
+end-unread-requires-2 : tie.Need-end-unread-requires-2 Inv-loop μ-loop
+end-unread-requires-2 c κs = search needs
 
-slice-aggregate-write-all : tie.Need-slice-aggregate-write-all Inv-loop μ-loop
-slice-aggregate-write-all c = search needs
-
-write-all-requires : tie.Need-write-all-requires Inv-loop μ-loop
-write-all-requires c κs = search needs
-
-returns : tie.Need-returns Inv-loop μ-loop
-returns c = search needs
+returns-3 : tie.Need-returns-3 Inv-loop μ-loop
+returns-3 c = search needs
 
 pub main-spec : {M : Type 1} → statement M
 main-spec =
@@ -70,19 +90,25 @@ main-spec =
     Inv-loop
     μ-loop
     large-buffer-requires
-    buffer-requires
     no-parts-requires
     loop-holds
-    slice-aggregate-read-full
-    read-full-requires
+    slice-aggregate-fill
+    fill-requires
+    enum-told
+    slice-aggregate-end-unread
+    end-unread-requires
+    returns
+    enum-known-read
     array-share-prefix-part
     slice-aggregate-part-read
     part-read-requires
+    tell-requires
+    returns-2
+    slice-aggregate-part-read-2
+    part-read-requires-2
     add-k
     loop-less
     loop-again
-    waits-requires
-    array-share-prefix-text
-    slice-aggregate-write-all
-    write-all-requires
-    returns)
+    slice-aggregate-end-unread-2
+    end-unread-requires-2
+    returns-3)
