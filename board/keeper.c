@@ -234,7 +234,7 @@ static uint8_t run(const char *name, const struct panel *panel, struct state *st
     const uint8_t *rom = panel->bytes + COUNT;
     uint8_t number = wharfnettle_call(state->image, state->image_length, rom, panel->rom_length, rom + WHARFNETTLE_ROM,
                                       panel->schedule_length, log, WHARFNETTLE_LOG(n), n, 1, report, WHARFNETTLE_REPORT);
-    if (WHARFNETTLE_IS_REFUSAL(number))
+    if (wharfnettle_is_refusal(number))
         die("%s is refused with %d: %s", number > 30 ? "the state file" : name, number, meaning(number));
     return number;
 }
