@@ -6,3 +6,4 @@ pub mod Day
 pub mod Waits
 pub mod Board
 pub mod Loads
+pub mod EveryLog

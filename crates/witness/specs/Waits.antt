@@ -16,6 +16,7 @@ use Rattle.waiting.specs.declared.Reading.{Reading}
 use Rattle.waiting.specs.WaitingTimes.{noWaits, nothing, carriedNumber, refusedWith, waitingTimes}
 use Rattle.waiting.specs.EveryLog.{waitsOf}
 use Rattle.waiting.specs.EveryList.{AllAccepted, carriedOn, listLogs}
+use Rattle.report.specs.Parts.{noParts, partRead, partsRead}
 
 -- A LOG
 
@@ -76,16 +77,21 @@ wantedDay = record { landings = oneWait 2 ∷ noWaits ∷ noWaits ∷ noWaits �
 -- THE FIGURES
 
 pub record WaitFigures : Type 0 where
-  -- `EveryRiseIsAWait`: one lamp lit on landings 0 and 1 each, none on landing 2
+  -- `EveryRiseIsAWait`: one lamp lit on landings 0 and 1 each, none on landings 2 and 3
   pub waits-0 : waitsOf (waitingTimes (calling ++ coming) nothing .carried) 0 ≡ 1
   pub waits-1 : waitsOf (waitingTimes (calling ++ coming) nothing .carried) 1 ≡ 1
   pub waits-2 : waitsOf (waitingTimes (calling ++ coming) nothing .carried) 2 ≡ 0
+  pub waits-3 : waitsOf (waitingTimes (calling ++ coming) nothing .carried) 3 ≡ 0
   -- `OnlyFiguresDraw41`, `ReadOnAsJoined`
   pub carried-on : carriedNumber [] (waitingTimes calling nothing .carried) ≡ 0
   pub read-on : waitingTimes coming (waitingTimes calling nothing .carried) ≡ wanted
   -- `LastRecordCounts`, of a record that is accepted and of one that isn't
   pub last-counts : waitingTimes (calling ++ coming) nothing ≡ wanted
   pub last-refused : waitingTimes (calling ++ wide) nothing ≡ refusedWith 42
+  -- `PartsReadAsOne`: a part that is sound, one that isn't, and a last one that is torn, by which 41 comes before 42
+  pub in-parts : partRead (partsRead noParts (calling ∷ [])) coming ≡ wanted
+  pub parts-42 : partRead (partsRead noParts (wide ∷ [])) coming ≡ refusedWith 42
+  pub parts-41 : partRead (partsRead noParts (wide ∷ [])) (take 5 coming) ≡ refusedWith 41
   -- `EveryListReportsAsOneRun`: the wait that the power cut falls into is there, and whole
   pub accepted : AllAccepted nothing (listLogs upd546 lampCalls)
   pub day : carriedOn nothing (listLogs upd546 lampCalls) ≡ wantedDay
