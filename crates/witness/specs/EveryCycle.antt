@@ -1,6 +1,6 @@
 -- The theorems about the machine cycle a second time, for every argument, with the documents' figures in place of names: one that
 -- holds of fewer arguments, assumes more or says less doesn't give its line. Assumes nothing: these are definitions.
-use Prim.Native.Nat.{ℕ, suc, _+_, _*_, _^_, max, _<_, _≤_}
+use Prim.Native.Nat.{ℕ, suc, _+_, _*_, max, _<_, _≤_}
 use mathlib.Core.Path.{_≡_}
 use mathlib.Core.Bool.{true, false}
 use mathlib.Core.List.{List, [], _∷_}

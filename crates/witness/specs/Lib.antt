@@ -8,3 +8,4 @@ pub mod Board
 pub mod Loads
 pub mod EveryLog
 pub mod EveryCycle
+pub mod EveryCall
