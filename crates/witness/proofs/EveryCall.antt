@@ -68,7 +68,15 @@ facts = record {
   refused-run = λ kind rom sched m log n r m′ log′ e y end. as-it-was r m m′ log log′ (refused-as-it-was kind rom sched m log n r m′ log′ e y end);
   numbered-run = λ kind rom sched m log n r m′ log′ e k number.
       let a = numbered-as-it-was kind rom sched m log n r m′ log′ e k number in (a .0, as-it-was r m m′ log log′ (a .1));
-  lists = every-list;
+  lists = λ rom sched s calls p v m.
+      let e = every-list rom sched s calls p v m in
+      record {
+        image = e .ends .image;
+        call = e .call;
+        next-run = e .goes-on .next-run;
+        next-save = e .goes-on .next-save;
+        next-restore = e .goes-on .next-restore;
+      };
   slices = every-list-of-slices;
   calls = λ c. record {
     ending = every-calls-number-tells c;
@@ -80,7 +88,7 @@ facts = record {
     log = λ l h. every-call-tells-its-run c l h .log;
     counts = λ l h. counts-read c (every-call-tells-its-run c l h .counts);
   };
-  call-lists = every-list-of-calls;
+  call-lists = λ rom sched s calls p v m. let e = every-list-of-calls rom sched s calls p v m in record { reports = e .reports; next = e .goes-on };
   images = every-image;
   accepted-images = every-accepted-image;
 }

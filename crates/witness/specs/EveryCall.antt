@@ -1,6 +1,6 @@
 -- The theorems about runs, images, lists and the board's call a second time, for every argument, with the documents' figures in place
 -- of names: one that holds of fewer arguments, assumes more or says less doesn't give its line. Assumes nothing: these are definitions.
-use Prim.Native.Nat.{ℕ, suc, _+_, _^_, _<_, _≤_}
+use Prim.Native.Nat.{ℕ, suc, _+_, _*_, _^_, _<_, _≤_}
 use mathlib.Core.Path.{_≡_}
 use mathlib.Core.Logic.{_↔_}
 use mathlib.Core.Bool.{true, false}
@@ -10,9 +10,10 @@ use Rattle.runs.specs.declared.Refusal.{Refusal}
 use Rattle.runs.specs.declared.RunEnd.the-variants.{Refused}
 use Rattle.runs.specs.Machine.{Machine}
 use Rattle.runs.specs.Numbers.{isStop, endOf}
-use Rattle.runs.specs.TwoRunners.{RunAnswer, stopped, refused, runNumber, plain, skipping, saveAnswer, restoreAnswer}
+use Rattle.runs.specs.TwoRunners.{RunAnswer, stopped, refused, unbroken, runNumber, plain, skipping, saveAnswer, restoreAnswer}
 use Rattle.runs.specs.Laws.{Bytes, Panel, JumpLaws, NumberLaws, Laws}
-use Rattle.runs.specs.Lists.{Kind, Call, runAnswer, Meant, EndsAsOneRun, Slice, slicesAsk, Lendable, SlicesEndAsOneRun}
+use Rattle.runs.specs.Lists.{Kind, Call, run, save, restore, Each, runAnswer, refusal, notRefused, last, WrittenBy, Meant, asked, AnswersAs, EndsAsOneRun}
+use Rattle.runs.specs.Lists.{Slice, slicesAsk, Lendable, SlicesEndAsOneRun}
 use Rattle.upd546.specs.declared.State.{State}
 use Rattle.upd546.specs.Bytes.{numberAt}
 use Rattle.upd546.specs.StateImage.{imageOf, stateNumber}
@@ -23,8 +24,8 @@ use Rattle.driver.specs.declared.KeptMachine.{KeptMachine}
 use Rattle.driver.specs.declared.Report.{Report}
 use Rattle.driver.specs.Lending.{broughtTo}
 use Rattle.calls.specs.Call.{BoardCall, longEnough, runOf, callAnswer}
-use Rattle.calls.specs.EveryCall.{numberOfEnd, callRefusal, callNumber, ChangesNothing, Rewrites, endingBy, endingOf}
-use Rattle.calls.specs.Lists.{callsNotRefused, OnOneImage, CallsEndAsOneRun, Lending, onImage, LentUnlessRefused, ImageEndsAsOneRun}
+use Rattle.calls.specs.EveryCall.{numberOfEnd, callRefusal, callNumber, ChangesNothing, Rewrites, ReadsBack, endingBy, endingOf}
+use Rattle.calls.specs.Lists.{CallLent, callsAsk, callsNotRefused, imageAfter, OnOneImage, CallsEndAsOneRun, Lending, onImage, LentUnlessRefused, ImageEndsAsOneRun}
 
 -- RUNS
 
@@ -56,7 +57,23 @@ pub record OfEveryRefusal (r : Report) (m m′ : KeptMachine) (log log′ : List
   pub same-log : log′ ≡ log
   pub counts : r .cycles .0 + r .clocks .0 + r .begun + r .written + r .steps ≡ 0
 
+-- LISTS: of the calls not refused, what `EndsAs`, `call` and `goes-on` say for every buffer, log and next call
+pub record OfEveryList (rom sched : List ℕ) (s : State) (cs : List (Call State)) : Type 0 where
+  pub image : (buffer : List ℕ) → saveAnswer upd546 (last upd546 s cs) buffer ≡ saveAnswer upd546 (unbroken upd546 rom sched (asked upd546 cs) s .state) buffer
+  pub call : s .cycle .0 + asked upd546 cs ≤ 281474976710655 → (kind : Kind) (log : List ℕ) → 8 * asked upd546 cs + 8 ≤ length log
+      → AnswersAs (runAnswer upd546 kind rom sched s log (asked upd546 cs)) (unbroken upd546 rom sched (asked upd546 cs) s)
+  pub next-run : (kind : Kind) (log : List ℕ) (n : ℕ) → s .cycle .0 + (asked upd546 cs + n) ≤ 281474976710655
+      → refusal upd546 (run kind rom sched (last upd546 s cs) log n) ≡ 0
+  pub next-save : (buffer : List ℕ) → 81 ≤ length buffer → refusal upd546 (save (last upd546 s cs) buffer) ≡ 0
+  pub next-restore : (bytes : List ℕ) → WrittenBy upd546 (last upd546 s cs) bytes → refusal upd546 (restore bytes) ≡ 0
+
 -- THE BOARD'S CALL
+
+-- of the calls not refused, what `reports` and `goes-on` say
+pub record OfEveryCallList (rom sched : List ℕ) (s : State) (cs : List BoardCall) : Type 0 where
+  pub reports : Each (λ c. length (c .log) < 2 ^ 64 → ReadsBack upd546 c) cs
+  pub next : (c : BoardCall) → CallLent rom sched (imageAfter upd546 (imageOf s) cs) c → 32 ≤ length (c .report)
+      → s .cycle .0 + (callsAsk cs + c .n) ≤ 281474976710655 → callRefusal upd546 c ≡ 0
 
 -- `EveryReportReadsBack` and the counts of `EveryCallTellsItsRun`
 pub record CountsRead (c : BoardCall) : Type 0 where
@@ -104,13 +121,13 @@ pub record CallFacts : Type 0 where
       → (endOf (r .end) ≡ refused (suc k)) × OfEveryRefusal r m m′ log log′
   -- DEMAND 3: `EveryListEndsAsOneRun`, `EveryListOfSlicesEndsAsOneRun`
   pub lists : (rom sched : List ℕ) (s : State) (calls : List (Call State)) → Panel upd546 rom sched → stateNumber s ≡ 0 → Meant upd546 rom sched s calls
-      → EndsAsOneRun upd546 rom sched s calls
+      → OfEveryList rom sched s (notRefused upd546 calls)
   pub slices : (rom sched : List ℕ) (s : State) (ps : List Slice) → Panel upd546 rom sched → stateNumber s ≡ 0
       → s .cycle .0 + slicesAsk ps ≤ 281474976710655 → Lendable upd546 ps → SlicesEndAsOneRun upd546 rom sched s ps
   -- R-3: `EveryListOfCallsEndsAsOneRun`, `EveryImageEndsAsOneRun`, `EveryAcceptedImageEndsAsOneRun`
   pub calls : (c : BoardCall) → OfEveryCall c
   pub call-lists : (rom sched : List ℕ) (s : State) (calls : List BoardCall) → Panel upd546 rom sched → stateNumber s ≡ 0
-      → OnOneImage upd546 rom sched (imageOf s) (callsNotRefused upd546 calls) → CallsEndAsOneRun upd546 rom sched s calls
+      → OnOneImage upd546 rom sched (imageOf s) (callsNotRefused upd546 calls) → OfEveryCallList rom sched s (callsNotRefused upd546 calls)
   pub images : (rom sched : List ℕ) (s : State) (ls : List Lending) → Panel upd546 rom sched → stateNumber s ≡ 0
       → LentUnlessRefused upd546 rom sched (onImage upd546 (imageOf s) ls) → ImageEndsAsOneRun upd546 rom sched s ls
   pub accepted-images : (rom sched image : List ℕ) (ls : List Lending) → Bytes image → Panel upd546 rom sched → restoreAnswer upd546 image .number ≡ 0
