@@ -12,6 +12,7 @@ use Rattle.waiting.specs.declared.Reading.{Reading}
 use Rattle.waiting.specs.WaitingTimes.{nothing, waitingTimes}
 use Rattle.waiting.specs.EveryLog.{lampsLit, waitsOf}
 use Rattle.waiting.specs.EveryList.{carriedOn, listLogs, ReportsAsOneRun}
+use Rattle.waiting.proofs.Growth.{carried-grown, can-read}
 use Rattle.waiting.proofs.EveryLog.{every-rise-is-a-wait, read-on-as-joined, only-figures-draw-41, last-record-counts}
 use Rattle.waiting.proofs.EveryList.{reports-as-one-run, every-list-reports-as-one-run}
 use Rattle.report.proofs.Parts.{parts-read-as-one}
@@ -44,6 +45,11 @@ facts = record {
     read-on = λ more. read-on-as-joined log more c;
     draws-41 = only-figures-draw-41 log c;
     last = λ r. last-record-counts log r c;
+  };
+  records = λ c. record {
+    grows = λ base k r. carried-grown base k c r;
+    four = λ k n g h p q. can-read k n c g h p q .four;
+    closes = λ k n g h p q i l. let w = can-read k n c g h p q .each i l in (w .started, w .closed, w .cycles, w .now);
   };
   parts = parts-read-as-one;
   days = days;

@@ -13,13 +13,15 @@ use Rattle.upd546.specs.TheMachine.{fresh}
 use Rattle.upd546.specs.TwoRunners.{upd546}
 use Rattle.laws.proofs.Lists.{below-all}
 use Rattle.waiting.specs.declared.Reading.{Reading}
-use Rattle.waiting.specs.WaitingTimes.{landingCount, figureMost, lampsAfter, carriedAfter, recordSound, recordNumber, landingSound, carriedSound, carriedNumber, logNumber, waitingTimes, nothing}
+use Rattle.waiting.specs.WaitingTimes.{landingCount, figureMost, lampsAfter, carriedAfter, recordSound, recordNumber, landingSound, carriedSound, carriedNumber, logNumber, waitingTimes, nothing, noWaits, recordHere}
+use Rattle.waiting.specs.Growth.{Grown, CarriedGrown}
 use Rattle.waiting.specs.EveryLog.{landingOf, FiguresWithin}
 use Rattle.waiting.specs.EveryList.{ReportsAsOneRun}
+use Rattle.waiting.proofs.Growth.{carried-grown}
 use Rattle.waiting.proofs.EveryLog.{every-rise-is-a-wait, read-on-as-joined, only-figures-draw-41, last-record-counts}
 use Rattle.waiting.proofs.EveryList.{every-list-reports-as-one-run}
 use Rattle.report.proofs.Parts.{parts-read-as-one}
-use Rattle.witness.specs.Waits.{calling, coming, wide, lampRom, lit, keptLit, lampCalls, WaitFigures}
+use Rattle.witness.specs.Waits.{lampsAt, calling, coming, wide, called, lampRom, lit, keptLit, lampCalls, WaitFigures}
 use Rattle.witness.proofs.Opened.{opened}
 use Rattle.witness.proofs.Calls.{sound}
 
@@ -52,6 +54,16 @@ small =
       longest = each (λ i. landingOf after i .longest .0 ≤ figureMost) (lit≤ tt) (lit≤ tt) (lit≤ tt) (lit≤ tt);
     }
 
+-- nothing has grown before the first record
+none-grown : Grown 0 0 0 0 noWaits
+none-grown = record { closed = lit≤ tt; cycles = lit≤ tt; longest = lit≤ tt; started = lit≤ tt; dark = λ h. refl; mark = refl }
+
+grown : CarriedGrown 0 1 called
+unfolding read
+grown =
+    let none = none-grown in
+    carried-grown 0 0 nothing (recordHere (lampsAt 10 1)) refl (record { four = refl; lamps = lit< tt; landings = (none, (none, (none, (none, tt)))) })
+
 panel : Panel upd546 lampRom []
 unfolding opened
 panel = record { rom-bytes = below-all 256 lampRom (lit< tt) refl; sched-bytes = λ i. lit< tt; not-refused = refl }
@@ -81,6 +93,14 @@ figures =
       read-on = read-on-as-joined calling coming nothing (accepts .0) (only-figures-draw-41 calling nothing (accepts .0) small);
       last-counts = last-record-counts calling coming nothing refl (accepts .0);
       last-refused = last-record-counts calling wide nothing refl (accepts .0);
+      grown-four = grown .four;
+      grown-lamps = grown .lamps;
+      grown-closed = grown .landings .0 .closed;
+      grown-cycles = grown .landings .0 .cycles;
+      grown-longest = grown .landings .0 .longest;
+      grown-started = grown .landings .0 .started;
+      grown-mark = grown .landings .0 .mark;
+      grown-dark = grown .landings .1 .0 .dark refl;
       in-parts = parts-read-as-one (calling ∷ []) coming (refl, tt) (below-all 256 (calling ++ coming) (lit< tt) refl) (lit< tt);
       parts-42 = parts-read-as-one (wide ∷ []) coming (refl, tt) (below-all 256 (wide ++ coming) (lit< tt) refl) (lit< tt);
       parts-41 = parts-read-as-one (wide ∷ []) (take 5 coming) (refl, tt) (below-all 256 (wide ++ take 5 coming) (lit< tt) refl) (lit< tt);

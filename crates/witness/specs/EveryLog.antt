@@ -2,6 +2,7 @@
 -- of fewer arguments, or assumes more, doesn't give its line. Assumes nothing: these are definitions.
 use Prim.Native.Nat.{ℕ, suc, _+_, _*_, _^_, _<_, _≤_}
 use mathlib.Core.Path.{_≡_}
+use mathlib.Core.Bool.{true}
 use mathlib.Core.List.{List, [], _++_}
 use lib.ListN.{length, take}
 use Rattle.runs.specs.Machine.{Machine}
@@ -14,8 +15,10 @@ use Rattle.upd546.specs.TheLineSchedule.{scheduleNumber}
 use Rattle.upd546.specs.TwoRunners.{upd546}
 use Rattle.laws.specs.Records.{EveryRunWritesRecords}
 use Rattle.waiting.specs.declared.Carried.{Carried}
-use Rattle.waiting.specs.WaitingTimes.{carriedAfter, recordHere, recordNumber, carriedNumber, nothing, told, waitingTimes}
-use Rattle.waiting.specs.EveryLog.{lampsLit, waitsOf, FiguresWithin}
+use Rattle.waiting.specs.declared.LogRecord.{LogRecord}
+use Rattle.waiting.specs.WaitingTimes.{carriedAfter, recordHere, recordSound, recordNumber, carriedNumber, nothing, told, waitingTimes}
+use Rattle.waiting.specs.Growth.{CarriedGrown}
+use Rattle.waiting.specs.EveryLog.{lampsLit, landingOf, waitsOf, FiguresWithin}
 use Rattle.waiting.specs.EveryList.{AllAccepted, carriedOn, listLogs, ReportsAsOneRun}
 use Rattle.report.specs.Parts.{noParts, partRead, partsRead, joinedParts, WholeParts}
 use Rattle.generator.specs.Loads.{romOf, scheduleOf}
@@ -33,6 +36,13 @@ pub record OfEveryLog (c : Carried) (log : List ℕ) : Type 0 where
   pub last : (r : List ℕ) → length r ≡ 8 → waitingTimes log c .number ≡ 0
       → waitingTimes (log ++ r) c
       ≡ told (recordNumber (waitingTimes log c .carried .last .0) (recordHere r)) (carriedAfter (waitingTimes log c .carried) (recordHere r))
+
+-- why no figure overflows: `carried-grown`, `can-read`
+pub record OfEveryRecord (c : Carried) : Type 0 where
+  pub grows : (base k : ℕ) (r : LogRecord) → recordSound (c .last .0) r ≡ true → CarriedGrown base k c → CarriedGrown base (suc k) (carriedAfter c r)
+  pub four : (k n : ℕ) → CarriedGrown (2 ^ 60) k c → c .last .0 ≤ n → n < 256 ^ 6 → k < 2 ^ 61 → length (c .landings) ≡ 4
+  pub closes : (k n : ℕ) → CarriedGrown (2 ^ 60) k c → c .last .0 ≤ n → n < 256 ^ 6 → k < 2 ^ 61 → (i : ℕ) → i < 4
+      → (landingOf c i .start .0 ≤ n) × (landingOf c i .closed < 2 ^ 63) × (landingOf c i .cycles .0 < 2 ^ 63) × (n < 2 ^ 63)
 
 -- `PartsReadAsOne`: of parts of any length, as many as there are
 abbrev pub EveryParts : Type 0
@@ -76,6 +86,7 @@ pub record OfEverySeed (seed seed′ : ℕ) : Type 0 where
 
 pub record LogFacts : Type 1 where
   pub logs : (c : Carried) (log : List ℕ) → OfEveryLog c log
+  pub records : (c : Carried) → OfEveryRecord c
   pub parts : EveryParts
   pub days : EveryDay
   pub any-days : {S : Type 0} (M : Machine S) → AnyDay M

@@ -1,9 +1,9 @@
 -- What the theorems about waiting times have to say of a log and of a list of calls: a figure or a plain fact for each clause.
 -- Assumes nothing: these are definitions.
-use Prim.Native.Nat.{ℕ}
+use Prim.Native.Nat.{ℕ, _<_, _≤_}
 use mathlib.Core.Path.{_≡_}
 use mathlib.Core.List.{List, [], _∷_, _++_}
-use lib.ListN.{take, replicate}
+use lib.ListN.{length, take, replicate}
 use Rattle.runs.specs.Lists.{plainOne, skippingOne, Call, run, save, restore, runAnswer}
 use Rattle.runs.specs.TwoRunners.{saveAnswer, restoreAnswer}
 use Rattle.upd546.specs.declared.State.{State}
@@ -13,8 +13,8 @@ use Rattle.upd546.specs.TwoRunners.{upd546}
 use Rattle.waiting.specs.declared.Landing.{Landing}
 use Rattle.waiting.specs.declared.Carried.{Carried}
 use Rattle.waiting.specs.declared.Reading.{Reading}
-use Rattle.waiting.specs.WaitingTimes.{noWaits, nothing, carriedNumber, refusedWith, waitingTimes}
-use Rattle.waiting.specs.EveryLog.{waitsOf}
+use Rattle.waiting.specs.WaitingTimes.{noWaits, nothing, carriedAfter, recordHere, carriedNumber, refusedWith, waitingTimes}
+use Rattle.waiting.specs.EveryLog.{landingOf, waitsOf}
 use Rattle.waiting.specs.EveryList.{AllAccepted, carriedOn, listLogs}
 use Rattle.report.specs.Parts.{noParts, partRead, partsRead}
 
@@ -34,6 +34,10 @@ coming = lampsAt 60 2
 -- a record of port I with a value that its latch can't hold
 abbrev pub wide : List ℕ
 wide = 0 ∷ 0 ∷ 0 ∷ 0 ∷ 0 ∷ 60 ∷ 8 ∷ 8 ∷ []
+
+-- what is carried after the first of these records
+abbrev pub called : Carried
+called = carriedAfter nothing (recordHere (lampsAt 10 1))
 
 -- one closed wait of so many cycles
 abbrev pub oneWait : ℕ → Landing
@@ -88,6 +92,15 @@ pub record WaitFigures : Type 0 where
   -- `LastRecordCounts`, of a record that is accepted and of one that isn't
   pub last-counts : waitingTimes (calling ++ coming) nothing ≡ wanted
   pub last-refused : waitingTimes (calling ++ wide) nothing ≡ refusedWith 42
+  -- `carried-grown`, of the landing that calls and of a dark one
+  pub grown-four : length (called .landings) ≡ 4
+  pub grown-lamps : called .lamps < 16
+  pub grown-closed : landingOf called 0 .closed ≤ 1
+  pub grown-cycles : landingOf called 0 .cycles .0 ≤ 10
+  pub grown-longest : landingOf called 0 .longest .0 ≤ 10
+  pub grown-started : landingOf called 0 .start .0 ≤ 10
+  pub grown-mark : landingOf called 0 .mark ≡ 1
+  pub grown-dark : landingOf called 1 .start .0 ≡ 0
   -- `PartsReadAsOne`: a part that is sound, one that isn't, and a last one that is torn, by which 41 comes before 42
   pub in-parts : partRead (partsRead noParts (calling ∷ [])) coming ≡ wanted
   pub parts-42 : partRead (partsRead noParts (wide ∷ [])) coming ≡ refusedWith 42
