@@ -28,7 +28,7 @@ use Rattle.calls.proofs.EveryCall.{call-number, changes-nothing, call-rewrites,
 use Rattle.calls.proofs.Lists.{calls-end, image-ends}
 use Rattle.calls.proofs.Chip.{every-finish-or-stop-rewrites, every-report-reads-back, every-call-tells-its-run, every-calls-number-tells}
 use Rattle.calls.proofs.Chip.{every-list-of-calls, every-image, every-accepted-image}
-use Rattle.witness.specs.EveryCall.{withSteps, OfEveryRun, OfEveryRefusal, CountsRead, CallFacts, OfAnyMachine}
+use Rattle.witness.specs.EveryCall.{withSteps, OfEveryRun, OfEveryRefusal, CountsRead, CallFacts, OfAnyMachine, OfEveryLaw}
 
 same : {S : Type 0} (M : Machine S) → JumpLaws M → (rom sched : List ℕ) (s : S) (log : List ℕ) (n : ℕ)
     → skipping M rom sched s log n ≡ withSteps (skipping M rom sched s log n .steps) (plain M rom sched s log n)
@@ -109,4 +109,14 @@ any-machine M = record {
   ending = call-tells M;
   refused-by = call-number M;
   unchanged = changes-nothing M;
+}
+
+pub laws : {S : Type 0} (M : Machine S) → OfEveryLaw M
+laws M = record {
+  all = λ c i j. record { cycles = c; images = i; jumps = j };
+  cycled = λ debt s t w sound rises records. record { sound = sound; rises = rises; records = records };
+  cycles = λ debt small step one. record { debt = debt; debt-small = small; step = step; begins-one = one };
+  images = λ long accepted back. record { image-length = long; image-accepted = accepted; image-back = back };
+  jumps = λ h. record { jump-within = h };
+  numbers = λ stops panels states images. record { stops = stops; panels = panels; states = states; images = images };
 }

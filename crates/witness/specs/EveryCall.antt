@@ -8,10 +8,10 @@ use mathlib.Core.List.{List, _++_}
 use lib.ListN.{length, take, drop}
 use Rattle.runs.specs.declared.Refusal.{Refusal}
 use Rattle.runs.specs.declared.RunEnd.the-variants.{Refused}
-use Rattle.runs.specs.Machine.{Machine}
+use Rattle.runs.specs.Machine.{Machine, stop, went}
 use Rattle.runs.specs.Numbers.{isStop, endOf}
 use Rattle.runs.specs.TwoRunners.{RunAnswer, stopped, refused, unbroken, runNumber, plain, skipping, saveAnswer, restoreAnswer}
-use Rattle.runs.specs.Laws.{Bytes, Panel, JumpLaws, NumberLaws, Laws}
+use Rattle.runs.specs.Laws.{Bytes, Panel, Cycled, CycleLaws, ImageLaws, JumpLaws, NumberLaws, Laws}
 use Rattle.runs.specs.Lists.{Kind, Call, run, save, restore, Each, runAnswer, refusal, notRefused, last, WrittenBy, Meant, asked, AnswersAs, EndsAsOneRun}
 use Rattle.runs.specs.Lists.{Slice, slicesAsk, Lendable, SlicesEndAsOneRun}
 use Rattle.upd546.specs.declared.State.{State}
@@ -159,3 +159,18 @@ pub record OfAnyMachine {S : Type 0} (M : Machine S) : Type 0 where
   pub ending : JumpLaws M → NumberLaws M → (c : BoardCall) → endingBy (callAnswer M c .number) ≡ endingOf (longEnough c) (runOf M c .end)
   pub refused-by : (c : BoardCall) → callRefusal M c ≡ callNumber M c
   pub unchanged : (c : BoardCall) → ChangesNothing M (callRefusal M c) c
+
+-- What these ask of a machine, and nothing else: the laws, each made of all that it says.
+pub record OfEveryLaw {S : Type 0} (M : Machine S) : Type 0 where
+  pub all : CycleLaws M → ImageLaws M → JumpLaws M → Laws M
+  pub cycled : (debt : S → ℕ) (s t : S) (w : List ℕ) → M .stateNumber t ≡ 0 → M .at t ≡ suc (M .at s) → length w + debt s ≤ 8 + debt t → Cycled M debt s t w
+  pub cycles : (debt : S → ℕ) → ((s : S) → debt s ≤ 8)
+      → ((rom sched : List ℕ) (s t : S) (w : List ℕ) (b : ℕ) → Panel M rom sched → M .stateNumber s ≡ 0 → M .at s < 281474976710655
+      → M .cycle rom sched s ≡ went t w b → Cycled M debt s t w)
+      → ((rom sched : List ℕ) (s t : S) (w : List ℕ) (b : ℕ) → M .cycle rom sched s ≡ went t w b → b ≤ 1) → CycleLaws M
+  pub images : ((s : S) → M .stateNumber s ≡ 0 → length (M .image s) ≡ M .imageLength) → ((s : S) → M .stateNumber s ≡ 0 → M .imageNumber (M .image s) ≡ 0)
+      → ((s : S) → M .stateNumber s ≡ 0 → M .ofImage (M .image s) ≡ s) → ImageLaws M
+  pub jumps : ((rom sched : List ℕ) (s : S) (left : ℕ) → M .jump rom sched s left ≤ left) → JumpLaws M
+  pub numbers : ((rom sched : List ℕ) (s : S) (k : ℕ) → M .cycle rom sched s ≡ stop k → isStop k ≡ true)
+      → ((rom sched : List ℕ) → isStop (M .panelNumber rom sched) ≡ false) → ((s : S) → isStop (M .stateNumber s) ≡ false)
+      → ((bytes : List ℕ) → isStop (M .imageNumber bytes) ≡ false) → NumberLaws M
