@@ -25,11 +25,11 @@ enum-known-read c = search needs
 array-share-prefix-line : tie.Need-array-share-prefix-line
 array-share-prefix-line c = ended-counts _ _ _ (c .before .before .before .before .fill .ensures) (c .before .read .given .1) .0
 
-slice-aggregate-make : tie.Need-slice-aggregate-make
-slice-aggregate-make c = ended-counts _ _ _ (c .before .before .before .before .before .fill .ensures) (c .before .before .read .given .1) .1
+slice-aggregate-answer : tie.Need-slice-aggregate-answer
+slice-aggregate-answer c = ended-counts _ _ _ (c .before .before .before .before .before .fill .ensures) (c .before .before .read .given .1) .1
 
-make-requires : tie.Need-make-requires
-make-requires c κs = search needs
+answer-requires : tie.Need-answer-requires
+answer-requires c κs = search needs
 
 enum-told-2 : tie.Need-enum-told-2
 enum-told-2 c = search needs
@@ -60,8 +60,8 @@ main-spec =
     expected-requires
     enum-known-read
     array-share-prefix-line
-    slice-aggregate-make
-    make-requires
+    slice-aggregate-answer
+    answer-requires
     enum-told-2
     slice-aggregate-end-unread
     end-unread-requires

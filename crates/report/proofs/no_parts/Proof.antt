@@ -7,7 +7,7 @@ start-of-day-requires : tie.Need-start-of-day-requires
 start-of-day-requires c κs = search needs
 
 returns : tie.Need-returns
-returns c = cc
+returns c = rw (c .start-of-day .ensures)
 
 pub no-parts-spec : {M : Type 1} → statement M
 no-parts-spec = tie.close (tie.spec start-of-day-requires returns)
