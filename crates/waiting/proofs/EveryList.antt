@@ -1,5 +1,5 @@
 -- No switch-off loses or invents a wait: the logs of a list's runs, read one after the other, give the report of the unbroken run's
--- log. Of any machine whose runs write records, and of the uPD546. Assumes nothing.
+-- log. Of any machine, by what is promised of it. Assumes nothing.
 use mathlib.Core.Path.{_≡_, _∙_, refl, sym, ap, subst}
 use mathlib.Core.Bool.{Bool, true, false, cond}
 use mathlib.Core.List.{List, [], _∷_, _++_}
@@ -14,14 +14,12 @@ use Rattle.runs.specs.TwoRunners.{RunAnswer, logBound, unbroken}
 use Rattle.runs.specs.Laws.{Panel}
 use Rattle.runs.specs.EveryRun.{EveryRunCountsWithin}
 use Rattle.runs.specs.Lists.{AnswersAs, Call, run, save, restore, Each, plainOne, runAnswer, runLog, heldAfter, AllGet, notRefused, runs, joinedLog, asked, EveryListEndsAsOneRun}
-use Rattle.upd546.specs.Ports.{Write, portI, logRecord}
-use Rattle.upd546.specs.Sequences.{allOf}
-use Rattle.upd546.specs.TwoRunners.{upd546}
+use Rattle.log_form.specs.Form.{Write, portI, logRecord}
+use Rattle.log_form.specs.Form.{allOf}
 use Rattle.laws.specs.Writes.{ValidWrite}
 use Rattle.laws.specs.Records.{Records, empty, also, EveryRunWritesRecords}
 use Rattle.laws.proofs.Images.{cycle-back}
-use Rattle.laws.proofs.Records.{wider, every-run-writes-records}
-use Rattle.laws.proofs.Demand3.{every-list, every-run-counts-within}
+use Rattle.laws.proofs.Records.{wider}
 use Rattle.waiting.specs.declared.Carried.{Carried}
 use Rattle.waiting.specs.declared.LogRecord.{LogRecord}
 use Rattle.waiting.specs.declared.Reading.{Reading}
@@ -177,7 +175,3 @@ reports-as-one-run M E C R rom sched s calls p v meant limit =
           ap (λ (c : Carried). record { number = 0; carried = c }) (read .same ∙ ap (λ (l : List ℕ). carriedAfterAll nothing (recordsOf l)) same)
           ∙ sym (one-log (2 ^ 48) small (u .bytes) nothing 0 nothing-grown (omega arith) (omega arith) (records-whole wrote) order);
     }
-
--- THE UPD546: its lists report as one run reports
-pub every-list-reports-as-one-run : EveryListReportsAsOneRun upd546
-every-list-reports-as-one-run = reports-as-one-run upd546 every-list every-run-counts-within every-run-writes-records

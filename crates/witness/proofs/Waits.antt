@@ -17,7 +17,7 @@ use Rattle.waiting.specs.WaitingTimes.{landingCount, figureMost, lampsAfter, ca
 use Rattle.waiting.specs.EveryLog.{landingOf, FiguresWithin}
 use Rattle.waiting.specs.EveryList.{ReportsAsOneRun}
 use Rattle.waiting.proofs.EveryLog.{every-rise-is-a-wait, read-on-as-joined, only-figures-draw-41, last-record-counts}
-use Rattle.waiting.proofs.EveryList.{every-list-reports-as-one-run}
+use Rattle.switch_offs.proofs.EveryList.{every-list-reports-as-one-run}
 use Rattle.witness.specs.Waits.{calling, coming, wide, lampRom, lit, keptLit, lampCalls, WaitFigures}
 use Rattle.witness.proofs.Opened.{opened}
 use Rattle.witness.proofs.Calls.{sound}
