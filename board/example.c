@@ -87,7 +87,7 @@ static void damaged(const char *what, size_t length, size_t at, uint8_t byte)
     image[at] = byte;
     memcpy(before, image, sizeof image);
     uint8_t number = wharfnettle_call(image, length, lamp_rom, sizeof lamp_rom, NULL, 0, NULL, 0, 10, 0, report, sizeof report);
-    printf("%s: %s %d, image %s, cycles %" PRIu64 "\n", what, WHARFNETTLE_IS_REFUSAL(number) ? "refused" : "taken", number,
+    printf("%s: %s %d, image %s, cycles %" PRIu64 "\n", what, wharfnettle_is_refusal(number) ? "refused" : "taken", number,
            memcmp(before, image, sizeof image) ? "changed" : "as it was", wharfnettle_count(report, WHARFNETTLE_CYCLES));
 }
 

@@ -2,8 +2,18 @@
 
        keeper PANEL DIR CYCLES SLICE
 
-   PANEL is what `trace` reads: n (4 bytes, not looked at here), ROM and line schedule. DIR/log has the port log. DIR/state has, of all
-   slices so far, log bytes, cycles and instructions (8 bytes each, big-endian) and then the image. A slice goes so:
+   PANEL is what `trace` reads: n (4 bytes, not looked at here), ROM and line schedule. DIR/log has the port log. DIR/state has 129 bytes,
+   with numbers big-endian:
+
+       0    KEEPER, and the version of this layout, 1 (2 bytes)
+       8    the log bytes of all slices so far
+       16   the instructions of all slices so far
+       24   the digest of those log bytes
+       32   the digest of ROM and schedule
+       40   the image; its cycle number is the cycles of all slices so far
+       121  the digest of the 121 bytes before it
+
+   A slice goes so:
 
        1. call: the image in memory goes SLICE cycles further;
        2. its records are appended to DIR/log, and the log is on the disk (fsync);
@@ -11,7 +21,11 @@
        4. DIR/state.new becomes DIR/state (rename), and that is on the disk.
 
    So DIR/state is always a whole one, and DIR/log always has the bytes that it speaks of. What a killed slice appended beyond them is cut
-   off at the next start. All is done when DIR/state has CYCLES cycles, or when the panel stops; then the totals are printed. */
+   off at the next start. All is done when DIR/state has CYCLES cycles, or when the panel stops; then the totals are printed.
+
+   A start changes nothing before it has held all that it finds to what it must be. It says what is wrong and ends with status 1 where a
+   bit of DIR/state is flipped, or of the log bytes that it speaks of; where one of the two files was lost; and where DIR/state is of
+   another ROM or another schedule. A state file from before this layout doesn't begin with KEEPER, and is refused for it. */
 #define _POSIX_C_SOURCE 200809L
 #include <errno.h>
 #include <fcntl.h>
@@ -27,51 +41,112 @@
 
 enum {
     COUNT = 4,              /* the bytes of n in a panel */
-    TOTALS = 24,            /* the bytes before the image in a state */
+    RECORD = 8,             /* the bytes of a log record; its cycle is the first six */
+    CYCLE = 75,             /* where an image has its cycle number, six bytes too */
     LONGEST_SLICE = 10000000
 };
 
+/* The parts of a state file, by the bytes before them. */
+enum { VERSION = 6, NUMBERS = 8, IMAGE = 40, DIGEST = IMAGE + WHARFNETTLE_IMAGE, STATE = DIGEST + 8 };
+static const uint8_t head[NUMBERS] = {'K', 'E', 'E', 'P', 'E', 'R', 0, 1};
+
 struct panel {
+    const char *name;
     uint8_t bytes[COUNT + WHARFNETTLE_ROM + WHARFNETTLE_SCHEDULE + 1];
     size_t rom_length, schedule_length;
+    uint64_t digest;
+};
+
+struct folder {
+    const char *name;
+    int dir, log;
 };
 
 struct state {
-    uint64_t log_bytes, cycles, instructions;
-    uint8_t image[WHARFNETTLE_IMAGE + 1]; /* a byte more, so that a long one shows */
-    size_t image_length;
+    uint64_t log_bytes, instructions, log_digest, panel_digest;
+    uint8_t image[WHARFNETTLE_IMAGE];
 };
 
-static void die(const char *format, ...)
+static _Noreturn void say_and_end(const char *format, va_list words, const char *last)
 {
-    va_list words;
-    va_start(words, format);
     fputs("keeper: ", stderr);
     vfprintf(stderr, format, words);
-    fputc('\n', stderr);
-    va_end(words);
+    fputs(last, stderr);
     exit(1);
 }
 
-static void die_of(const char *what)
+static _Noreturn void die(const char *format, ...)
+{
+    va_list words;
+    va_start(words, format);
+    say_and_end(format, words, "\n");
+}
+
+static _Noreturn void die_of(const char *what)
 {
     die("%s: %s", what, strerror(errno));
 }
 
-/* Stands between any two system calls that change a file. Compiled with -DKEEPER_KILL_AT it kills the program at the step that the
-   environment's KEEPER_KILL_AT names. With KEEPER_POWER set as well, bytes that weren't on the disk yet are lost first, as they may be when
-   the power fails. board/test_keeper uses both. */
-#ifdef KEEPER_KILL_AT
-enum { PIECE = 7 }; /* writes go in small pieces, with a step after each */
-static int log_file = -1, new_file = -1;
-static off_t log_on_disk;
-static off_t size_of(int file)
+/* Only before the first change of a file. */
+static _Noreturn void refuse(const char *format, ...)
+{
+    va_list words;
+    va_start(words, format);
+    say_and_end(format, words, "; nothing was changed\n");
+}
+
+static uint64_t number_at(const uint8_t *bytes, int length)
+{
+    uint64_t number = 0;
+    while (length--)
+        number = number << 8 | *bytes++;
+    return number;
+}
+
+static void put_number(uint8_t *bytes, uint64_t number)
+{
+    for (int k = 0; k < 8; k++)
+        bytes[k] = (uint8_t)(number >> (56 - 8 * k));
+}
+
+/* The digest is the CRC-64 of ECMA-182: the remainder of the bytes, as a polynomial over bits, by one of degree 64. It is another one for
+   certain where the damage lies within 64 bits side by side, so whatever becomes of one record, and where an odd number of bits is flipped;
+   of all other damage one in 2^64 would go unseen. It is no guard against people. It begins with 0, and may go on from what was before. */
+#define POLYNOMIAL UINT64_C(0x42F0E1EBA9EA3693) /* without its first term */
+static uint64_t digest_of_byte[256];
+
+static void make_digests(void)
+{
+    for (int byte = 0; byte < 256; byte++) {
+        uint64_t rest = (uint64_t)byte << 56;
+        for (int k = 0; k < 8; k++)
+            rest = rest << 1 ^ (rest >> 63 ? POLYNOMIAL : 0);
+        digest_of_byte[byte] = rest;
+    }
+}
+
+static uint64_t digest(uint64_t before, const uint8_t *bytes, size_t length)
+{
+    while (length--)
+        before = before << 8 ^ digest_of_byte[before >> 56 ^ *bytes++];
+    return before;
+}
+
+static uint64_t size_of(int file, const char *name)
 {
     struct stat found;
     if (fstat(file, &found))
-        die_of("a file");
-    return found.st_size;
+        die_of(name);
+    return (uint64_t)found.st_size;
 }
+
+/* Stands between any two system calls that change a file. Compiled with -DKEEPER_KILL_AT it kills the program at the step that the
+   environment's KEEPER_KILL_AT names. With KEEPER_POWER set as well, bytes and names that weren't on the disk yet are lost first, as they
+   may be when the power fails. board/test_keeper uses both. */
+#ifdef KEEPER_KILL_AT
+enum { PIECE = 7 }; /* writes go in small pieces, with a step after each */
+static int log_file = -1, new_file = -1, new_in = -1;
+static uint64_t log_on_disk;
 static void step(void)
 {
     static long done;
@@ -79,18 +154,25 @@ static void step(void)
     if (!at || ++done != atol(at))
         return;
     if (getenv("KEEPER_POWER")) {
-        if (log_file >= 0 && size_of(log_file) > log_on_disk && ftruncate(log_file, log_on_disk))
+        if (log_file >= 0 && size_of(log_file, "log") > log_on_disk && ftruncate(log_file, (off_t)log_on_disk))
             die_of("log");
         if (new_file >= 0 && ftruncate(new_file, 0))
             die_of("state.new");
+        if (new_in >= 0 && unlinkat(new_in, "log", 0))
+            die_of("log");
     }
     raise(SIGKILL);
 }
-/* A log whose bytes are on the disk as it is now; a state whose bytes aren't yet, and may be lost under any name. */
+/* A log that was made in the folder, whose name isn't on the disk yet; one whose bytes are on the disk as it is now; a state whose bytes
+   aren't yet, and may be lost under any name. */
+static void made_log(int dir)
+{
+    new_in = dir;
+}
 static void opened_log(int file)
 {
     log_file = file;
-    log_on_disk = size_of(file);
+    log_on_disk = size_of(file, "log");
 }
 static void opened_new(int file)
 {
@@ -99,8 +181,10 @@ static void opened_new(int file)
 static void synced(int file)
 {
     struct stat one, other;
+    if (file == new_in)
+        new_in = -1;
     if (file == log_file)
-        log_on_disk = size_of(file);
+        log_on_disk = size_of(file, "log");
     if (new_file >= 0 && !fstat(file, &one) && !fstat(new_file, &other) && one.st_ino == other.st_ino) {
         close(new_file);
         new_file = -1;
@@ -109,6 +193,7 @@ static void synced(int file)
 #else
 enum { PIECE = 1 << 30 };
 static void step(void) {}
+static void made_log(int dir) { (void)dir; }
 static void opened_log(int file) { (void)file; }
 static void opened_new(int file) { (void)file; }
 static void synced(int file) { (void)file; }
@@ -157,18 +242,20 @@ static void read_panel(const char *name, struct panel *panel)
 {
     int file = open(name, O_RDONLY);
     if (file < 0)
-        die_of(name);
+        refuse("%s: %s", name, strerror(errno));
     size_t length = read_all(file, name, panel->bytes, sizeof panel->bytes);
     close(file);
     length = length < COUNT ? 0 : length - COUNT;
+    panel->name = name;
     panel->rom_length = length < WHARFNETTLE_ROM ? length : WHARFNETTLE_ROM;
     panel->schedule_length = length - panel->rom_length;
+    panel->digest = digest(0, panel->bytes + COUNT, length);
 }
 
-/* Whether there is a state. The call judges the image, its length too. */
+/* Whether there is a state file, which then has the bytes that a keeper wrote. */
 static int read_state(int dir, struct state *state)
 {
-    uint8_t bytes[TOTALS + sizeof state->image];
+    uint8_t bytes[STATE + 1] = {0}; /* a byte more, so that a long one shows */
     int file = openat(dir, "state", O_RDONLY);
     if (file < 0 && errno == ENOENT)
         return 0;
@@ -176,26 +263,31 @@ static int read_state(int dir, struct state *state)
         die_of("state");
     size_t length = read_all(file, "state", bytes, sizeof bytes);
     close(file);
-    memset(bytes + length, 0, sizeof bytes - length);
-    uint64_t *totals[] = {&state->log_bytes, &state->cycles, &state->instructions};
-    for (int k = 0; k < 3; k++) {
-        *totals[k] = 0;
-        for (int i = 0; i < 8; i++)
-            *totals[k] = *totals[k] << 8 | bytes[8 * k + i];
-    }
-    state->image_length = length < TOTALS ? 0 : length - TOTALS;
-    memcpy(state->image, bytes + TOTALS, sizeof state->image);
+    if (memcmp(bytes, head, VERSION))
+        refuse("the state file doesn't begin with KEEPER, so it is damaged or none of this program's");
+    if (length >= sizeof head && memcmp(bytes, head, sizeof head))
+        refuse("the state file's version is %" PRIu64 ", and this program's is 1", number_at(bytes + VERSION, 2));
+    if (length != STATE)
+        refuse("the state file hasn't %d bytes, so it is damaged", STATE);
+    if (number_at(bytes + DIGEST, 8) != digest(0, bytes, DIGEST))
+        refuse("the state file is damaged: its digest isn't that of its bytes");
+    uint64_t *numbers[] = {&state->log_bytes, &state->instructions, &state->log_digest, &state->panel_digest};
+    for (int k = 0; k < 4; k++)
+        *numbers[k] = number_at(bytes + NUMBERS + 8 * k, 8);
+    memcpy(state->image, bytes + IMAGE, sizeof state->image);
     return 1;
 }
 
 /* Replaces the state as a whole. */
 static void write_state(int dir, const struct state *state)
 {
-    uint8_t bytes[TOTALS + WHARFNETTLE_IMAGE];
-    const uint64_t totals[] = {state->log_bytes, state->cycles, state->instructions};
-    for (int i = 0; i < TOTALS; i++)
-        bytes[i] = (uint8_t)(totals[i / 8] >> (56 - 8 * (i % 8)));
-    memcpy(bytes + TOTALS, state->image, WHARFNETTLE_IMAGE);
+    uint8_t bytes[STATE];
+    const uint64_t numbers[] = {state->log_bytes, state->instructions, state->log_digest, state->panel_digest};
+    memcpy(bytes, head, sizeof head);
+    for (int k = 0; k < 4; k++)
+        put_number(bytes + NUMBERS + 8 * k, numbers[k]);
+    memcpy(bytes + IMAGE, state->image, sizeof state->image);
+    put_number(bytes + DIGEST, digest(0, bytes, DIGEST));
     int file = openat(dir, "state.new", O_WRONLY | O_CREAT | O_TRUNC, 0666);
     if (file < 0)
         die_of("state.new");
@@ -220,7 +312,6 @@ static const char *meaning(uint8_t number)
     case 13: return "a record's INT level isn't 0 or 1, or its last byte isn't 0";
     case 14: return "a record's cycle isn't above the last one's";
     case 21: return "the file has under 2,004 bytes";
-    case 31: return "the image hasn't 81 bytes";
     case 32: return "the image doesn't begin with U43";
     case 33: return "the image's version isn't 1";
     case 34: return "a field of the image is above its width or against its rule";
@@ -228,14 +319,116 @@ static const char *meaning(uint8_t number)
     }
 }
 
-/* One slice, on the timer-skipping runner. */
-static uint8_t run(const char *name, const struct panel *panel, struct state *state, uint8_t *log, uint64_t n, uint8_t *report)
+/* A call on the timer-skipping runner. */
+static uint8_t run(const struct panel *panel, uint8_t *image, uint8_t *log, uint64_t n, uint8_t *report)
 {
     const uint8_t *rom = panel->bytes + COUNT;
-    uint8_t number = wharfnettle_call(state->image, state->image_length, rom, panel->rom_length, rom + WHARFNETTLE_ROM,
-                                      panel->schedule_length, log, WHARFNETTLE_LOG(n), n, 1, report, WHARFNETTLE_REPORT);
-    if (WHARFNETTLE_IS_REFUSAL(number))
-        die("%s is refused with %d: %s", number > 30 ? "the state file" : name, number, meaning(number));
+    return wharfnettle_call(image, WHARFNETTLE_IMAGE, rom, panel->rom_length, rom + WHARFNETTLE_ROM, panel->schedule_length, log,
+                            WHARFNETTLE_LOG(n), n, 1, report, WHARFNETTLE_REPORT);
+}
+
+/* Refuses what a call for no cycles refuses. */
+static void check_call(const struct panel *panel, uint8_t *image)
+{
+    uint8_t log[WHARFNETTLE_LOG(0)], report[WHARFNETTLE_REPORT];
+    uint8_t number = run(panel, image, log, 0, report);
+    if (wharfnettle_is_refusal(number))
+        refuse("%s is refused with %d: %s", number > 30 ? "the state file" : panel->name, number, meaning(number));
+}
+
+/* Refuses a log whose first bytes, as many as the state has, aren't those that its slices wrote. */
+static void check_log(int log, const struct state *state, uint64_t cycles)
+{
+    static uint8_t bytes[1 << 16];
+    uint64_t there = size_of(log, "log"), left = state->log_bytes, found = 0, last = 0;
+    if (left > there)
+        refuse("the state file has %" PRIu64 " log bytes, and the log has %" PRIu64, left, there);
+    while (left) {
+        size_t part = left < sizeof bytes ? (size_t)left : sizeof bytes;
+        if (read_all(log, "log", bytes, part) != part)
+            refuse("the log became shorter while it was read");
+        found = digest(found, bytes, part);
+        last = number_at(bytes + part - RECORD, 6);
+        left -= part;
+    }
+    if (found != state->log_digest)
+        refuse("the log is damaged: the digest of its first %" PRIu64 " bytes isn't that of the state file", state->log_bytes);
+    if (state->log_bytes && last >= cycles)
+        refuse("the log's record before byte %" PRIu64 " is of cycle %" PRIu64 ", and the state file of cycle %" PRIu64, state->log_bytes,
+               last, cycles);
+}
+
+static uint64_t cycles_of(const struct state *state)
+{
+    return number_at(state->image + CYCLE, 6);
+}
+
+/* Refuses a state that isn't this panel's, and one with numbers that no panel comes to. */
+static void check_state(const struct panel *panel, struct state *state, int log)
+{
+    check_call(panel, state->image);
+    uint64_t cycles = cycles_of(state);
+    if (state->panel_digest != panel->digest)
+        refuse("the state file is of another panel: the ROM or the schedule of %s isn't that of its slices", panel->name);
+    if (state->instructions > cycles || state->log_bytes % RECORD || state->log_bytes > WHARFNETTLE_LOG(cycles))
+        refuse("the state file has %" PRIu64 " instructions and %" PRIu64 " log bytes, which no panel has after %" PRIu64 " cycles",
+               state->instructions, state->log_bytes, cycles);
+    check_log(log, state, cycles);
+}
+
+/* Where there is a state there has to be a log. A log that is made has its name on the disk before there is a state. */
+static void open_log(struct folder *folder)
+{
+    struct flock whole = {.l_type = F_WRLCK, .l_whence = SEEK_SET};
+    int kept = !faccessat(folder->dir, "state", F_OK, 0);
+    folder->log = openat(folder->dir, "log", kept ? O_RDWR : O_RDWR | O_CREAT, 0666);
+    if (folder->log < 0 && kept && errno == ENOENT)
+        refuse("%s has a state file and no log", folder->name);
+    if (folder->log < 0)
+        die_of("log");
+    if (fcntl(folder->log, F_SETLK, &whole))
+        refuse("another keeper runs the panel in %s", folder->name);
+    if (!kept) {
+        made_log(folder->dir);
+        step();
+        sync_file(folder->dir, "the folder");
+    }
+}
+
+/* The state to go on from, with the log cut to its bytes. Where there is none the panel is new; but a log without a state is of a panel
+   whose state was lost, and stays. */
+static void begin(const struct panel *panel, const struct folder *folder, struct state *state)
+{
+    if (read_state(folder->dir, state)) {
+        check_state(panel, state, folder->log);
+    } else {
+        if (size_of(folder->log, "log"))
+            refuse("%s has a log and no state file", folder->name);
+        *state = (struct state){.panel_digest = panel->digest};
+        wharfnettle_fresh(state->image, sizeof state->image);
+        write_state(folder->dir, state);
+    }
+    if (ftruncate(folder->log, (off_t)state->log_bytes))
+        die_of("log");
+    opened_log(folder->log);
+    step();
+}
+
+/* A slice, and its number. */
+static uint8_t go_on(const struct panel *panel, const struct folder *folder, struct state *state, uint8_t *records, uint64_t n)
+{
+    uint8_t report[WHARFNETTLE_REPORT], number = run(panel, state->image, records, n, report);
+    if (wharfnettle_is_refusal(number))
+        die("a slice is refused with %d: %s", number, meaning(number));
+    uint64_t bytes = wharfnettle_count(report, WHARFNETTLE_LOG_BYTES);
+    if (bytes) {
+        write_at(folder->log, "log", records, bytes, state->log_bytes);
+        sync_file(folder->log, "log");
+    }
+    state->log_bytes += bytes;
+    state->log_digest = digest(state->log_digest, records, bytes);
+    state->instructions += wharfnettle_count(report, WHARFNETTLE_INSTRUCTIONS);
+    write_state(folder->dir, state);
     return number;
 }
 
@@ -254,66 +447,32 @@ int main(int count, char **words)
 {
     static struct panel panel;
     struct state state;
-    struct stat found;
-    struct flock whole = {.l_type = F_WRLCK, .l_whence = SEEK_SET};
-    uint8_t report[WHARFNETTLE_REPORT];
+    uint8_t image[WHARFNETTLE_IMAGE], number = 0;
     if (count != 5) {
         fputs("usage: keeper PANEL DIR CYCLES SLICE\n", stderr);
         return 2;
     }
-    const char *name = words[1];
     uint64_t cycles = number_of(words[3], ((uint64_t)1 << 48) - 1);
     uint64_t slice = number_of(words[4], LONGEST_SLICE);
     uint8_t *records = malloc(WHARFNETTLE_LOG(slice));
     if (!records)
         die("no memory for a slice of %" PRIu64 " cycles", slice);
-    read_panel(name, &panel);
+    make_digests();
+    read_panel(words[1], &panel);
+    wharfnettle_fresh(image, sizeof image);
+    check_call(&panel, image); /* so that no log is made for a panel that is refused */
 
-    int dir = open(words[2], O_RDONLY | O_DIRECTORY);
-    if (dir < 0)
-        die_of(words[2]);
-    int log = openat(dir, "log", O_RDWR | O_CREAT, 0666);
-    if (log < 0)
-        die_of("log");
-    if (fcntl(log, F_SETLK, &whole))
-        die("another keeper runs the panel in %s", words[2]);
-    if (fstat(log, &found))
-        die_of("log");
-    step();
-
-    /* Where there is no state, the panel is new. A log without one is of a panel whose state was lost, and stays. */
-    if (!read_state(dir, &state)) {
-        if (found.st_size)
-            die("%s has a log and no state file", words[2]);
-        state = (struct state){.image_length = WHARFNETTLE_IMAGE};
-        wharfnettle_fresh(state.image, WHARFNETTLE_IMAGE);
-        run(name, &panel, &state, records, 0, report);
-        write_state(dir, &state);
+    struct folder folder = {.name = words[2], .dir = open(words[2], O_RDONLY | O_DIRECTORY)};
+    if (folder.dir < 0)
+        refuse("%s: %s", folder.name, strerror(errno));
+    open_log(&folder);
+    begin(&panel, &folder, &state);
+    while (number == 0 && cycles_of(&state) < cycles) {
+        uint64_t left = cycles - cycles_of(&state);
+        number = go_on(&panel, &folder, &state, records, left < slice ? left : slice);
     }
-    run(name, &panel, &state, records, 0, report);
-    if (state.log_bytes > (uint64_t)found.st_size)
-        die("the state file has %" PRIu64 " log bytes, and the log has %" PRIu64, state.log_bytes, (uint64_t)found.st_size);
-    if (ftruncate(log, (off_t)state.log_bytes))
-        die_of("log");
-    opened_log(log);
-    step();
-
-    uint8_t number = 0;
-    while (number == 0 && state.cycles < cycles) {
-        uint64_t left = cycles - state.cycles;
-        number = run(name, &panel, &state, records, left < slice ? left : slice, report);
-        uint64_t bytes = wharfnettle_count(report, WHARFNETTLE_LOG_BYTES);
-        if (bytes) {
-            write_at(log, "log", records, bytes, state.log_bytes);
-            sync_file(log, "log");
-        }
-        state.log_bytes += bytes;
-        state.cycles += wharfnettle_count(report, WHARFNETTLE_CYCLES);
-        state.instructions += wharfnettle_count(report, WHARFNETTLE_INSTRUCTIONS);
-        write_state(dir, &state);
-    }
-    printf("cycles %" PRIu64 " instructions %" PRIu64 " log %" PRIu64 " number %d\n", state.cycles, state.instructions, state.log_bytes,
-           number);
+    printf("cycles %" PRIu64 " instructions %" PRIu64 " log %" PRIu64 " number %d\n", cycles_of(&state), state.instructions,
+           state.log_bytes, number);
     free(records);
     return fflush(stdout) ? 1 : 0;
 }

@@ -57,8 +57,15 @@ extern "C" {
  * The others above 0 are refusals. Image and log stay as they were, and the report has 32 zeros; with 1 it stays as it was. With several
  * faults the first of this order is answered: 1, 31, 32, 33, 34, 21, 12, 11, then by record 13 and 14, then 2.
  */
-#define WHARFNETTLE_IS_STOP(number) ((number) == 3 || (number) == 22 || (number) == 23)
-#define WHARFNETTLE_IS_REFUSAL(number) ((number) != 0 && !WHARFNETTLE_IS_STOP(number))
+static inline int wharfnettle_is_stop(int number)
+{
+    return number == 3 || number == 22 || number == 23;
+}
+
+static inline int wharfnettle_is_refusal(int number)
+{
+    return number != 0 && !wharfnettle_is_stop(number);
+}
 
 /*
  * image      read, and written unless the call is refused

@@ -125,6 +125,10 @@ waited a =
 abbrev pub tpbAtTheEnd : ℕ → List ℕ → RunAnswer State
 tpbAtTheEnd port ports = plain upd546 (romAt 0x7CF (0x51 ∷ [])) [] (driving (λ c. setPc 0x7CF (setDpl port c)) ports) [] 1
 
+-- n cycles of a load at 7CF, with a mark
+abbrev pub loadAtTheEnd : ℕ → ℕ → ℕ → RunAnswer State
+loadAtTheEnd code mark n = plain upd546 (romAt 0x7CF (code ∷ [])) [] (from (λ c. setPc 0x7CF (setMark mark c))) [] n
+
 -- 81 bytes: zeros but for `U43`, version 1, the level in byte 15, the mark in byte 16 and the cycles owed in byte 17
 abbrev pub imageWith : ℕ → ℕ → List ℕ
 imageWith mark owed = (0x55 ∷ 0x34 ∷ 0x33 ∷ 0 ∷ 1 ∷ []) ++ replicate 10 0 ++ (32 ∷ mark ∷ owed ∷ replicate 63 0)
@@ -251,6 +255,10 @@ cases =
       given = waited (waits 10 (romAt 0x7CD (0x14 ∷ 0x80 ∷ 0x05 ∷ [])) (from (setPc 0x7CD)));
       wanted = 22 ∷ 3 ∷ 2 ∷ 3 ∷ 0x7D0 ∷ 0 ∷ 0 ∷ 2 ∷ 0 ∷ 0 ∷ 0 ∷ [];
     }
+    -- "22 a byte above 7CF is needed (the second byte of an LDI that is a NOP counts)": LDI at 7CF with mark LDI, and no cycle
+    ∷ record { given = seeAnswer (λ a. numberOf (a .end) ∷ a .cycles ∷ []) (loadAtTheEnd 0x15 1 1); wanted = 22 ∷ 0 ∷ [] }
+    -- "A run checks 21, 12, 11, 13/14, 34, 2": for n = 0 too
+    ∷ record { given = numberOf (plain upd546 (replicate 1999 0) [] fresh [] 0 .end) ∷ []; wanted = 21 ∷ [] }
     -- R-2: C reads back a strobe while its lines are low (LDZ 2, LI 5, OP, IP)
     ∷ record { given = accOf (stateAfter 4 (romAt 0 (0x82 ∷ 0x95 ∷ 0x0E ∷ 0x32 ∷ [])) fresh) ∷ []; wanted = 5 ∷ [] }
     -- R-2: C reads a line that is high while the latch is low
@@ -299,6 +307,12 @@ cases =
     ∷ record { given = loaded (stateAfter 4 (romAt 0 (0x97 ∷ 0xC3 ∷ 0x92 ∷ 0x93 ∷ 0x94 ∷ [])) fresh); wanted = 5 ∷ 3 ∷ 0 ∷ 0 ∷ 4 ∷ [] }
     -- R-5: a skipped LI isn't begun: LI 5, TC with C=1 over LI 9, LI 3, which loads
     ∷ record { given = loaded (stateAfter 4 (romAt 0 (0x95 ∷ 0x04 ∷ 0x99 ∷ 0x93 ∷ [])) (from (setCarry 1))); wanted = 4 ∷ 3 ∷ 0 ∷ 0 ∷ 4 ∷ [] }
+    -- R-5: LI 9 at 7CF with mark LI is a NOP of one byte: it is begun, and the byte above 7CF is needed one cycle later
+    ∷ record {
+      given = seeAnswer (λ a. numberOf (a .end) ∷ a .cycles ∷ loaded (a .state)) (loadAtTheEnd 0x99 4 1);
+      wanted = 0 ∷ 1 ∷ 0x7D0 ∷ 0 ∷ 0 ∷ 0 ∷ 4 ∷ [];
+    }
+    ∷ record { given = seeAnswer (λ a. numberOf (a .end) ∷ a .cycles ∷ []) (loadAtTheEnd 0x99 4 2); wanted = 22 ∷ 1 ∷ [] }
     -- R-5: INT falls between LI 5 and LI 9, in cycle 1. The interrupt isn't accepted before NOP, and follows it
     ∷ record { given = answered (stateLater 3 (fallAt 1) (romAt 0 (0x95 ∷ 0x99 ∷ [])) (from (setInte 1))); wanted = 3 ∷ 0 ∷ 5 ∷ 1 ∷ 1 ∷ [] }
     ∷ record { given = answered (stateLater 4 (fallAt 1) (romAt 0 (0x95 ∷ 0x99 ∷ [])) (from (setInte 1))); wanted = 0x03C ∷ 3 ∷ 5 ∷ 0 ∷ 0 ∷ [] }

@@ -4,7 +4,7 @@ use mathlib.Core.List.{List, [], _∷_, map}
 use Prim.Native.Nat.{ℕ, suc, _≤_}
 use native.Mathlib.Omega.{arith}
 use lib.Dec.{lit<, lit≤}
-use lib.ListN.{length}
+use lib.ListN.{length, getD}
 use Rattle.runs.specs.TwoRunners.{logBound, RestoreAnswer, restoreAnswer}
 use Rattle.runs.specs.Lists.{Each}
 use Rattle.upd546.specs.declared.State.{State}
@@ -40,6 +40,12 @@ meant = (
 -- THE POWER-OFF GUARANTEE, of this list
 one-run : CallsEndAsOneRun upd546 rom [] fresh calls
 one-run = every-list-of-calls rom [] fresh calls panel sound meant
+
+-- and of its first call alone, which finishes
+one-finish : CallsEndAsOneRun upd546 rom [] fresh (callOn start first ∷ [])
+unfolding called
+one-finish =
+    every-list-of-calls rom [] fresh (callOn start first ∷ []) panel sound (record { same-image = refl; lent = on-panel (callOn start first) refl refl (lit≤ tt) }, tt)
 
 -- a number that refuses
 a-number : {k : ℕ} → suc k ≡ 0 → ⊥
@@ -83,6 +89,7 @@ figures = record {
   begun = one-run .ends .begun;
   not-all-finish = λ all. a-stop 23 (one-run .ends .finish .0 all);
   each-stop = all-23 (callRuns upd546 carriedOut) (one-run .ends .stops);
+  all-finish = one-finish .ends .finish .1 refl;
   slices-log = one-run .stands .ends .log;
   six-calls = ap length (one-run .none-refused);
   first-report = ap (λ (z : BoardAnswer). z .report) (one-run .answers .0);
@@ -100,13 +107,16 @@ figures = record {
       one-run .goes-on (callOn wantedImage last) (record { same-image = sym (one-run .ends .image); lent = on-panel (callOn wantedImage last) refl refl (lit≤ tt) }) (lit≤ tt)
       (lit≤ tt);
   saved = rewrites .saved;
+  owed-byte = ap (λ (bytes : List ℕ). getD bytes 17 0) (rewrites .image);
   owed-kept = ap (λ (r : RestoreAnswer State). r .state .core .owed) (rewrites .restores);
   refused-number = tells .number;
   refused-log = tells .log;
   refused-cycles = tells .counts .cycles;
   refused-written = tells .counts .written;
+  told-finish = every-calls-number-tells (callOn start first);
   told-stop = every-calls-number-tells (callOn between second);
   told-refusal = every-calls-number-tells (callOn between badRom);
   same-bytes = on-one-image .0;
   one-image = on-one-image .1 .image;
+  one-image-log = on-one-image .1 .calls-end .ends .log;
 }

@@ -24,10 +24,13 @@ pub figures : ImageFigures
 unfolding opened
 figures =
     let same : restoreAnswer upd546 kept ≡ record { number = 0; state = cut } = saved-restores cut (replicate 90 9) refl (lit≤ tt) in
+    let accepted = accepted-exactly wantedImage image-bytes .0 refl in
     record {
       saved-restores = same;
       owed-kept = ap (λ (a : RestoreAnswer State). a .state .core .owed) same;
       restored-saves = restored-saves wantedImage (replicate 83 9) image-bytes refl (lit≤ tt);
-      accepted = accepted-exactly wantedImage image-bytes .0 refl;
+      accepted = accepted;
+      accepted-state = accepted .not-refused;
+      accepted-bytes = accepted .same;
       not-accepted = λ some. let zero : _≡_ {A = ℕ} 34 0 = accepted-exactly damaged damaged-bytes .1 some in omega (arith, zero);
     }

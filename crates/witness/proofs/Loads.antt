@@ -30,9 +30,9 @@ others : firstOf (stateNumber fresh ∷ unless (leb 10000000 cycleLimit) 2 ∷ [
 unfolding opened
 others = refl
 
-accepts : tenMillion (romOf 20) longest ≡ 0
+accepts : tenMillion (romOf 7) longest ≡ 0
 unfolding runNumber
-accepts = first-past (panelNumber (romOf 20) longest) _ (every-load 20 20 4096 (lit≤ tt) .not-refused) ∙ others
+accepts = first-past (panelNumber (romOf 7) longest) _ (every-load 7 20 4096 (lit≤ tt) .not-refused) ∙ others
 
 pub figures : LoadFigures
 figures =

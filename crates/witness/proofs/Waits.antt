@@ -1,10 +1,10 @@
 -- The figures of waiting times, from the theorems about every log and every list. Assumes nothing.
 use mathlib.Core.Path.{_≡_, refl, ap}
-use mathlib.Core.List.{List, [], _++_}
+use mathlib.Core.List.{List, [], _∷_, _++_}
 use Prim.Native.Nat.{ℕ, zero, suc, _<_, _≤_}
 use native.Mathlib.Omega.{arith}
 use lib.Dec.{lit<, lit≤}
-use lib.ListN.{length, replicate}
+use lib.ListN.{length, take, replicate}
 use Rattle.runs.specs.TwoRunners.{logBound}
 use Rattle.runs.specs.Laws.{Panel}
 use Rattle.runs.specs.Lists.{WrittenBy, Lent, Meant}
@@ -13,12 +13,15 @@ use Rattle.upd546.specs.TheMachine.{fresh}
 use Rattle.upd546.specs.TwoRunners.{upd546}
 use Rattle.laws.proofs.Lists.{below-all}
 use Rattle.waiting.specs.declared.Reading.{Reading}
-use Rattle.waiting.specs.WaitingTimes.{landingCount, figureMost, lampsAfter, carriedAfter, recordSound, recordNumber, landingSound, carriedSound, carriedNumber, logNumber, waitingTimes, nothing}
+use Rattle.waiting.specs.WaitingTimes.{landingCount, figureMost, lampsAfter, carriedAfter, recordSound, recordNumber, landingSound, carriedSound, carriedNumber, logNumber, waitingTimes, nothing, noWaits, recordHere}
+use Rattle.waiting.specs.Growth.{Grown, CarriedGrown}
 use Rattle.waiting.specs.EveryLog.{landingOf, FiguresWithin}
 use Rattle.waiting.specs.EveryList.{ReportsAsOneRun}
+use Rattle.waiting.proofs.Growth.{carried-grown}
 use Rattle.waiting.proofs.EveryLog.{every-rise-is-a-wait, read-on-as-joined, only-figures-draw-41, last-record-counts}
 use Rattle.switch_offs.proofs.EveryList.{every-list-reports-as-one-run}
-use Rattle.witness.specs.Waits.{calling, coming, wide, lampRom, lit, keptLit, lampCalls, WaitFigures}
+use Rattle.report.proofs.Parts.{parts-read-as-one}
+use Rattle.witness.specs.Waits.{lampsAt, calling, coming, wide, called, lampRom, lit, keptLit, lampCalls, WaitFigures}
 use Rattle.witness.proofs.Opened.{opened}
 use Rattle.witness.proofs.Calls.{sound}
 
@@ -33,7 +36,7 @@ unfolding read
 accepts = (refl, refl)
 
 -- the four landings
-each : (P : ℕ → Type 0) → P 0 → P 1 → P 2 → P 3 → (i : ℕ) → i < landingCount → P i
+pub each : (P : ℕ → Type 0) → P 0 → P 1 → P 2 → P 3 → (i : ℕ) → i < landingCount → P i
 each P a b c d zero h = a
 each P a b c d (suc zero) h = b
 each P a b c d (suc (suc zero)) h = c
@@ -50,6 +53,16 @@ small =
       cycles = each (λ i. landingOf after i .cycles .0 ≤ figureMost) (lit≤ tt) (lit≤ tt) (lit≤ tt) (lit≤ tt);
       longest = each (λ i. landingOf after i .longest .0 ≤ figureMost) (lit≤ tt) (lit≤ tt) (lit≤ tt) (lit≤ tt);
     }
+
+-- nothing has grown before the first record
+none-grown : Grown 0 0 0 0 noWaits
+none-grown = record { closed = lit≤ tt; cycles = lit≤ tt; longest = lit≤ tt; started = lit≤ tt; dark = λ h. refl; mark = refl }
+
+grown : CarriedGrown 0 1 called
+unfolding read
+grown =
+    let none = none-grown in
+    carried-grown 0 0 nothing (recordHere (lampsAt 10 1)) refl (record { four = refl; lamps = lit< tt; landings = (none, (none, (none, (none, tt)))) })
 
 panel : Panel upd546 lampRom []
 unfolding opened
@@ -75,10 +88,22 @@ figures =
       waits-0 = every-rise-is-a-wait (calling ++ coming) nothing 0 (lit< tt) (accepts .1);
       waits-1 = every-rise-is-a-wait (calling ++ coming) nothing 1 (lit< tt) (accepts .1);
       waits-2 = every-rise-is-a-wait (calling ++ coming) nothing 2 (lit< tt) (accepts .1);
+      waits-3 = every-rise-is-a-wait (calling ++ coming) nothing 3 (lit< tt) (accepts .1);
       carried-on = only-figures-draw-41 calling nothing (accepts .0) small;
       read-on = read-on-as-joined calling coming nothing (accepts .0) (only-figures-draw-41 calling nothing (accepts .0) small);
       last-counts = last-record-counts calling coming nothing refl (accepts .0);
       last-refused = last-record-counts calling wide nothing refl (accepts .0);
+      grown-four = grown .four;
+      grown-lamps = grown .lamps;
+      grown-closed = grown .landings .0 .closed;
+      grown-cycles = grown .landings .0 .cycles;
+      grown-longest = grown .landings .0 .longest;
+      grown-started = grown .landings .0 .started;
+      grown-mark = grown .landings .0 .mark;
+      grown-dark = grown .landings .1 .0 .dark refl;
+      in-parts = parts-read-as-one (calling ∷ []) coming (refl, tt) (below-all 256 (calling ++ coming) (lit< tt) refl) (lit< tt);
+      parts-42 = parts-read-as-one (wide ∷ []) coming (refl, tt) (below-all 256 (wide ++ coming) (lit< tt) refl) (lit< tt);
+      parts-41 = parts-read-as-one (wide ∷ []) (take 5 coming) (refl, tt) (below-all 256 (wide ++ take 5 coming) (lit< tt) refl) (lit< tt);
       accepted = one-day .accepted;
       day = ap (λ (r : Reading). r .carried) (one-day .report);
     }

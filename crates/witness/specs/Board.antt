@@ -3,7 +3,7 @@
 use Prim.Native.Nat.{ℕ}
 use mathlib.Core.Path.{_≡_}
 use mathlib.Core.List.{List, [], _∷_, _++_, map}
-use lib.ListN.{length, take, replicate}
+use lib.ListN.{length, getD, take, replicate}
 use Rattle.runs.specs.TwoRunners.{stopped, saveAnswer, restoreAnswer}
 use Rattle.runs.specs.Lists.{Each, notRefused, runs, joinedLog, cycleTotal, begunTotal, AllFinish}
 use Rattle.upd546.specs.TheMachine.{fresh}
@@ -11,8 +11,8 @@ use Rattle.upd546.specs.Bytes.{numberAt}
 use Rattle.upd546.specs.StateImage.{imageOf}
 use Rattle.upd546.specs.TwoRunners.{upd546}
 use Rattle.calls.specs.Call.{BoardCall, BoardAnswer, callAnswer}
-use Rattle.calls.specs.EveryCall.{callRefusal, stop, refusal, endingBy}
-use Rattle.calls.specs.Lists.{imageAfter, callRuns, slicesOf, Lending, callOn, onImage}
+use Rattle.calls.specs.EveryCall.{callRefusal, finish, stop, refusal, endingBy}
+use Rattle.calls.specs.Lists.{callsNotRefused, imageAfter, callRuns, slicesOf, Lending, callOn, onImage}
 use Rattle.witness.specs.Calls.{rom, wantedLog, wantedImage}
 
 -- THE CALLS
@@ -77,6 +77,8 @@ pub record BoardFigures : Type 0 where
   pub begun : begunTotal (callRuns upd546 carriedOut) ≡ 3
   pub not-all-finish : AllFinish (callRuns upd546 carriedOut) → ⊥
   pub each-stop : Each (λ a. (k : ℕ) → a .end ≡ stopped k → k ≡ 23) (callRuns upd546 carriedOut)
+  -- and of the first call alone
+  pub all-finish : AllFinish (callRuns upd546 (callOn start first ∷ []))
   -- `stands`, `none-refused`: two slices of a restore, a run and a save
   pub slices-log : joinedLog (runs upd546 (notRefused upd546 (slicesOf upd546 carriedOut))) ≡ wantedLog
   pub six-calls : length (notRefused upd546 (slicesOf upd546 carriedOut)) ≡ 6
@@ -98,6 +100,7 @@ pub record BoardFigures : Type 0 where
   pub next : callRefusal upd546 (callOn wantedImage last) ≡ 0
   -- `EveryFinishOrStopRewrites`: in the middle of OCD
   pub saved : saveAnswer upd546 (restoreAnswer upd546 between .state) start .number ≡ 0
+  pub owed-byte : getD between 17 0 ≡ 1
   pub owed-kept : restoreAnswer upd546 between .state .core .owed ≡ 1
   -- `EveryCallTellsItsRun`: a refusal, with counts of zero
   pub refused-number : callAnswer upd546 (callOn between badRom) .number ≡ 21
@@ -105,8 +108,10 @@ pub record BoardFigures : Type 0 where
   pub refused-cycles : numberAt (callAnswer upd546 (callOn between badRom) .report) 0 8 ≡ 0
   pub refused-written : numberAt (callAnswer upd546 (callOn between badRom) .report) 16 8 ≡ 0
   -- `EveryCallsNumberTells`
+  pub told-finish : endingBy (callAnswer upd546 (callOn start first) .number) ≡ finish
   pub told-stop : endingBy (callAnswer upd546 (callOn between second) .number) ≡ stop
   pub told-refusal : endingBy (callAnswer upd546 (callOn between badRom) .number) ≡ refusal
   -- `EveryAcceptedImageEndsAsOneRun`
   pub same-bytes : start ≡ imageOf (restoreAnswer upd546 start .state)
   pub one-image : imageAfter upd546 start (onImage upd546 start lendings) ≡ wantedImage
+  pub one-image-log : joinedLog (callRuns upd546 (callsNotRefused upd546 (onImage upd546 start lendings))) ≡ wantedLog

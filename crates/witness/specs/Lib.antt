@@ -6,3 +6,6 @@ pub mod Day
 pub mod Waits
 pub mod Board
 pub mod Loads
+pub mod EveryLog
+pub mod EveryCycle
+pub mod EveryCall

@@ -32,7 +32,7 @@ pub record LoadFigures : Type 0 where
   pub not-14 : tenMillion [] longest ≡ 14 → ⊥
   -- `EveryRom`, with a schedule that is refused
   pub not-21 : tenMillion (romOf 20) (0 ∷ []) ≡ 21 → ⊥
-  -- `EveryLoad`: a run of the two isn't refused
-  pub runs : tenMillion (romOf 20) longest ≡ 0
+  -- `EveryLoad`: a run of a ROM and a schedule of two seeds isn't refused
+  pub runs : tenMillion (romOf 7) longest ≡ 0
   -- `EveryBeginning`
   pub begins : take 10 (scheduleOf 0 2) ≡ firstRecord

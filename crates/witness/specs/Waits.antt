@@ -1,9 +1,9 @@
 -- What the theorems about waiting times have to say of a log and of a list of calls: a figure or a plain fact for each clause.
 -- Assumes nothing: these are definitions.
-use Prim.Native.Nat.{ℕ}
+use Prim.Native.Nat.{ℕ, _<_, _≤_}
 use mathlib.Core.Path.{_≡_}
 use mathlib.Core.List.{List, [], _∷_, _++_}
-use lib.ListN.{take, replicate}
+use lib.ListN.{length, take, replicate}
 use Rattle.runs.specs.Lists.{plainOne, skippingOne, Call, run, save, restore, runAnswer}
 use Rattle.runs.specs.TwoRunners.{saveAnswer, restoreAnswer}
 use Rattle.upd546.specs.declared.State.{State}
@@ -13,9 +13,10 @@ use Rattle.upd546.specs.TwoRunners.{upd546}
 use Rattle.waiting.specs.declared.Landing.{Landing}
 use Rattle.waiting.specs.declared.Carried.{Carried}
 use Rattle.waiting.specs.declared.Reading.{Reading}
-use Rattle.waiting.specs.WaitingTimes.{noWaits, nothing, carriedNumber, refusedWith, waitingTimes}
-use Rattle.waiting.specs.EveryLog.{waitsOf}
+use Rattle.waiting.specs.WaitingTimes.{noWaits, nothing, carriedAfter, recordHere, carriedNumber, refusedWith, waitingTimes}
+use Rattle.waiting.specs.EveryLog.{landingOf, waitsOf}
 use Rattle.waiting.specs.EveryList.{AllAccepted, carriedOn, listLogs}
+use Rattle.report.specs.Parts.{noParts, partRead, partsRead}
 
 -- A LOG
 
@@ -33,6 +34,10 @@ coming = lampsAt 60 2
 -- a record of port I with a value that its latch can't hold
 abbrev pub wide : List ℕ
 wide = 0 ∷ 0 ∷ 0 ∷ 0 ∷ 0 ∷ 60 ∷ 8 ∷ 8 ∷ []
+
+-- what is carried after the first of these records
+abbrev pub called : Carried
+called = carriedAfter nothing (recordHere (lampsAt 10 1))
 
 -- one closed wait of so many cycles
 abbrev pub oneWait : ℕ → Landing
@@ -76,16 +81,30 @@ wantedDay = record { landings = oneWait 2 ∷ noWaits ∷ noWaits ∷ noWaits �
 -- THE FIGURES
 
 pub record WaitFigures : Type 0 where
-  -- `EveryRiseIsAWait`: one lamp lit on landings 0 and 1 each, none on landing 2
+  -- `EveryRiseIsAWait`: one lamp lit on landings 0 and 1 each, none on landings 2 and 3
   pub waits-0 : waitsOf (waitingTimes (calling ++ coming) nothing .carried) 0 ≡ 1
   pub waits-1 : waitsOf (waitingTimes (calling ++ coming) nothing .carried) 1 ≡ 1
   pub waits-2 : waitsOf (waitingTimes (calling ++ coming) nothing .carried) 2 ≡ 0
+  pub waits-3 : waitsOf (waitingTimes (calling ++ coming) nothing .carried) 3 ≡ 0
   -- `OnlyFiguresDraw41`, `ReadOnAsJoined`
   pub carried-on : carriedNumber [] (waitingTimes calling nothing .carried) ≡ 0
   pub read-on : waitingTimes coming (waitingTimes calling nothing .carried) ≡ wanted
   -- `LastRecordCounts`, of a record that is accepted and of one that isn't
   pub last-counts : waitingTimes (calling ++ coming) nothing ≡ wanted
   pub last-refused : waitingTimes (calling ++ wide) nothing ≡ refusedWith 42
+  -- `carried-grown`, of the landing that calls and of a dark one
+  pub grown-four : length (called .landings) ≡ 4
+  pub grown-lamps : called .lamps < 16
+  pub grown-closed : landingOf called 0 .closed ≤ 1
+  pub grown-cycles : landingOf called 0 .cycles .0 ≤ 10
+  pub grown-longest : landingOf called 0 .longest .0 ≤ 10
+  pub grown-started : landingOf called 0 .start .0 ≤ 10
+  pub grown-mark : landingOf called 0 .mark ≡ 1
+  pub grown-dark : landingOf called 1 .start .0 ≡ 0
+  -- `PartsReadAsOne`: a part that is sound, one that isn't, and a last one that is torn, by which 41 comes before 42
+  pub in-parts : partRead (partsRead noParts (calling ∷ [])) coming ≡ wanted
+  pub parts-42 : partRead (partsRead noParts (wide ∷ [])) coming ≡ refusedWith 42
+  pub parts-41 : partRead (partsRead noParts (wide ∷ [])) (take 5 coming) ≡ refusedWith 41
   -- `EveryListReportsAsOneRun`: the wait that the power cut falls into is there, and whole
   pub accepted : AllAccepted nothing (listLogs upd546 lampCalls)
   pub day : carriedOn nothing (listLogs upd546 lampCalls) ≡ wantedDay

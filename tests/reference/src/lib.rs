@@ -1,6 +1,6 @@
 //! A reference interpreter of the uPD546 as document 01 defines it: one machine cycle after the
 //! other, on a state that is changed in place. `waiting`, `call` and `load` are requests of document
-//! 02. `case`, `codes`, `draw`, `maker`, `mnemonics` and `show` are no part of either: what the programs
+//! 02. `case`, `codes`, `draw`, `kinds`, `maker`, `mnemonics` and `show` are no part of either: what the programs
 //! that make trials share, and the tests.
 
 pub mod call;
@@ -9,6 +9,7 @@ pub mod codes;
 pub mod draw;
 mod image;
 mod instructions;
+pub mod kinds;
 pub mod lent;
 pub mod load;
 pub mod log;

@@ -5,6 +5,8 @@ use std::path::Path;
 use std::process::ExitCode;
 use std::{env, fs, io};
 
+use crate::kinds::{text_of, Count};
+
 /// What a program makes: standard input and output of its crate, empty where it has none; what is wrong
 /// with them; and the inputs of a program as it was built, one for each of the last names, or none.
 pub struct Made {
@@ -23,11 +25,13 @@ pub struct File {
 
 /// `PROGRAM FOLDER` writes FOLDER/stdin and FOLDER/stdout and fails where there is a fault;
 /// `PROGRAM files FOLDER` writes the input and the text of each place K to `FOLDER/K NAME.input` and
-/// `FOLDER/K NAME.text`, what is said of it, if anything, to `FOLDER/K NAME.said`, and fails likewise; `PROGRAM list` prints the names; `PROGRAM show K` tells
+/// `FOLDER/K NAME.text`, what is said of it, if anything, to `FOLDER/K NAME.said`, and fails likewise;
+/// `PROGRAM list` prints the names; `PROGRAM counts` how many there are of each kind; `PROGRAM show K` tells
 /// all of what has the place K among them.
 pub fn make(
     program: &str,
     names: Vec<String>,
+    counts: impl FnOnce() -> Vec<Count>,
     show: impl Fn(usize) -> String,
     made: impl FnOnce() -> Made,
 ) -> ExitCode {
@@ -36,6 +40,10 @@ pub fn make(
         [word] if word == "list" => {
             let lines = names.iter().enumerate();
             print(lines.map(|(k, name)| format!("{k} {name}\n")).collect());
+            Ok(true)
+        }
+        [word] if word == "counts" => {
+            print(text_of(&counts()));
             Ok(true)
         }
         [word, place] if word == "show" => place_of(place, names.len()).map(|place| {
@@ -49,7 +57,7 @@ pub fn make(
             write(folder, &made()).map_err(|error| format!("{folder}: {error}"))
         }
         _ => Err(String::from(
-            "FOLDER, files FOLDER, list or show K is wanted",
+            "FOLDER, files FOLDER, list, counts or show K is wanted",
         )),
     };
     match done {

@@ -1,7 +1,10 @@
 //! The cases: seeds and numbers of records, buffers that are too short, just long enough and longer.
 
+use std::collections::BTreeSet;
+
 use reference::case::digest;
 use reference::draw::Draw;
+use reference::kinds::{Count, Kind as CasesKind};
 use reference::load::{make_rom, make_schedule, MOST};
 use reference::numbers::{BUFFER_SHORT, FINISHED, MANY_RECORDS};
 
@@ -85,12 +88,17 @@ impl Case {
     }
 }
 
-pub fn all() -> Vec<Case> {
-    let mut cases = roms();
-    cases.extend(lengths());
-    cases.extend(records());
-    cases.extend(wide());
-    cases
+pub const KINDS: [CasesKind<Case>; 4] = [
+    ("roms", roms),
+    ("lengths", lengths),
+    ("records", records),
+    ("wide", wide),
+];
+
+/// How many different seeds the ROMs are of.
+pub fn seed_count() -> Count {
+    let seeds: BTreeSet<u32> = seeds().into_iter().collect();
+    (String::from("loads/seeds"), seeds.len())
 }
 
 /// Seeds at the edges of 32 bits, small ones and drawn ones, each for a ROM and for a short schedule.

@@ -1,5 +1,6 @@
 //! The inputs of program `load`: good lines, and lines that are something else.
 
+use reference::kinds::Kind;
 use reference::load::load;
 
 /// What `load` says of a line that is neither of the two.
@@ -65,12 +66,7 @@ fn input(name: &str, line: &[u8], due: Due) -> Input {
     }
 }
 
-pub fn all() -> Vec<Input> {
-    let mut inputs = good();
-    inputs.extend(refused());
-    inputs.extend(bad());
-    inputs
-}
+pub const KINDS: [Kind<Input>; 3] = [("good", good), ("refused", refused), ("bad", bad)];
 
 fn good() -> Vec<Input> {
     vec![

@@ -2,8 +2,8 @@
 //!
 //! `loads FOLDER` writes FOLDER/stdin and FOLDER/stdout. `loads files FOLDER` writes three files for each
 //! input K, `K NAME.input`, `K NAME.text` and `K NAME.said`: what the built program is given, and has to
-//! write and to say on standard error. `loads list` names the cases and, behind them, the inputs. `loads
-//! show K` tells case or input K. `loads load` reads a line from standard input and writes its load.
+//! write and to say on standard error. `loads list` names the cases and, behind them, the inputs, `loads
+//! counts` says how many there are of each kind. `loads show K` tells case or input K. `loads load` reads a line from standard input and writes its load.
 //!
 //! # The file
 //!
@@ -34,6 +34,7 @@ use std::process::ExitCode;
 
 use cases::Case;
 use inputs::Input;
+use reference::kinds::{all_of, counts_of, Count};
 use reference::maker::{make, File, Made};
 
 fn titles() -> String {
@@ -75,6 +76,13 @@ fn write_load() -> io::Result<()> {
     io::stdout().write_all(&inputs::text_of(&line))
 }
 
+fn counts() -> Vec<Count> {
+    let mut counts = counts_of("loads", &cases::KINDS);
+    counts.push(cases::seed_count());
+    counts.extend(counts_of("load_inputs", &inputs::KINDS));
+    counts
+}
+
 fn main() -> ExitCode {
     if env::args().skip(1).eq(["load"]) {
         return match write_load() {
@@ -85,8 +93,8 @@ fn main() -> ExitCode {
             }
         };
     }
-    let cases = cases::all();
-    let inputs = inputs::all();
+    let cases = all_of(&cases::KINDS);
+    let inputs = all_of(&inputs::KINDS);
     let names = cases
         .iter()
         .map(|case| case.name.clone())
@@ -96,5 +104,5 @@ fn main() -> ExitCode {
         Some(case) => format!("{}{}", titles(), case.line()),
         None => inputs[place - cases.len()].told(),
     };
-    make("loads", names, show, || made(&cases, &inputs))
+    make("loads", names, counts, show, || made(&cases, &inputs))
 }

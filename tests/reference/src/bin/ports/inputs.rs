@@ -2,6 +2,7 @@
 //! buffer of 65,536 bytes, or fill it.
 
 use reference::case::{panel, record, Case, FEW_JCP, FEW_JUMPS, INSIDE, NO_STOPS};
+use reference::kinds::{all_of, Kind};
 use reference::maker::sample;
 
 /// How the run of a panel ends.
@@ -50,15 +51,18 @@ const OE_LOOP: [u8; 2] = [0x44, 0xC0];
 /// IA, OE and JCP 000: line A of every fifth cycle.
 const LINE_LOOP: [u8; 3] = [0x40, 0x44, 0xC0];
 
+pub const KINDS: [Kind<Input>; 7] = [
+    ("samples", samples),
+    ("short", short),
+    ("finishes", finishes),
+    ("schedules", schedules),
+    ("long_logs", long_logs),
+    ("stops", stops),
+    ("drawn", drawn),
+];
+
 pub fn all() -> Vec<Input> {
-    let mut inputs = samples();
-    inputs.extend(short());
-    inputs.extend(finishes());
-    inputs.extend(schedules());
-    inputs.extend(long_logs());
-    inputs.extend(stops());
-    inputs.extend(drawn());
-    inputs
+    all_of(&KINDS)
 }
 
 pub fn example(n: u32, schedule: &[u8]) -> Vec<u8> {

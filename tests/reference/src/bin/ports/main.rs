@@ -5,8 +5,8 @@
 //! a refused panel it writes `refused` and the number, and a line end.
 //!
 //! `ports files FOLDER` writes two files for each input K, `K NAME.input` and `K NAME.text`: what the
-//! built program is given, and has to write. `ports list` names the inputs. `ports show K` tells all of
-//! the run of input K.
+//! built program is given, and has to write. `ports list` names the inputs, `ports counts` says how many
+//! there are of each kind. `ports show K` tells all of the run of input K.
 
 mod inputs;
 
@@ -15,6 +15,7 @@ use std::io::{self, Read, Write};
 use std::process::ExitCode;
 
 use inputs::{End, Input};
+use reference::kinds::counts_of;
 use reference::lent::Lent;
 use reference::log::RECORD;
 use reference::maker::{make, File, Made};
@@ -95,7 +96,8 @@ fn main() -> ExitCode {
     let inputs = inputs::all();
     let names = inputs.iter().map(|input| input.name.clone()).collect();
     let show = |place: usize| show(&inputs[place]);
-    make("ports", names, show, || made(&inputs))
+    let counts = || counts_of("ports_inputs", &inputs::KINDS);
+    make("ports", names, counts, show, || made(&inputs))
 }
 
 #[cfg(test)]

@@ -4,6 +4,7 @@
 //! stays far below 2^48 - 1.
 
 use reference::case::{panel, record, schedule};
+use reference::kinds::Kind;
 use reference::maker;
 
 /// An input, and the last line of its text.
@@ -16,18 +17,17 @@ pub struct Input {
 /// OCD, LI, OE and a code that is no instruction: document 01's example.
 const EXAMPLE: [u8; 5] = [0x1E, 0xA5, 0x93, 0x44, 0x1C];
 
-pub fn all() -> Vec<Input> {
-    let mut inputs = short();
-    inputs.extend(schedule_lengths());
-    inputs.extend(records());
-    inputs.extend(finishes());
-    inputs.extend(full_logs());
-    inputs.extend(stops());
-    inputs.extend(lines());
-    inputs.extend(samples());
-    inputs.extend(long());
-    inputs
-}
+pub const KINDS: [Kind<Input>; 9] = [
+    ("short", short),
+    ("schedule_lengths", schedule_lengths),
+    ("records", records),
+    ("finishes", finishes),
+    ("full_logs", full_logs),
+    ("stops", stops),
+    ("lines", lines),
+    ("samples", samples),
+    ("long", long),
+];
 
 /// Schedules of 40 KB and more, some of them longer than the program's buffer of 65,536 bytes. The records
 /// rise, and no two neighbours are alike.

@@ -1,14 +1,15 @@
 //! The inputs of program `trace` that are tried, and their texts.
 //!
 //! `traces files FOLDER` writes two files for each input K, `K NAME.input` and `K NAME.text`: what the
-//! built program is given, and has to print. `traces list` names the inputs. `traces show K` tells all
-//! of the run of input K.
+//! built program is given, and has to print. `traces list` names the inputs, `traces counts` says how many
+//! there are of each kind. `traces show K` tells all of the run of input K.
 
 mod inputs;
 
 use std::process::ExitCode;
 
 use inputs::Input;
+use reference::kinds::{all_of, counts_of};
 use reference::lent::Lent;
 use reference::maker::{make, File, Made};
 use reference::trace;
@@ -54,8 +55,9 @@ fn show(input: &Input) -> String {
 }
 
 fn main() -> ExitCode {
-    let inputs = inputs::all();
+    let inputs = all_of(&inputs::KINDS);
     let names = inputs.iter().map(|input| input.name.clone()).collect();
     let show = |place: usize| show(&inputs[place]);
-    make("traces", names, show, || made(&inputs))
+    let counts = || counts_of("trace_inputs", &inputs::KINDS);
+    make("traces", names, counts, show, || made(&inputs))
 }

@@ -4,7 +4,7 @@
 //! PROGRAM is `calls` or `values`. `trials PROGRAM FOLDER` writes the stored files of its crate, FOLDER/stdin
 //! and FOLDER/stdout, of a few items. `trials PROGRAM whole FOLDER` writes FOLDER/stream and FOLDER/text, of
 //! all. `trials PROGRAM list` names the items, one for each line of the whole text; `trials PROGRAM show K`
-//! tells all of item K.
+//! tells all of item K. `trials counts` says how many cases, groups and panels there are of each kind.
 
 mod cases;
 mod cuts;
@@ -17,6 +17,7 @@ use std::process::ExitCode;
 use std::{env, fs, io};
 
 use cuts::Kind;
+use reference::kinds::text_of;
 use reference::Runner;
 use stream::Stream;
 
@@ -149,6 +150,9 @@ fn done(words: &[String]) -> Result<String, String> {
     let words: Vec<&str> = words.iter().map(String::as_str).collect();
     let failed = |error: io::Error| error.to_string();
     match words.as_slice() {
+        ["counts"] => Ok(text_of(
+            &[cases::counts(), images::counts(), cuts::counts()].concat(),
+        )),
         [program @ ("calls" | "values"), "list"] => {
             let items = Trials::all().of(program);
             let names = items.iter().map(|item| item.name()).enumerate();
@@ -172,7 +176,7 @@ fn done(words: &[String]) -> Result<String, String> {
             Ok(String::new())
         }
         _ => Err(String::from(
-            "calls or values is wanted, and FOLDER, whole FOLDER, list or show K",
+            "counts is wanted, or calls or values and FOLDER, whole FOLDER, list or show K",
         )),
     }
 }

@@ -2,6 +2,7 @@
 //! buffer of 65,536 bytes, and past a second one.
 
 use reference::draw::Draw;
+use reference::kinds::{all_of, Kind};
 use reference::log::{Record, RECORD};
 use reference::maker::sample;
 use reference::ports;
@@ -28,14 +29,17 @@ const FULL: usize = BUFFER / RECORD;
 /// The longest log.
 const LONG: usize = 200_000;
 
+pub const KINDS: [Kind<Input>; 6] = [
+    ("short", short),
+    ("samples", samples),
+    ("torn", torn),
+    ("wrong_records", wrong_records),
+    ("long", long),
+    ("long_and_wrong", long_and_wrong),
+];
+
 pub fn all() -> Vec<Input> {
-    let mut inputs = short();
-    inputs.extend(samples());
-    inputs.extend(torn());
-    inputs.extend(wrong_records());
-    inputs.extend(long());
-    inputs.extend(long_and_wrong());
-    inputs
+    all_of(&KINDS)
 }
 
 /// Each input has to be answered as it says; each ground that a log itself can have has to be there,

@@ -3,7 +3,8 @@
 //!
 //! `waits FOLDER` writes FOLDER/stdin and FOLDER/stdout. `waits files FOLDER` writes two files for each
 //! input K, `K NAME.input` and `K NAME.text`: what the built program is given, and has to print. `waits
-//! list` names the cases and, behind them, the inputs. `waits show K` tells case or input K: what is
+//! list` names the cases and, behind them, the inputs, `waits counts` says how many there are of each kind.
+//! `waits show K` tells case or input K: what is
 //! carried, the log and the answer. `waits report` reads a log from standard input and prints its
 //! report.
 //!
@@ -46,6 +47,7 @@ use std::process::ExitCode;
 
 use case::{answers, Case};
 use inputs::Input;
+use reference::kinds::{all_of, counts_of, Count, Kind};
 use reference::maker::{make, File, Made};
 use reference::waiting::{read_on, report_text, Answer, Carried, LANDINGS};
 
@@ -53,13 +55,22 @@ use reference::waiting::{read_on, report_text, Answer, Carried, LANDINGS};
 const STDIN: usize = 450_000;
 const STDOUT: usize = 350_000;
 
+const KINDS: [Kind<Case>; 5] = [
+    ("records", records::cases),
+    ("splits", splits::cases),
+    ("carried", carried::cases),
+    ("machine", machine::cases),
+    ("drawn", drawn::cases),
+];
+
 fn all_cases() -> Vec<Case> {
-    let mut cases = records::cases();
-    cases.extend(splits::cases());
-    cases.extend(carried::cases());
-    cases.extend(machine::cases());
-    cases.extend(drawn::cases());
-    cases
+    all_of(&KINDS)
+}
+
+fn counts() -> Vec<Count> {
+    let mut counts = counts_of("logs", &KINDS);
+    counts.extend(counts_of("waits_inputs", &inputs::KINDS));
+    counts
 }
 
 fn titles() -> String {
@@ -172,5 +183,5 @@ fn main() -> ExitCode {
         Some(_) => show(&cases[..=place]),
         None => show_input(&inputs[place - cases.len()]),
     };
-    make("waits", names, show, || made(&cases, &inputs))
+    make("waits", names, counts, show, || made(&cases, &inputs))
 }

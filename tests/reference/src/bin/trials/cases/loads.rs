@@ -204,8 +204,8 @@ fn edges() -> Vec<Case> {
     cases
 }
 
-/// A load at the end of the ROM: a string of LI up to 7CF, and LDI at 7CF, which needs a second byte also where it would be a
-/// NOP.
+/// A load at the end of the ROM, behind an LI: LI at 7CF goes on with its string, and LDI lacks its second byte. bounds.rs has those
+/// that begin at 7CF.
 fn end_of_the_rom() -> Vec<Case> {
     let mut cases = Vec::new();
     for mark in MARKS {

@@ -2,6 +2,7 @@
 //! image too.
 
 mod bench;
+mod bounds;
 mod codes;
 mod edges;
 mod keys;
@@ -15,6 +16,7 @@ mod waits;
 use reference::call::{call, REPORT};
 use reference::case::{digest, state_bytes, Case};
 use reference::codes::{always_skips, can_skip, is_none};
+use reference::kinds::{all_of, counts_of, Count, Kind};
 use reference::{run, save, Coverage, Runner};
 
 use crate::stream::{pattern, Chain, Of, Stream};
@@ -23,28 +25,50 @@ use crate::Item;
 /// A runner's number at every width that the call has to look at.
 const SKIPPING: [u64; 6] = [1, 2, 256, 1 << 32, 1 << 63, u64::MAX];
 
-/// Each case on both runners.
-pub fn all() -> Vec<Case> {
-    let mut cases = codes::cases();
-    cases.extend(bench::cases());
-    cases.extend(edges::cases());
-    cases.extend(waits::cases());
-    cases.extend(starts::cases());
-    cases.extend(stops::cases());
-    cases.extend(refusals::cases());
-    cases.extend(roms::cases());
-    cases.extend(keys::cases());
-    cases.extend(loads::cases());
+/// The kinds of cases.
+const KINDS: [Kind<Case>; 10] = [
+    ("codes", codes::cases),
+    ("bench", bench::cases),
+    ("edges", edges::cases),
+    ("waits", waits::cases),
+    ("starts", starts::cases),
+    ("stops", stops::cases),
+    ("refusals", refusals::cases),
+    ("roms", roms::cases),
+    ("keys", keys::cases),
+    ("loads", loads::cases),
+];
+
+/// Kinds that were added. The call of a case hangs on its place (`Call::of`), so they stand behind the others, on both runners, and
+/// change no line of theirs.
+const ADDED: [Kind<Case>; 1] = [("bounds", bounds::cases)];
+
+fn on_both(mut cases: Vec<Case>) -> Vec<Case> {
     let skipping: Vec<Case> = cases.iter().map(Case::skipping).collect();
     cases.extend(skipping);
     cases
 }
 
+/// Each case on both runners.
+pub fn all() -> Vec<Case> {
+    let mut cases = on_both(all_of(&KINDS));
+    cases.extend(on_both(all_of(&ADDED)));
+    cases
+}
+
+/// How many cases there are of each kind, on one runner; and how many of them have a state that is sound.
+pub fn counts() -> Vec<Count> {
+    let kinds: Vec<Kind<Case>> = KINDS.into_iter().chain(ADDED).collect();
+    let cases = all_of(&kinds).into_iter().enumerate();
+    let sound = cases.filter_map(|(place, case)| Call::of(place, case));
+    let mut counts = counts_of("cases", &kinds);
+    counts.push((String::from("cases/sound"), sound.count()));
+    counts
+}
+
 /// The bench cases of few bytes.
 pub fn small() -> Vec<Case> {
-    let mut cases = bench::cases();
-    let skipping: Vec<Case> = cases.iter().map(Case::skipping).collect();
-    cases.extend(skipping);
+    let mut cases = on_both(bench::cases());
     let few = |bytes: Vec<u8>| bytes.iter().skip(0x40).all(|&byte| byte == 0);
     cases.retain(|case| few(case.made_rom_bytes()) && few(case.made_schedule_bytes()));
     cases

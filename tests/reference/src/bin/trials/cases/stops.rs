@@ -106,13 +106,14 @@ fn no_record() -> Vec<Case> {
     cases
 }
 
-/// An instruction of two bytes at 7CF, with room in the log and without, and with mark LDI.
+/// An instruction of two bytes at 7CF behind a NOP, with room in the log and without. The NOP leaves mark other, whatever the mark
+/// before it; bounds.rs has those that begin at 7CF.
 fn second_bytes() -> Vec<Case> {
     let mut cases = Vec::new();
     for code in [0x14, 0x15, 0x16, 0x17, 0x1E, 0xA0, 0xA8] {
         for (mark, log) in [(0, 64), (1, 0)] {
             cases.push(
-                Case::new(format!("{code:02X} at 7CF, mark {mark}, log {log}"))
+                Case::new(format!("{code:02X} at 7CF behind a NOP, log {log}"))
                     .rom(LAST - 1, &[0x00, code])
                     .with(|state| (state.pc, state.mark) = (LAST - 1, mark))
                     .log(log)

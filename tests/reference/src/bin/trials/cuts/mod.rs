@@ -22,6 +22,7 @@ mod tests;
 
 use reference::call::{call, REPORT};
 use reference::case::{digest, state_bytes, Case};
+use reference::kinds::{counts_of, Count};
 use reference::lent::Lent;
 use reference::{save, Runner, State};
 
@@ -163,6 +164,28 @@ pub fn faults(panels: &[Panel]) -> Vec<String> {
         }
     }
     faults
+}
+
+/// How many panels there are of each kind, and of all panels the cuts, the drawn lists, their slices, and the refused calls of both.
+pub fn counts() -> Vec<Count> {
+    let (mut cuts, mut drawn) = (Vec::new(), Vec::new());
+    for panel in all() {
+        cuts.extend(panel.cut_lists());
+        drawn.extend(panel.drawn_lists());
+    }
+    let mut counts = counts_of("panels", &roms::KINDS);
+    for (name, count) in [
+        ("cuts", cuts.len()),
+        ("lists", drawn.len()),
+        ("slices", drawn.iter().flatten().count()),
+        (
+            "refused",
+            list::refused(&cuts).len() + list::refused(&drawn).len(),
+        ),
+    ] {
+        counts.push((format!("lists/{name}"), count));
+    }
+    counts
 }
 
 /// A panel of few cycles.

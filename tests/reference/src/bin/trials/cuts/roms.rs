@@ -1,6 +1,7 @@
 //! The panels that are cut: a program, its lines and the cycles of its unbroken run.
 
 use reference::case::{Case, FEW_JCP, FEW_JUMPS, INSIDE, NO_STOPS};
+use reference::kinds::{all_of, Kind};
 
 /// A ROM on which a run goes on and comes round by many ways.
 const LASTING: u8 = NO_STOPS | FEW_JCP | INSIDE | FEW_JUMPS;
@@ -8,17 +9,20 @@ const LASTING: u8 = NO_STOPS | FEW_JCP | INSIDE | FEW_JUMPS;
 /// At 03C: INC Z, OE, EI, RT.
 const ANSWER: [u8; 7] = [0x4A, 0x0D, 0x00, 0x4A, 0x44, 0x31, 0x48];
 
+pub const KINDS: [Kind<Case>; 9] = [
+    ("waits", waits),
+    ("interrupts", interrupts),
+    ("instructions", instructions),
+    ("stops", stops),
+    ("starts", starts),
+    ("any", any),
+    ("marked_waits", marked_waits),
+    ("read_back", || vec![read_back()]),
+    ("load_strings", load_strings),
+];
+
 pub fn panels() -> Vec<Case> {
-    let mut panels = waits();
-    panels.extend(interrupts());
-    panels.extend(instructions());
-    panels.extend(stops());
-    panels.extend(starts());
-    panels.extend(any());
-    panels.extend(marked_waits());
-    panels.push(read_back());
-    panels.extend(load_strings());
-    panels
+    all_of(&KINDS)
 }
 
 /// Loops on TTM, of short and of long intervals, with records between and without.

@@ -6,8 +6,11 @@ pub mod group;
 #[cfg(test)]
 mod tests;
 
+use std::collections::BTreeMap;
+
 use reference::call::{call, fresh, REPORT};
 use reference::case::{state_bytes, Case, FEW_JCP, FEW_JUMPS, INSIDE, NO_STOPS};
+use reference::kinds::Count;
 use reference::{restore, save, State};
 
 use crate::stream::{pattern, Chain, Of, Stream};
@@ -354,6 +357,21 @@ fn faults(group: &Group, tally: &Tally) -> Vec<String> {
 pub fn all_faults(groups: &[Group]) -> Vec<String> {
     let wrong = groups.iter().map(|group| faults(group, &group.tally()));
     wrong.collect::<Vec<_>>().concat()
+}
+
+/// How many groups there are of each kind of trial, and together; and how many are of restores.
+pub fn counts() -> Vec<Count> {
+    let groups = all();
+    let mut counts = BTreeMap::new();
+    for group in &groups {
+        *counts.entry(group.trial.word()).or_insert(0) += 1;
+    }
+    counts.insert("all", groups.len());
+    counts.insert("restores", groups.into_iter().filter_map(Calls::of).count());
+    let named = counts.into_iter();
+    named
+        .map(|(word, count)| (format!("groups/{word}"), count))
+        .collect()
 }
 
 /// A few groups.

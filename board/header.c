@@ -1,0 +1,80 @@
+/* Holds wharfnettle.h to what it says, in C99 and later and in C++11 and later: what has to be a constant is one, what tells the numbers
+   apart is a function, and nothing uses its argument twice, so that each may be given a call. Prints nothing when all is well. */
+#include "wharfnettle.h"
+#include <stdio.h>
+
+#if defined __cplusplus
+#define MUST(fact) static_assert(fact, #fact)
+#elif __STDC_VERSION__ >= 201112L
+#define MUST(fact) _Static_assert(fact, #fact)
+#else
+#define MUST(fact) extern char must[(fact) ? 1 : -1]
+#endif
+
+static uint8_t image[WHARFNETTLE_IMAGE], records[WHARFNETTLE_LOG(1000)], report[WHARFNETTLE_REPORT];
+MUST(sizeof records == 8008);
+MUST(WHARFNETTLE_LOG(0) == 8);
+MUST(2 * WHARFNETTLE_LOG(1 + 2) == 64);
+MUST(sizeof WHARFNETTLE_LOG(1) == sizeof(size_t));
+MUST(WHARFNETTLE_SCHEDULE % 10 == 0);
+MUST(WHARFNETTLE_STEPS == 3 && WHARFNETTLE_REPORT == 8 * (WHARFNETTLE_STEPS + 1));
+
+/* Functions, and no macros: they have addresses. */
+static int (*const tells[])(int) = {wharfnettle_is_stop, wharfnettle_is_refusal};
+
+/* OCD A5, LI 3, OE, and code 1C, which is no instruction. */
+static const uint8_t rom[WHARFNETTLE_ROM] = {0x1E, 0xA5, 0x93, 0x44, 0x1C};
+
+static int used;
+
+static uint8_t counted(int number)
+{
+    used++;
+    return (uint8_t)number;
+}
+
+static uint8_t call(uint64_t n)
+{
+    return wharfnettle_call(image, sizeof image, rom, sizeof rom, NULL, 0, records, sizeof records, n, 0, report, sizeof report);
+}
+
+/* The cycle number of the image, which tells how many calls were made. */
+static uint64_t cycle(void)
+{
+    uint64_t number = 0;
+    for (int k = 75; k < WHARFNETTLE_IMAGE; k++)
+        number = number << 8 | image[k];
+    return number;
+}
+
+static int wrong;
+
+static void hold(int fact, const char *words)
+{
+    if (!fact) {
+        printf("wharfnettle.h: not so: %s\n", words);
+        wrong = 1;
+    }
+}
+
+int main(void)
+{
+    for (int number = 0; number < 256; number++) {
+        int stop = number == 3 || number == 22 || number == 23;
+        used = 0;
+        hold(wharfnettle_is_stop(counted(number)) == stop && used == 1, "3, 22 and 23 are the stops, and the number is looked at once");
+        hold(wharfnettle_is_refusal(counted(number)) == (number != 0 && !stop) && used == 2,
+             "all but 0 and the stops are refusals, and the number is looked at once");
+        hold(tells[0](number) == stop && tells[1](number + 256), "a number above 255 is no stop");
+    }
+    size_t n = 1;
+    hold(WHARFNETTLE_LOG(n++) == 16 && n == 2, "a log's length uses n once");
+
+    wharfnettle_fresh(image, sizeof image);
+    hold(!wharfnettle_is_stop(call(2)) && cycle() == 2, "a call of 2 cycles that is asked whether it stopped");
+    hold(!wharfnettle_is_refusal(call(1)) && cycle() == 3, "a call of 1 cycle that is asked whether it is refused");
+    hold(wharfnettle_is_stop(call(10)) && cycle() == 5 && wharfnettle_count(report, WHARFNETTLE_CYCLES) == 2, "a call that stops");
+    image[0] = 'u';
+    hold(wharfnettle_is_refusal(call(10)) && cycle() == 5, "a call that is refused");
+    return wrong;
+}

@@ -1,0 +1,128 @@
+-- The theorems about the machine cycle, each at variables. Assumes nothing.
+use mathlib.Core.Path.{_≡_, refl, ap}
+use mathlib.Core.List.{[]}
+use Prim.Native.Nat.{ℕ, zero, suc, max, _<_}
+use native.Mathlib.Omega.{arith}
+use lib.Dec.{lit<, lit≤}
+use Rattle.runs.specs.TwoRunners.{Ran}
+use Rattle.upd546.specs.declared.State.{State}
+use Rattle.upd546.specs.Bytes.{bitAt}
+use Rattle.upd546.specs.TheMachine.{fresh}
+use Rattle.upd546.specs.Instructions as chip
+use Rattle.upd546.specs.StateImage.{stateNumber}
+use Rattle.laws.specs.Reading.{ReadsEither}
+use Rattle.laws.specs.Strings.{Stand, Passed}
+use Rattle.laws.specs.Interval.{StmDue, withoutStm}
+use Rattle.laws.proofs.Reading.{c-and-d-read-back}
+use Rattle.laws.proofs.Strings.{marks-hold-back, load-strings-hold-together}
+use Rattle.laws.proofs.Interval.{tm-set-after-stm}
+use Rattle.laws.proofs.Sound.{accepted-valid, valid-accepted}
+use Rattle.laws.proofs.Cycle.{debt-small, cycle-keeps}
+use Rattle.laws.proofs.Stops.{begins-one}
+use Rattle.laws.proofs.Lines.{lines-same}
+use Rattle.laws.proofs.Timer.{register-at, position-at, tick-left, running-left}
+use Rattle.laws.proofs.Jump.{jump-unbroken, jump-in-room}
+use Rattle.witness.specs.EveryCycle.{OfEveryString, Widths, CycleFacts, loads, waits, after, CycleFigures}
+use Rattle.witness.proofs.Opened.{opened}
+
+greater : (x y z : ℕ) → x < 2 → y < 2 → (x ≡ 1 → z ≡ 1) → (y ≡ 1 → z ≡ 1) → (x ≡ 0 → y ≡ 0 → z ≡ 0) → z ≡ max x y
+greater zero zero z p q a b c = c refl refl
+greater zero (suc zero) z p q a b c = b refl
+greater zero (suc (suc y)) z p q a b c = absurd (omega arith)
+greater (suc zero) zero z p q a b c = a refl
+greater (suc zero) (suc zero) z p q a b c = a refl
+greater (suc zero) (suc (suc y)) z p q a b c = absurd (omega arith)
+greater (suc (suc x)) y z p q a b c = absurd (omega arith)
+
+either : (line latch read k : ℕ) → ReadsEither line latch read k → bitAt read k ≡ max (bitAt line k) (bitAt latch k)
+either line latch read k e = greater (bitAt line k) (bitAt latch k) (bitAt read k) (omega arith) (omega arith) (e .by-line) (e .by-latch) (e .by-none)
+
+string : (k n to : ℕ) (s : State) (r : Ran State) → Passed k n to s r → OfEveryString k n to s r
+string k n to s r p = record {
+  whole = λ i. record {
+    state = record {
+      core = record {
+        registers = p .registers i;
+        flow = record { pc = p .pc i; stack = p .stack i };
+        interrupt = record { int = r .state .core .interrupt .int; inte = p .inte i; level = r .state .core .interrupt .level };
+        timer = r .state .core .timer;
+        mark = p .mark i;
+        owed = p .owed i;
+      };
+      ports = p .ports i;
+      ram = p .ram i;
+      cycle = r .state .cycle;
+    };
+    bytes = p .bytes i;
+    cycles = p .cycles i;
+    begun = p .begun i;
+    number = p .number i;
+  };
+  int = p .int;
+}
+
+widths : (s : State) → stateNumber s ≡ 0 → Widths s
+widths s e =
+    let v = accepted-valid s e in
+    let c = v .core .scalars in
+    record {
+      numbers = (
+        c .acc,
+        (c .carry, (c .saved, (c .dph, (c .dpl, (c .pc, (c .int, (c .inte, (c .level, (c .tm, (c .register, (c .counter, (omega (arith, c .mark), (omega (arith, c .owed), (v .ports .last, (omega (arith, v .cycle), tt))))))))))))))),
+      );
+      stopped = c .stopped;
+      stack = (v .core .stack .depth, v .core .stack .below);
+      latches = (v .ports .count, v .ports .below);
+      ram = (v .ram .count, v .ram .below);
+    }
+
+pub facts : CycleFacts
+facts = record {
+  ports = λ l latches.
+      let r = c-and-d-read-back l latches in
+      record { a = r .a; b = r .b; c = λ k. either _ _ _ k (r .c k); d = λ k. either _ _ _ k (r .d k); others = r .others };
+  marks = λ c. let h = marks-hold-back c in record { ldi = h .ldi; ei = h .ei; li = h .li };
+  li = λ rom sched k s o m l. string _ _ _ s _ (load-strings-hold-together .li rom sched k s o m l);
+  ldi = λ rom sched k s o m l. string _ _ _ s _ (load-strings-hold-together .ldi rom sched k s o m l);
+  tm = λ rom sched s i k d w. let t = tm-set-after-stm rom sched s i k d w in record { cycles = t .cycles; before = t .before; from = t .from };
+  accepted = widths;
+  valid = valid-accepted;
+  keeps = λ rom sched s t w b br bs p v h e.
+      let c = cycle-keeps rom sched s t w b br bs p v h e in
+      (c .valid, c .rises, omega (arith, c .records, debt-small (t .core .owed)));
+  begins-one = begins-one;
+  lines = lines-same;
+  register-at = register-at;
+  position-at = position-at;
+  tick-left = tick-left;
+  running-left = running-left;
+  jump-unbroken = jump-unbroken;
+  jump-in-room = jump-in-room;
+}
+
+-- IN FIGURES
+
+li-stands : Stand loads chip.li 2 1
+unfolding opened
+li-stands = (refl, refl, refl, (refl, refl, refl, tt))
+
+ldi-stands : Stand loads chip.ldi 1 5
+unfolding opened
+ldi-stands = (refl, refl, refl, tt)
+
+due : StmDue waits fresh 0
+unfolding opened
+due = record { owed = refl; free = refl; code-in = refl; code = refl; second-in = refl; operand = refl }
+
+pub figures : CycleFigures
+unfolding opened withoutStm
+figures =
+    let li = facts .li loads [] 2 (after loads 1) refl refl li-stands in
+    let ldi = facts .ldi loads [] 1 (after loads 5) refl refl ldi-stands in
+    record {
+      li-9 = ap (λ (r : Ran State). r .state .core .registers .acc) (li .whole);
+      ldi-45 = ap (λ (r : Ran State). r .state .core .registers .dpl) (ldi .whole);
+      ldi-begun = ap (λ (r : Ran State). r .begun) (ldi .whole);
+      tm-before = facts .tm waits [] fresh 0 62 due refl .before (lit< tt);
+      tm-from = facts .tm waits [] fresh 0 63 due refl .from (lit≤ tt);
+    }

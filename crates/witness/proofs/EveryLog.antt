@@ -1,0 +1,68 @@
+-- The theorems about logs and loads, each at variables. Assumes nothing.
+use mathlib.Core.Path.{_≡_, _∙_, refl, sym, ap}
+use mathlib.Core.List.{List}
+use Prim.Native.Nat.{ℕ, _<_}
+use native.Mathlib.Omega.{arith}
+use Rattle.runs.specs.TwoRunners.{unbroken}
+use Rattle.runs.specs.Lists.{Call, notRefused, asked}
+use Rattle.upd546.specs.declared.State.{State}
+use Rattle.upd546.specs.TwoRunners.{upd546}
+use Rattle.waiting.specs.declared.Carried.{Carried}
+use Rattle.waiting.specs.declared.Reading.{Reading}
+use Rattle.waiting.specs.WaitingTimes.{nothing, waitingTimes}
+use Rattle.waiting.specs.EveryLog.{lampsLit, waitsOf}
+use Rattle.waiting.specs.EveryList.{carriedOn, listLogs, ReportsAsOneRun}
+use Rattle.waiting.proofs.Growth.{carried-grown, can-read}
+use Rattle.waiting.proofs.EveryLog.{every-rise-is-a-wait, read-on-as-joined, only-figures-draw-41, last-record-counts}
+use Rattle.waiting.proofs.EveryList.{reports-as-one-run}
+use Rattle.switch_offs.proofs.EveryList.{every-list-reports-as-one-run}
+use Rattle.report.proofs.Parts.{parts-read-as-one}
+use Rattle.generator.proofs.EveryLoad.{every-schedule, every-rom, every-load, every-beginning}
+use Rattle.witness.specs.EveryLog.{EveryDay, LogFacts}
+use Rattle.witness.proofs.Waits.{each}
+
+-- nobody has waited at the start of a day
+none-yet : (i : ℕ) → i < 4 → waitsOf nothing i ≡ 0
+none-yet = each (λ i. waitsOf nothing i ≡ 0) refl refl refl refl
+
+waits-as : (rom sched : List ℕ) (s : State) (calls : List (Call State)) → ReportsAsOneRun upd546 rom sched s calls → (i : ℕ) → i < 4
+    → waitsOf (carriedOn nothing (listLogs upd546 calls)) i ≡ lampsLit 0 i (unbroken upd546 rom sched (asked upd546 (notRefused upd546 calls)) s .bytes)
+waits-as rom sched s calls r i h =
+    let log = unbroken upd546 rom sched (asked upd546 (notRefused upd546 calls)) s .bytes in
+    let number : waitingTimes log nothing .number ≡ 0 = sym (ap (λ (x : Reading). x .number) (r .report)) in
+    let carried : carriedOn nothing (listLogs upd546 calls) ≡ waitingTimes log nothing .carried = ap (λ (x : Reading). x .carried) (r .report) in
+    let rise : waitsOf (waitingTimes log nothing .carried) i ≡ lampsLit 0 i log = omega (arith, every-rise-is-a-wait log nothing i h number, none-yet i h) in
+    ap (λ (c : Carried). waitsOf c i) carried ∙ rise
+
+days : EveryDay
+days rom sched s calls p v m h =
+    let r = every-list-reports-as-one-run rom sched s calls p v m h in
+    record { accepted = r .accepted; waits = waits-as rom sched s calls r }
+
+pub facts : LogFacts
+facts = record {
+  logs = λ c log. record {
+    rise = λ i. every-rise-is-a-wait log c i;
+    read-on = λ more. read-on-as-joined log more c;
+    draws-41 = only-figures-draw-41 log c;
+    last = λ r. last-record-counts log r c;
+  };
+  records = λ c. record {
+    grows = λ base k r. carried-grown base k c r;
+    four = λ k n g h p q. can-read k n c g h p q .four;
+    closes = λ k n g h p q i l. let w = can-read k n c g h p q .each i l in (w .started, w .closed, w .cycles, w .now);
+  };
+  parts = parts-read-as-one;
+  days = days;
+  any-days = λ M. reports-as-one-run M;
+  seeds = λ seed seed′. record {
+    accepted = λ m h. every-schedule seed m h .by-the-check;
+    never = λ m h rom s n.
+        let a = every-schedule seed m h in
+        (a .never-12 rom s n, a .never-11 rom s n, a .never-13 rom s n, a .never-14 rom s n);
+    taken = λ m h. every-schedule seed m h .accepted;
+    rom = every-rom seed;
+    panel = every-load seed seed′;
+    begins = every-beginning seed;
+  };
+}

@@ -1,0 +1,176 @@
+-- The theorems about runs, images, lists and the board's call a second time, for every argument, with the documents' figures in place
+-- of names: one that holds of fewer arguments, assumes more or says less doesn't give its line. Assumes nothing: these are definitions.
+use Prim.Native.Nat.{ℕ, suc, _+_, _*_, _^_, _<_, _≤_}
+use mathlib.Core.Path.{_≡_}
+use mathlib.Core.Logic.{_↔_}
+use mathlib.Core.Bool.{true, false}
+use mathlib.Core.List.{List, _++_}
+use lib.ListN.{length, take, drop}
+use Rattle.runs.specs.declared.Refusal.{Refusal}
+use Rattle.runs.specs.declared.RunEnd.the-variants.{Refused}
+use Rattle.runs.specs.Machine.{Machine, stop, went}
+use Rattle.runs.specs.Numbers.{isStop, endOf}
+use Rattle.runs.specs.TwoRunners.{RunAnswer, stopped, refused, unbroken, runNumber, plain, skipping, saveAnswer, restoreAnswer}
+use Rattle.runs.specs.Laws.{Bytes, Panel, Cycled, CycleLaws, ImageLaws, JumpLaws, NumberLaws, Laws}
+use Rattle.runs.specs.Lists.{Kind, Call, run, save, restore, Each, runAnswer, refusal, notRefused, last, WrittenBy, Meant, asked, AnswersAs, EndsAsOneRun}
+use Rattle.runs.specs.Lists.{Slice, slicesAsk, Lendable, SlicesEndAsOneRun}
+use Rattle.upd546.specs.declared.State.{State}
+use Rattle.upd546.specs.Bytes.{numberAt}
+use Rattle.upd546.specs.StateImage.{imageOf, stateNumber}
+use Rattle.upd546.specs.TwoRunners.{upd546}
+use Rattle.laws.specs.Images.{ImageOfSome}
+use Rattle.laws.specs.Records.{Records}
+use Rattle.driver.specs.declared.KeptMachine.{KeptMachine}
+use Rattle.driver.specs.declared.Report.{Report}
+use Rattle.driver.specs.Lending.{broughtTo}
+use Rattle.calls.specs.Call.{BoardCall, longEnough, runOf, callAnswer}
+use Rattle.calls.specs.EveryCall.{numberOfEnd, callRefusal, callNumber, ChangesNothing, Rewrites, ReadsBack, endingBy, endingOf}
+use Rattle.calls.specs.Lists.{CallLent, callsAsk, callsNotRefused, imageAfter, OnOneImage, CallsEndAsOneRun, Lending, onImage, LentUnlessRefused, ImageEndsAsOneRun}
+
+-- RUNS
+
+-- an answer with another count of steps
+abbrev pub withSteps : {S : Type 0} → ℕ → RunAnswer S → RunAnswer S
+withSteps k a = record {
+  end = a .end;
+  state = a .state;
+  cycles = a .cycles;
+  clocks = a .clocks;
+  begun = a .begun;
+  written = a .written;
+  steps = k;
+  log = a .log;
+}
+
+-- `EveryRunCountsWithin`, `EveryRunsNumberTells`: of what a run answers that is asked for n cycles and lent a log of so many bytes
+pub record OfEveryRun {S : Type 0} (n bytes : ℕ) (a : RunAnswer S) : Type 0 where
+  pub cycles : a .cycles ≤ n
+  pub begun : a .begun ≤ a .cycles
+  pub written : a .written ≤ bytes
+  pub steps : a .steps ≤ a .cycles
+  pub stop : (k : ℕ) → a .end ≡ stopped k → isStop k ≡ true
+  pub refusal : (k : ℕ) → a .end ≡ refused k → (k ≡ 0 → ⊥) × (isStop k ≡ false)
+
+-- THE DRIVER: `refused-as-it-was`, `numbered-as-it-was`. The machine, the log and all counts of a refused run.
+pub record OfEveryRefusal (r : Report) (m m′ : KeptMachine) (log log′ : List ℕ) : Type 0 where
+  pub same-machine : m′ ≡ m
+  pub same-log : log′ ≡ log
+  pub counts : r .cycles .0 + r .clocks .0 + r .begun + r .written + r .steps ≡ 0
+
+-- LISTS: of the calls not refused, what `EndsAs`, `call` and `goes-on` say for every buffer, log and next call
+pub record OfEveryList (rom sched : List ℕ) (s : State) (cs : List (Call State)) : Type 0 where
+  pub image : (buffer : List ℕ) → saveAnswer upd546 (last upd546 s cs) buffer ≡ saveAnswer upd546 (unbroken upd546 rom sched (asked upd546 cs) s .state) buffer
+  pub call : s .cycle .0 + asked upd546 cs ≤ 281474976710655 → (kind : Kind) (log : List ℕ) → 8 * asked upd546 cs + 8 ≤ length log
+      → AnswersAs (runAnswer upd546 kind rom sched s log (asked upd546 cs)) (unbroken upd546 rom sched (asked upd546 cs) s)
+  pub next-run : (kind : Kind) (log : List ℕ) (n : ℕ) → s .cycle .0 + (asked upd546 cs + n) ≤ 281474976710655
+      → refusal upd546 (run kind rom sched (last upd546 s cs) log n) ≡ 0
+  pub next-save : (buffer : List ℕ) → 81 ≤ length buffer → refusal upd546 (save (last upd546 s cs) buffer) ≡ 0
+  pub next-restore : (bytes : List ℕ) → WrittenBy upd546 (last upd546 s cs) bytes → refusal upd546 (restore bytes) ≡ 0
+
+-- THE BOARD'S CALL
+
+-- of the calls not refused, what `reports` and `goes-on` say
+pub record OfEveryCallList (rom sched : List ℕ) (s : State) (cs : List BoardCall) : Type 0 where
+  pub reports : Each (λ c. length (c .log) < 2 ^ 64 → ReadsBack upd546 c) cs
+  pub next : (c : BoardCall) → CallLent rom sched (imageAfter upd546 (imageOf s) cs) c → 32 ≤ length (c .report)
+      → s .cycle .0 + (callsAsk cs + c .n) ≤ 281474976710655 → callRefusal upd546 c ≡ 0
+
+-- `EveryReportReadsBack` and the counts of `EveryCallTellsItsRun`
+pub record CountsRead (c : BoardCall) : Type 0 where
+  pub cycles : numberAt (callAnswer upd546 c .report) 0 8 ≡ runOf upd546 c .cycles
+  pub begun : numberAt (callAnswer upd546 c .report) 8 8 ≡ runOf upd546 c .begun
+  pub written : numberAt (callAnswer upd546 c .report) 16 8 ≡ runOf upd546 c .written
+  pub steps : numberAt (callAnswer upd546 c .report) 24 8 ≡ runOf upd546 c .steps
+
+pub record OfEveryCall (c : BoardCall) : Type 0 where
+  -- `EveryCallsNumberTells`, `call-number`, `changes-nothing`
+  pub ending : endingBy (callAnswer upd546 c .number) ≡ endingOf (longEnough c) (runOf upd546 c .end)
+  pub refused-by : callRefusal upd546 c ≡ callNumber upd546 c
+  pub unchanged : ChangesNothing upd546 (callRefusal upd546 c) c
+  -- `EveryFinishOrStopRewrites`
+  pub rewrites : Bytes (c .rom) → Bytes (c .sched) → callRefusal upd546 c ≡ 0 → Rewrites upd546 c
+  -- `EveryReportReadsBack`, `EveryCallTellsItsRun`
+  pub reads-back : length (c .log) < 2 ^ 64 → callRefusal upd546 c ≡ 0 → CountsRead c
+  pub number : length (c .log) < 2 ^ 64 → 32 ≤ length (c .report) → callAnswer upd546 c .number ≡ numberOfEnd (runOf upd546 c .end)
+  pub log : length (c .log) < 2 ^ 64 → 32 ≤ length (c .report) → callAnswer upd546 c .log ≡ runOf upd546 c .log
+  pub counts : length (c .log) < 2 ^ 64 → 32 ≤ length (c .report) → CountsRead c
+
+pub record CallFacts : Type 0 where
+  -- `skipping-same`: all but the steps
+  pub same : (rom sched : List ℕ) (s : State) (log : List ℕ) (n : ℕ)
+      → skipping upd546 rom sched s log n ≡ withSteps (skipping upd546 rom sched s log n .steps) (plain upd546 rom sched s log n)
+  pub runs : (kind : Kind) (rom sched : List ℕ) (s : State) (log : List ℕ) (n : ℕ) → OfEveryRun n (length log) (runAnswer upd546 kind rom sched s log n)
+  -- `EveryRunKeepsTheStateSound`
+  pub sound : (kind : Kind) (rom sched : List ℕ) (s : State) (log : List ℕ) (n : ℕ) → Bytes rom → Bytes sched → stateNumber s ≡ 0
+      → stateNumber (runAnswer upd546 kind rom sched s log n .state) ≡ 0
+  -- `EveryRunWritesRecords`
+  pub records : (kind : Kind) (rom sched : List ℕ) (s : State) (log : List ℕ) (n : ℕ) → Bytes rom → Bytes sched
+      → Records (s .cycle .0) (s .cycle .0 + runAnswer upd546 kind rom sched s log n .cycles)
+      (take (runAnswer upd546 kind rom sched s log n .written) (runAnswer upd546 kind rom sched s log n .log))
+  -- `SavedRestores`, `RestoredSaves`, `AcceptedExactly`
+  pub saved : (s : State) (buffer : List ℕ) → stateNumber s ≡ 0 → 81 ≤ length buffer
+      → restoreAnswer upd546 (take 81 (saveAnswer upd546 s buffer .buffer)) ≡ record { number = 0; state = s }
+  pub restored : (image buffer : List ℕ) → Bytes image → restoreAnswer upd546 image .number ≡ 0 → 81 ≤ length buffer
+      → saveAnswer upd546 (restoreAnswer upd546 image .state) buffer ≡ record { number = 0; buffer = image ++ drop 81 buffer }
+  pub accepted : (image : List ℕ) → Bytes image → (restoreAnswer upd546 image .number ≡ 0) ↔ ImageOfSome image
+  -- `refused-as-it-was`, `numbered-as-it-was`: of what `drive` and `advance` ensure
+  pub refused-run : (kind : Kind) (rom sched : List ℕ) (m : KeptMachine) (log : List ℕ) (n : ℕ) (r : Report) (m′ : KeptMachine) (log′ : List ℕ)
+      → broughtTo r m′ log′ ≡ runAnswer upd546 kind rom sched (m .state) log n → (y : Refusal) → r .end ≡ Refused y → OfEveryRefusal r m m′ log log′
+  pub numbered-run : (kind : Kind) (rom sched : List ℕ) (m : KeptMachine) (log : List ℕ) (n : ℕ) (r : Report) (m′ : KeptMachine) (log′ : List ℕ)
+      → broughtTo r m′ log′ ≡ runAnswer upd546 kind rom sched (m .state) log n → (k : ℕ) → runNumber upd546 rom sched (m .state) n ≡ suc k
+      → (endOf (r .end) ≡ refused (suc k)) × OfEveryRefusal r m m′ log log′
+  -- DEMAND 3: `EveryListEndsAsOneRun`, `EveryListOfSlicesEndsAsOneRun`
+  pub lists : (rom sched : List ℕ) (s : State) (calls : List (Call State)) → Panel upd546 rom sched → stateNumber s ≡ 0 → Meant upd546 rom sched s calls
+      → OfEveryList rom sched s (notRefused upd546 calls)
+  pub slices : (rom sched : List ℕ) (s : State) (ps : List Slice) → Panel upd546 rom sched → stateNumber s ≡ 0
+      → s .cycle .0 + slicesAsk ps ≤ 281474976710655 → Lendable upd546 ps → SlicesEndAsOneRun upd546 rom sched s ps
+  -- R-3: `EveryListOfCallsEndsAsOneRun`, `EveryImageEndsAsOneRun`, `EveryAcceptedImageEndsAsOneRun`
+  pub calls : (c : BoardCall) → OfEveryCall c
+  pub call-lists : (rom sched : List ℕ) (s : State) (calls : List BoardCall) → Panel upd546 rom sched → stateNumber s ≡ 0
+      → OnOneImage upd546 rom sched (imageOf s) (callsNotRefused upd546 calls) → OfEveryCallList rom sched s (callsNotRefused upd546 calls)
+  pub images : (rom sched : List ℕ) (s : State) (ls : List Lending) → Panel upd546 rom sched → stateNumber s ≡ 0
+      → LentUnlessRefused upd546 rom sched (onImage upd546 (imageOf s) ls) → ImageEndsAsOneRun upd546 rom sched s ls
+  pub accepted-images : (rom sched image : List ℕ) (ls : List Lending) → Bytes image → Panel upd546 rom sched → restoreAnswer upd546 image .number ≡ 0
+      → LentUnlessRefused upd546 rom sched (onImage upd546 image ls)
+      → (image ≡ imageOf (restoreAnswer upd546 image .state)) × ImageEndsAsOneRun upd546 rom sched (restoreAnswer upd546 image .state) ls
+
+-- ANY MACHINE: `skipping-same`, `lists-end`, `slices-end`, `runs-sound`, `counts-within`, `numbers-tell`, `calls-end`, `image-ends`,
+-- `call-rewrites`, `reports-read-back`, `call-tells-run`, `call-tells`
+pub record OfAnyMachine {S : Type 0} (M : Machine S) : Type 0 where
+  pub same : JumpLaws M → (rom sched : List ℕ) (s : S) (log : List ℕ) (n : ℕ)
+      → skipping M rom sched s log n ≡ withSteps (skipping M rom sched s log n .steps) (plain M rom sched s log n)
+  pub lists : Laws M → (rom sched : List ℕ) (s : S) (calls : List (Call S)) → Panel M rom sched → M .stateNumber s ≡ 0 → Meant M rom sched s calls
+      → EndsAsOneRun M rom sched s calls
+  pub slices : Laws M → (rom sched : List ℕ) (s : S) (ps : List Slice) → Panel M rom sched → M .stateNumber s ≡ 0
+      → M .at s + slicesAsk ps ≤ 281474976710655 → Lendable M ps → SlicesEndAsOneRun M rom sched s ps
+  pub sound : Laws M → (kind : Kind) (rom sched : List ℕ) (s : S) (log : List ℕ) (n : ℕ) → Bytes rom → Bytes sched → M .stateNumber s ≡ 0
+      → M .stateNumber (runAnswer M kind rom sched s log n .state) ≡ 0
+  pub runs : Laws M → NumberLaws M → (kind : Kind) (rom sched : List ℕ) (s : S) (log : List ℕ) (n : ℕ)
+      → OfEveryRun n (length log) (runAnswer M kind rom sched s log n)
+  pub call-lists : Laws M → (rom sched : List ℕ) (s : S) (calls : List BoardCall) → Panel M rom sched → M .stateNumber s ≡ 0
+      → OnOneImage M rom sched (M .image s) (callsNotRefused M calls) → CallsEndAsOneRun M rom sched s calls
+  pub images : Laws M → (rom sched : List ℕ) (s : S) (ls : List Lending) → Panel M rom sched → M .stateNumber s ≡ 0
+      → LentUnlessRefused M rom sched (onImage M (M .image s) ls) → ImageEndsAsOneRun M rom sched s ls
+  pub rewrites : Laws M → (c : BoardCall) → Bytes (c .rom) → Bytes (c .sched) → length (c .image) ≡ M .imageLength → callRefusal M c ≡ 0 → Rewrites M c
+  pub reads-back : Laws M → (c : BoardCall) → length (c .log) < 2 ^ 64 → callRefusal M c ≡ 0
+      → numberAt (callAnswer M c .report) 0 8 ≡ runOf M c .cycles
+  pub tells-run : Laws M → (c : BoardCall) → length (c .log) < 2 ^ 64 → 32 ≤ length (c .report)
+      → callAnswer M c .number ≡ numberOfEnd (runOf M c .end)
+  pub ending : JumpLaws M → NumberLaws M → (c : BoardCall) → endingBy (callAnswer M c .number) ≡ endingOf (longEnough c) (runOf M c .end)
+  pub refused-by : (c : BoardCall) → callRefusal M c ≡ callNumber M c
+  pub unchanged : (c : BoardCall) → ChangesNothing M (callRefusal M c) c
+
+-- What these ask of a machine, and nothing else: the laws, each made of all that it says.
+pub record OfEveryLaw {S : Type 0} (M : Machine S) : Type 0 where
+  pub all : CycleLaws M → ImageLaws M → JumpLaws M → Laws M
+  pub cycled : (debt : S → ℕ) (s t : S) (w : List ℕ) → M .stateNumber t ≡ 0 → M .at t ≡ suc (M .at s) → length w + debt s ≤ 8 + debt t → Cycled M debt s t w
+  pub cycles : (debt : S → ℕ) → ((s : S) → debt s ≤ 8)
+      → ((rom sched : List ℕ) (s t : S) (w : List ℕ) (b : ℕ) → Panel M rom sched → M .stateNumber s ≡ 0 → M .at s < 281474976710655
+      → M .cycle rom sched s ≡ went t w b → Cycled M debt s t w)
+      → ((rom sched : List ℕ) (s t : S) (w : List ℕ) (b : ℕ) → M .cycle rom sched s ≡ went t w b → b ≤ 1) → CycleLaws M
+  pub images : ((s : S) → M .stateNumber s ≡ 0 → length (M .image s) ≡ M .imageLength) → ((s : S) → M .stateNumber s ≡ 0 → M .imageNumber (M .image s) ≡ 0)
+      → ((s : S) → M .stateNumber s ≡ 0 → M .ofImage (M .image s) ≡ s) → ImageLaws M
+  pub jumps : ((rom sched : List ℕ) (s : S) (left : ℕ) → M .jump rom sched s left ≤ left) → JumpLaws M
+  pub numbers : ((rom sched : List ℕ) (s : S) (k : ℕ) → M .cycle rom sched s ≡ stop k → isStop k ≡ true)
+      → ((rom sched : List ℕ) → isStop (M .panelNumber rom sched) ≡ false) → ((s : S) → isStop (M .stateNumber s) ≡ false)
+      → ((bytes : List ℕ) → isStop (M .imageNumber bytes) ≡ false) → NumberLaws M

@@ -1,0 +1,164 @@
+-- The theorems about the machine cycle a second time, for every argument, with the documents' figures in place of names: one that
+-- holds of fewer arguments, assumes more or says less doesn't give its line. Assumes nothing: these are definitions.
+use Prim.Native.Nat.{ℕ, suc, _+_, _*_, max, _<_, _≤_}
+use mathlib.Core.Path.{_≡_}
+use mathlib.Core.Bool.{true, false}
+use mathlib.Core.List.{List, [], _∷_}
+use mathlib.Core.Option.{none}
+use lib.ListN.{length, getD}
+use Rattle.runs.specs.Machine.{went}
+use Rattle.runs.specs.TwoRunners.{Ran, unbroken, within}
+use Rattle.runs.specs.Laws.{Bytes}
+use Rattle.runs.specs.Lists.{Each}
+use Rattle.upd546.specs.declared.Core.{Core}
+use Rattle.upd546.specs.declared.Lines.{Lines}
+use Rattle.upd546.specs.declared.State.{State}
+use Rattle.upd546.specs.declared.Timer.{Timer}
+use Rattle.upd546.specs.Bytes.{bitAt}
+use Rattle.upd546.specs.TheMachine.{past, fresh}
+use Rattle.upd546.specs.TheLineSchedule.{linesAt, noRecord}
+use Rattle.upd546.specs.Timer.{tick, registerAfter, positionOf, ticksLeft}
+use Rattle.upd546.specs.Ports.{latchOf, readPort}
+use Rattle.upd546.specs.Instructions as chip
+use Rattle.upd546.specs.OneMachineCycle.{accepts, cycle}
+use Rattle.upd546.specs.StateImage.{stateNumber}
+use Rattle.upd546.specs.BenchCases.{romAt}
+use Rattle.upd546.specs.TwoRunners.{upd546, panelNumber, jumpLength}
+use Rattle.laws.specs.Timer.{timerLeft}
+use Rattle.laws.specs.Jump.{stateAfterJump}
+use Rattle.laws.specs.Valid.{Valid}
+use Rattle.laws.specs.Strings.{Stand}
+use Rattle.laws.specs.Interval.{StmDue, withoutStm}
+
+-- R-2, `CAndDReadBack`: a bit of C or D is the greater of line and latch
+pub record OfEveryPort (l : Lines) (ports : List ℕ) : Type 0 where
+  pub a : readPort l ports 0 ≡ l .a
+  pub b : readPort l ports 1 ≡ l .b
+  pub c : (k : ℕ) → bitAt (readPort l ports 2) k ≡ max (bitAt (l .c) k) (bitAt (latchOf ports 2) k)
+  pub d : (k : ℕ) → bitAt (readPort l ports 3) k ≡ max (bitAt (l .d) k) (bitAt (latchOf ports 3) k)
+  pub others : (p : ℕ) → 4 ≤ p → readPort l ports p ≡ 0
+
+-- R-5, `MarksHoldBack`: mark LDI, EI or LI
+pub record OfEveryMark (c : Core) : Type 0 where
+  pub ldi : c .mark ≡ 1 → accepts c ≡ false
+  pub ei : c .mark ≡ 2 → accepts c ≡ false
+  pub li : c .mark ≡ 4 → accepts c ≡ false
+
+-- what n cycles from s come to that begin k loads and pass them over, with PC at `to`: timer, INT, the level and the cycle number
+-- are those of t, and all else is as it was
+abbrev pub passedLoads : (k n to : ℕ) → (s t : State) → Ran State
+passedLoads k n to s t = record {
+  state = record {
+    core = record {
+      registers = s .core .registers;
+      flow = record { pc = to; stack = s .core .flow .stack };
+      interrupt = record { int = t .core .interrupt .int; inte = s .core .interrupt .inte; level = t .core .interrupt .level };
+      timer = t .core .timer;
+      mark = s .core .mark;
+      owed = 0;
+    };
+    ports = s .ports;
+    ram = s .ram;
+    cycle = t .cycle;
+  };
+  bytes = [];
+  cycles = n;
+  begun = k;
+  number = none;
+}
+
+-- R-5, `LoadStringsHoldTogether`: of a run r, all but the four, and an INT that is set
+pub record OfEveryString (k n to : ℕ) (s : State) (r : Ran State) : Type 0 where
+  pub whole : r ≡ passedLoads k n to s (r .state)
+  pub int : s .core .interrupt .int ≡ 1 → r .state .core .interrupt .int ≡ 1
+
+-- "TM is set 63(I + 1) cycles after STM's end.": `TmIsSetAfterStm`
+pub record OfEveryStm (i k : ℕ) (r : Ran State) : Type 0 where
+  pub cycles : r .cycles ≡ 2 + k
+  pub before : k < 63 * (i + 1) → r .state .core .timer .tm ≡ 0
+  pub from : 63 * (i + 1) ≤ k → r .state .core .timer .tm ≡ 1
+
+-- the fields of a state, each with what it is below
+abbrev pub fields : State → List (ℕ × ℕ)
+fields s =
+    (s .core .registers .acc, 16)
+    ∷ (s .core .registers .carry, 2)
+    ∷ (s .core .registers .saved, 2)
+    ∷ (s .core .registers .dph, 8)
+    ∷ (s .core .registers .dpl, 16)
+    ∷ (s .core .flow .pc, 2048)
+    ∷ (s .core .interrupt .int, 2)
+    ∷ (s .core .interrupt .inte, 2)
+    ∷ (s .core .interrupt .level, 2)
+    ∷ (s .core .timer .tm, 2)
+    ∷ (s .core .timer .register, 64)
+    ∷ (s .core .timer .counter, 64)
+    ∷ (s .core .mark, 5)
+    ∷ (s .core .owed, 4)
+    ∷ (getD (s .ports) 6 0, 8)
+    ∷ (s .cycle .0, 281474976710656)
+    ∷ []
+
+-- `Valid`: every field keeps its width
+pub record Widths (s : State) : Type 0 where
+  pub numbers : Each (λ w. w .0 < w .1) (fields s)
+  pub stopped : s .core .timer .counter ≤ 63 * s .core .timer .register
+  pub stack : (length (s .core .flow .stack) ≡ 3) × ((i : ℕ) → getD (s .core .flow .stack) i 0 < 2048)
+  pub latches : (length (s .ports) ≡ 7) × ((i : ℕ) → getD (s .ports) i 0 < 16)
+  pub ram : (length (s .ram) ≡ 96) × ((i : ℕ) → getD (s .ram) i 0 < 16)
+
+-- a jump of j cycles: the state, no log, j cycles, j instructions
+abbrev pub jumped : ℕ → State → Ran State
+jumped j s = record { state = stateAfterJump j s; bytes = []; cycles = j; begun = j; number = none }
+
+pub record CycleFacts : Type 0 where
+  pub ports : (l : Lines) (latches : List ℕ) → OfEveryPort l latches
+  pub marks : (c : Core) → OfEveryMark c
+  pub li : (rom sched : List ℕ) (k : ℕ) (s : State) → s .core .owed ≡ 0 → s .core .mark ≡ 4 → Stand rom chip.li k (s .core .flow .pc)
+      → OfEveryString k (1 * k) (past (1 * k) (s .core .flow .pc)) s (unbroken upd546 rom sched (1 * k) s)
+  pub ldi : (rom sched : List ℕ) (k : ℕ) (s : State) → s .core .owed ≡ 0 → s .core .mark ≡ 1 → Stand rom chip.ldi k (s .core .flow .pc)
+      → OfEveryString k (2 * k) (past (2 * k) (s .core .flow .pc)) s (unbroken upd546 rom sched (2 * k) s)
+  pub tm : (rom sched : List ℕ) (s : State) (i k : ℕ) → StmDue rom s i → withoutStm rom sched k (unbroken upd546 rom sched 2 s .state) ≡ true
+      → OfEveryStm i k (unbroken upd546 rom sched (2 + k) s)
+  -- `accepted-valid`, `valid-accepted`, `cycle-keeps`, `begins-one`
+  pub accepted : (s : State) → stateNumber s ≡ 0 → Widths s
+  pub valid : (s : State) → Valid s → stateNumber s ≡ 0
+  pub keeps : (rom sched : List ℕ) (s t : State) (w : List ℕ) (b : ℕ) → Bytes rom → Bytes sched → panelNumber rom sched ≡ 0 → Valid s
+      → s .cycle .0 < 281474976710655 → cycle rom sched s ≡ went t w b
+      → Valid t × (t .cycle .0 ≡ suc (s .cycle .0)) × (length w ≤ 16)
+  pub begins-one : (rom sched : List ℕ) (s t : State) (w : List ℕ) (b : ℕ) → cycle rom sched s ≡ went t w b → b ≤ 1
+  -- `lines-same`
+  pub lines : (sched : List ℕ) (n m : ℕ) → n ≤ m → noRecord sched (n + 1) (m + 1) ≡ true → linesAt sched m ≡ linesAt sched n
+  -- `register-at`, `position-at`, `tick-left`, `running-left`
+  pub register-at : (r : ℕ) → 0 < r → r < 64 → registerAfter (positionOf r) ≡ r
+  pub position-at : (p : ℕ) → p < 63 → positionOf (registerAfter p) ≡ p
+  pub tick-left : (tm k : ℕ) → tick (timerLeft tm (suc k)) ≡ timerLeft tm k
+  pub running-left : (t : Timer) → 0 < t .register → t .register < 64 → t ≡ timerLeft (t .tm) (ticksLeft t)
+  -- `jump-unbroken`, `jump-in-room`
+  pub jump-unbroken : (rom sched : List ℕ) (s : State) (left j : ℕ) → jumpLength rom sched s left ≡ j → (j ≡ 0 → ⊥) → Valid s
+      → unbroken upd546 rom sched j s ≡ jumped j s
+  pub jump-in-room : (rom sched : List ℕ) (s : State) (left j : ℕ) → jumpLength rom sched s left ≡ j → (j ≡ 0 → ⊥) → Valid s → (room : ℕ)
+      → within upd546 rom sched room j s ≡ jumped j s
+
+-- IN FIGURES: the premises of three of them, as they are met
+
+-- LI 9, LI 2, LI 5, and from 003 on LDI 45, LDI 67
+abbrev pub loads : List ℕ
+loads = romAt 0 (0x99 ∷ 0x92 ∷ 0x95 ∷ 0x15 ∷ 0x45 ∷ 0x15 ∷ 0x67 ∷ [])
+
+-- STM 80, and a JCP to itself
+abbrev pub waits : List ℕ
+waits = romAt 0 (0x14 ∷ 0x80 ∷ 0xC2 ∷ [])
+
+-- so many cycles of a ROM from the fresh state
+abbrev pub after : List ℕ → ℕ → State
+after rom n = unbroken upd546 rom [] n fresh .state
+
+pub record CycleFigures : Type 0 where
+  -- behind LI 9 two more; behind LDI 45 one more, of two cycles
+  pub li-9 : unbroken upd546 loads [] 2 (after loads 1) .state .core .registers .acc ≡ 9
+  pub ldi-45 : unbroken upd546 loads [] 2 (after loads 5) .state .core .registers .dpl ≡ 5
+  pub ldi-begun : unbroken upd546 loads [] 2 (after loads 5) .begun ≡ 1
+  -- I = 0
+  pub tm-before : after waits 64 .core .timer .tm ≡ 0
+  pub tm-from : after waits 65 .core .timer .tm ≡ 1

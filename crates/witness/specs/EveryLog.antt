@@ -1,0 +1,96 @@
+-- The theorems about logs and loads a second time, for every argument, with the documents' figures in place of names: one that holds
+-- of fewer arguments, or assumes more, doesn't give its line. Assumes nothing: these are definitions.
+use Prim.Native.Nat.{ℕ, suc, _+_, _*_, _^_, _<_, _≤_}
+use mathlib.Core.Path.{_≡_}
+use mathlib.Core.Bool.{true}
+use mathlib.Core.List.{List, [], _++_}
+use lib.ListN.{length, take}
+use Rattle.runs.specs.Machine.{Machine}
+use Rattle.runs.specs.TwoRunners.{unbroken, runNumber}
+use Rattle.runs.specs.Laws.{Bytes, Panel}
+use Rattle.runs.specs.EveryRun.{EveryRunCountsWithin}
+use Rattle.runs.specs.Lists.{Kind, Call, run, refusal, notRefused, Meant, asked, EveryListEndsAsOneRun}
+use Rattle.upd546.specs.declared.State.{State}
+use Rattle.upd546.specs.StateImage.{stateNumber}
+use Rattle.upd546.specs.TheLineSchedule.{scheduleNumber}
+use Rattle.upd546.specs.TwoRunners.{upd546}
+use Rattle.laws.specs.Records.{EveryRunWritesRecords}
+use Rattle.waiting.specs.declared.Carried.{Carried}
+use Rattle.waiting.specs.declared.LogRecord.{LogRecord}
+use Rattle.waiting.specs.WaitingTimes.{carriedAfter, recordHere, recordSound, recordNumber, carriedNumber, nothing, told, waitingTimes}
+use Rattle.waiting.specs.Growth.{CarriedGrown}
+use Rattle.waiting.specs.EveryLog.{lampsLit, landingOf, waitsOf, FiguresWithin}
+use Rattle.waiting.specs.EveryList.{AllAccepted, carriedOn, listLogs, ReportsAsOneRun}
+use Rattle.report.specs.Parts.{noParts, partRead, partsRead, joinedParts, WholeParts}
+use Rattle.generator.specs.Loads.{romOf, scheduleOf}
+
+-- R-1, of every log and all that may be carried
+pub record OfEveryLog (c : Carried) (log : List ℕ) : Type 0 where
+  -- `EveryRiseIsAWait`, on each of the four landings
+  pub rise : (i : ℕ) → i < 4 → waitingTimes log c .number ≡ 0 → waitsOf (waitingTimes log c .carried) i ≡ waitsOf c i + lampsLit (c .lamps) i log
+  -- `ReadOnAsJoined`
+  pub read-on : (more : List ℕ) → waitingTimes log c .number ≡ 0 → carriedNumber [] (waitingTimes log c .carried) ≡ 0
+      → waitingTimes more (waitingTimes log c .carried) ≡ waitingTimes (log ++ more) c
+  -- `OnlyFiguresDraw41`
+  pub draws-41 : waitingTimes log c .number ≡ 0 → FiguresWithin (waitingTimes log c .carried) → carriedNumber [] (waitingTimes log c .carried) ≡ 0
+  -- `LastRecordCounts`
+  pub last : (r : List ℕ) → length r ≡ 8 → waitingTimes log c .number ≡ 0
+      → waitingTimes (log ++ r) c
+      ≡ told (recordNumber (waitingTimes log c .carried .last .0) (recordHere r)) (carriedAfter (waitingTimes log c .carried) (recordHere r))
+
+-- why no figure overflows: `carried-grown`, `can-read`
+pub record OfEveryRecord (c : Carried) : Type 0 where
+  pub grows : (base k : ℕ) (r : LogRecord) → recordSound (c .last .0) r ≡ true → CarriedGrown base k c → CarriedGrown base (suc k) (carriedAfter c r)
+  pub four : (k n : ℕ) → CarriedGrown (2 ^ 60) k c → c .last .0 ≤ n → n < 256 ^ 6 → k < 2 ^ 61 → length (c .landings) ≡ 4
+  pub closes : (k n : ℕ) → CarriedGrown (2 ^ 60) k c → c .last .0 ≤ n → n < 256 ^ 6 → k < 2 ^ 61 → (i : ℕ) → i < 4
+      → (landingOf c i .start .0 ≤ n) × (landingOf c i .closed < 2 ^ 63) × (landingOf c i .cycles .0 < 2 ^ 63) × (n < 2 ^ 63)
+
+-- `PartsReadAsOne`: of parts of any length, as many as there are
+abbrev pub EveryParts : Type 0
+EveryParts =
+    (ps : List (List ℕ)) (end : List ℕ) → WholeParts ps → Bytes (joinedParts ps end) → length (joinedParts ps end) < 2 ^ 63
+    → partRead (partsRead noParts ps) end ≡ waitingTimes (joinedParts ps end) nothing
+
+-- `EveryListReportsAsOneRun`, for all cycles up to the limit. On each landing the waits of the day are then the lamps lit in the
+-- unbroken run's log.
+pub record OfEveryDay (rom sched : List ℕ) (s : State) (calls : List (Call State)) : Type 0 where
+  pub accepted : AllAccepted nothing (listLogs upd546 calls)
+  pub waits : (i : ℕ) → i < 4
+      → waitsOf (carriedOn nothing (listLogs upd546 calls)) i ≡ lampsLit 0 i (unbroken upd546 rom sched (asked upd546 (notRefused upd546 calls)) s .bytes)
+
+abbrev pub EveryDay : Type 0
+EveryDay =
+    (rom sched : List ℕ) (s : State) (calls : List (Call State)) → Panel upd546 rom sched → stateNumber s ≡ 0 → Meant upd546 rom sched s calls
+    → s .cycle .0 + asked upd546 (notRefused upd546 calls) ≤ 281474976710655 → OfEveryDay rom sched s calls
+
+-- the same of any machine, by what is promised of its lists, of the counts of its runs and of their log records
+abbrev pub AnyDay : {S : Type 0} → Machine S → Type 0
+AnyDay {S} M =
+    EveryListEndsAsOneRun M → EveryRunCountsWithin M → EveryRunWritesRecords M → (rom sched : List ℕ) (s : S) (calls : List (Call S)) → Panel M rom sched → M .stateNumber s ≡ 0 → Meant M rom sched s calls
+    → M .at s + asked M (notRefused M calls) ≤ 281474976710655 → ReportsAsOneRun M rom sched s calls
+
+-- R-4, of every seed; a ROM and a schedule may be of two
+pub record OfEverySeed (seed seed′ : ℕ) : Type 0 where
+  -- `EverySchedule`, up to 4,096 records
+  pub accepted : (m : ℕ) → m ≤ 4096 → scheduleNumber (scheduleOf seed m) ≡ 0
+  pub never : (m : ℕ) → m ≤ 4096 → (rom : List ℕ) (s : State) (n : ℕ)
+      → (runNumber upd546 rom (scheduleOf seed m) s n ≡ 12 → ⊥)
+      × (runNumber upd546 rom (scheduleOf seed m) s n ≡ 11 → ⊥)
+      × (runNumber upd546 rom (scheduleOf seed m) s n ≡ 13 → ⊥)
+      × (runNumber upd546 rom (scheduleOf seed m) s n ≡ 14 → ⊥)
+  pub taken : (m : ℕ) → m ≤ 4096 → (kind : Kind) (rom : List ℕ) (s : State) (log : List ℕ) (n : ℕ) → length rom ≡ 2000 → stateNumber s ≡ 0
+      → s .cycle .0 + n ≤ 281474976710655 → refusal upd546 (run kind rom (scheduleOf seed m) s log n) ≡ 0
+  -- `EveryRom`
+  pub rom : (sched : List ℕ) (s : State) (n : ℕ) → runNumber upd546 (romOf seed) sched s n ≡ 21 → ⊥
+  -- `EveryLoad`
+  pub panel : (m : ℕ) → m ≤ 4096 → Panel upd546 (romOf seed) (scheduleOf seed′ m)
+  -- `EveryBeginning`
+  pub begins : (m : ℕ) → take (10 * m) (scheduleOf seed (suc m)) ≡ scheduleOf seed m
+
+pub record LogFacts : Type 1 where
+  pub logs : (c : Carried) (log : List ℕ) → OfEveryLog c log
+  pub records : (c : Carried) → OfEveryRecord c
+  pub parts : EveryParts
+  pub days : EveryDay
+  pub any-days : {S : Type 0} (M : Machine S) → AnyDay M
+  pub seeds : (seed seed′ : ℕ) → OfEverySeed seed seed′
