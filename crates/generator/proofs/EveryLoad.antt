@@ -10,10 +10,12 @@ use native.Mathlib.Omega.{arith}
 use lib.Dec.{eqb, leb, ltb}
 use lib.ListN.{length, getD, take, drop, length-append}
 use lib.Seq.{getD-drop, drop-at, take-at, drop-append-le}
-use borrow.Author.Tests.{lt-ltb, eq-eqb}
+use borrow.Author.Tests.{lt-ltb, le-leb, eq-eqb}
 use Rattle.runs.specs.Refusals.{firstOf, unless, cycleLimit}
 use Rattle.runs.specs.TwoRunners.{runNumber}
 use Rattle.runs.specs.Laws.{Bytes}
+use Rattle.runs.specs.Lists.{Kind, run, refusal}
+use Rattle.runs.proofs.Calls.{by-number}
 use Rattle.runs.proofs.Refusals.{last-one}
 use Rattle.upd546.specs.declared.State.{State}
 use Rattle.upd546.specs.Bytes.{bitAt, numberOf, bytesOf}
@@ -119,6 +121,14 @@ never sched e k least most rom s n =
     by-the-panel rom sched s n k (omega arith) (λ q. omega arith) (λ q. omega arith)
     (first-other k _ (omega arith) (unless-other (eqb (length rom) romLength) 21 k (omega arith) (λ q. omega arith), ((λ q. omega arith), tt)))
 
+-- with a ROM, a state and a limit that don't refuse it
+taken : (sched : List ℕ) → scheduleNumber sched ≡ 0 → (kind : Kind) (rom : List ℕ) (s : State) (log : List ℕ) (n : ℕ)
+    → length rom ≡ romLength → stateNumber s ≡ 0 → s .cycle .0 + n ≤ cycleLimit → refusal upd546 (run kind rom sched s log n) ≡ 0
+unfolding runNumber panelNumber firstOf
+taken sched e kind rom s log n size v limit =
+    by-number upd546 (run kind rom sched s log n)
+    ∙ rw (eq-eqb (length rom) romLength size, e, v, le-leb (s .cycle .0 + n) cycleLimit limit)
+
 pub every-schedule : EverySchedule
 every-schedule seed m few =
     let sched = scheduleOf seed m in
@@ -129,6 +139,7 @@ every-schedule seed m few =
       never-11 = never sched e 11 (omega arith) (omega arith);
       never-13 = never sched e 13 (omega arith) (omega arith);
       never-14 = never sched e 14 (omega arith) (omega arith);
+      accepted = taken sched e;
     }
 
 -- no number of a schedule is 21

@@ -1,6 +1,6 @@
 // The waiting-time report as program `waits` makes it: a log of any length is read in parts, the report carried on from part to
 // part, and told as text. It may not know how a log is read, nor where it comes from and where text goes to.
-use upd546::LOG_RECORD;
+use log_form::LOG_RECORD;
 use waiting::Carried;
 use waiting::Landing;
 use waiting::Reading;

@@ -1,5 +1,5 @@
 -- No switch-off loses or invents a wait: the logs of a list's runs, read one after the other, give the report of the unbroken run's
--- log. Of any machine whose runs write records, and of the uPD546. Assumes nothing.
+-- log. Of any machine, by what is promised of it. Assumes nothing.
 use mathlib.Core.Path.{_≡_, _∙_, refl, sym, ap, subst}
 use mathlib.Core.Bool.{Bool, true, false, cond}
 use mathlib.Core.List.{List, [], _∷_, _++_}
@@ -11,18 +11,15 @@ use borrow.Author.Tests.{le-leb, eqb-true}
 use Rattle.runs.specs.Machine.{Machine}
 use Rattle.runs.specs.Refusals.{cycleLimit, firstOf}
 use Rattle.runs.specs.TwoRunners.{RunAnswer, logBound, unbroken}
-use Rattle.runs.specs.Laws.{Panel, Laws}
-use Rattle.runs.specs.Lists.{AnswersAs, Call, run, save, restore, Each, plainOne, runAnswer, runLog, heldAfter, AllGet, notRefused, runs, joinedLog, asked}
-use Rattle.runs.proofs.Iterate.{log-bound, reaches}
-use Rattle.runs.proofs.Lists.{lists-end}
-use Rattle.upd546.specs.Ports.{Write, portI, logRecord}
-use Rattle.upd546.specs.Sequences.{allOf}
-use Rattle.upd546.specs.TwoRunners.{upd546}
+use Rattle.runs.specs.Laws.{Panel}
+use Rattle.runs.specs.EveryRun.{EveryRunCountsWithin}
+use Rattle.runs.specs.Lists.{AnswersAs, Call, run, save, restore, Each, plainOne, runAnswer, runLog, heldAfter, AllGet, notRefused, runs, joinedLog, asked, EveryListEndsAsOneRun}
+use Rattle.log_form.specs.Form.{Write, portI, logRecord}
+use Rattle.log_form.specs.Form.{allOf}
 use Rattle.laws.specs.Writes.{ValidWrite}
 use Rattle.laws.specs.Records.{Records, empty, also, EveryRunWritesRecords}
 use Rattle.laws.proofs.Images.{cycle-back}
-use Rattle.laws.proofs.Records.{wider, every-run-writes-records}
-use Rattle.laws.proofs.Demand3.{laws}
+use Rattle.laws.proofs.Records.{wider}
 use Rattle.waiting.specs.declared.Carried.{Carried}
 use Rattle.waiting.specs.declared.LogRecord.{LogRecord}
 use Rattle.waiting.specs.declared.Reading.{Reading}
@@ -142,29 +139,35 @@ module _ {S : Type 0} (M : Machine S) (R : EveryRunWritesRecords M) (rom sched :
   logs-whole held (save s buffer ∷ cs) g = logs-whole held cs (g .1)
   logs-whole held (restore bytes ∷ cs) g = logs-whole (heldAfter M held (restore bytes)) cs (g .1)
 
-module _ {S : Type 0} (M : Machine S) (L : Laws M) (R : EveryRunWritesRecords M) (rom sched : List ℕ) (p : Panel M rom sched) (s : S)
-    (v : M .stateNumber s ≡ 0) (n : ℕ) (limit : M .at s + n ≤ cycleLimit) (log : List ℕ) (room : logBound n ≤ length log) where
+module _ {S : Type 0} (M : Machine S) (C : EveryRunCountsWithin M) (R : EveryRunWritesRecords M) (rom sched : List ℕ) (p : Panel M rom sched)
+    (s : S) (n : ℕ) (limit : M .at s + n ≤ cycleLimit) (log : List ℕ)
+    (call : AnswersAs (runAnswer M plainOne rom sched s log n) (unbroken M rom sched n s)) where
   -- the log of the unbroken run is records, below the cycle at which it ends
-  unbroken-records : AnswersAs (runAnswer M plainOne rom sched s log n) (unbroken M rom sched n s) → Records 0 (2 ^ 48) (unbroken M rom sched n s .bytes)
-  unbroken-records call =
+  unbroken-records : Records 0 (2 ^ 48) (unbroken M rom sched n s .bytes)
+  unbroken-records =
       let wrote = R plainOne rom sched s log n (p .rom-bytes) (p .sched-bytes) in
-      let done = reaches M (L .cycles) rom sched p n s v limit .cycles in
-      let end : M .at s + runAnswer M plainOne rom sched s log n .cycles ≤ 2 ^ 48 = omega (arith, call .cycles, done) in
+      let end : M .at s + runAnswer M plainOne rom sched s log n .cycles ≤ 2 ^ 48 = omega (arith, C plainOne rom sched s log n .cycles) in
       subst (λ (l : List ℕ). Records 0 (2 ^ 48) l) (call .log) (wider wrote 0 (2 ^ 48) (omega arith) end)
 
-pub reports-as-one-run : {S : Type 0} (M : Machine S) → Laws M → EveryRunWritesRecords M → EveryListReportsAsOneRun M
-reports-as-one-run M L R rom sched s calls p v meant limit =
+  -- and has no more bytes than the log of a call for it
+  unbroken-fits : length (unbroken M rom sched n s .bytes) ≤ length log
+  unbroken-fits = omega (arith, call .written, C plainOne rom sched s log n .written)
+
+-- Of a machine no more is seen than what is promised of its lists, of the counts of its runs and of their log records.
+pub reports-as-one-run : {S : Type 0} (M : Machine S) → EveryListEndsAsOneRun M → EveryRunCountsWithin M → EveryRunWritesRecords M → EveryListReportsAsOneRun M
+reports-as-one-run M E C R rom sched s calls p v meant limit =
     let cs = notRefused M calls in
     let n = asked M cs in
     let u = unbroken M rom sched n s in
-    let claim = lists-end M L rom sched s calls p v meant in
+    let claim = E rom sched s calls p v meant in
     let log : List ℕ = replicate (logBound n) 0 in
-    let room : logBound n ≤ length log = omega (arith, length-replicate {A = ℕ} (logBound n) 0) in
-    let wrote = unbroken-records M L R rom sched p s v n limit log room (claim .call limit plainOne log room) in
+    let size : length log ≡ logBound n = length-replicate {A = ℕ} (logBound n) 0 in
+    let call = claim .call limit plainOne log (omega arith) in
+    let wrote = unbroken-records M C R rom sched p s n limit log call in
     let same : join (listLogs M calls) ≡ u .bytes = join-log (runs M cs) ∙ claim .ends .log in
     let small : 2 ^ 48 ≤ figureMost = omega arith in
     let order : InOrder 0 (2 ^ 48) (recordsOf (u .bytes)) = records-order wrote (omega arith) in
-    let bound : 0 + length (join (listLogs M calls)) / 8 ≤ figureMost = omega (arith, ap length same, log-bound M (L .cycles) rom sched p n s v limit) in
+    let bound : 0 + length (join (listLogs M calls)) / 8 ≤ figureMost = omega (arith, ap length same, unbroken-fits M C R rom sched p s n limit log call) in
     let read = as-joined (2 ^ 48) small (listLogs M calls) nothing 0 nothing-grown (omega arith) (logs-whole M R rom sched p s cs meant) (rw same order) bound in
     record {
       accepted = read .accepted;
@@ -172,7 +175,3 @@ reports-as-one-run M L R rom sched s calls p v meant limit =
           ap (λ (c : Carried). record { number = 0; carried = c }) (read .same ∙ ap (λ (l : List ℕ). carriedAfterAll nothing (recordsOf l)) same)
           ∙ sym (one-log (2 ^ 48) small (u .bytes) nothing 0 nothing-grown (omega arith) (omega arith) (records-whole wrote) order);
     }
-
--- THE UPD546: its lists report as one run reports
-pub every-list-reports-as-one-run : EveryListReportsAsOneRun upd546
-every-list-reports-as-one-run = reports-as-one-run upd546 laws every-run-writes-records

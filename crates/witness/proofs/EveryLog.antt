@@ -14,7 +14,8 @@ use Rattle.waiting.specs.EveryLog.{lampsLit, waitsOf}
 use Rattle.waiting.specs.EveryList.{carriedOn, listLogs, ReportsAsOneRun}
 use Rattle.waiting.proofs.Growth.{carried-grown, can-read}
 use Rattle.waiting.proofs.EveryLog.{every-rise-is-a-wait, read-on-as-joined, only-figures-draw-41, last-record-counts}
-use Rattle.waiting.proofs.EveryList.{reports-as-one-run, every-list-reports-as-one-run}
+use Rattle.waiting.proofs.EveryList.{reports-as-one-run}
+use Rattle.switch_offs.proofs.EveryList.{every-list-reports-as-one-run}
 use Rattle.report.proofs.Parts.{parts-read-as-one}
 use Rattle.generator.proofs.EveryLoad.{every-schedule, every-rom, every-load, every-beginning}
 use Rattle.witness.specs.EveryLog.{EveryDay, LogFacts}
@@ -59,6 +60,7 @@ facts = record {
     never = λ m h rom s n.
         let a = every-schedule seed m h in
         (a .never-12 rom s n, a .never-11 rom s n, a .never-13 rom s n, a .never-14 rom s n);
+    taken = λ m h. every-schedule seed m h .accepted;
     rom = every-rom seed;
     panel = every-load seed seed′;
     begins = every-beginning seed;

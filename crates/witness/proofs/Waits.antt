@@ -19,7 +19,7 @@ use Rattle.waiting.specs.EveryLog.{landingOf, FiguresWithin}
 use Rattle.waiting.specs.EveryList.{ReportsAsOneRun}
 use Rattle.waiting.proofs.Growth.{carried-grown}
 use Rattle.waiting.proofs.EveryLog.{every-rise-is-a-wait, read-on-as-joined, only-figures-draw-41, last-record-counts}
-use Rattle.waiting.proofs.EveryList.{every-list-reports-as-one-run}
+use Rattle.switch_offs.proofs.EveryList.{every-list-reports-as-one-run}
 use Rattle.report.proofs.Parts.{parts-read-as-one}
 use Rattle.witness.specs.Waits.{lampsAt, calling, coming, wide, called, lampRom, lit, keptLit, lampCalls, WaitFigures}
 use Rattle.witness.proofs.Opened.{opened}

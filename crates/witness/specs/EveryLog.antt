@@ -7,8 +7,9 @@ use mathlib.Core.List.{List, [], _++_}
 use lib.ListN.{length, take}
 use Rattle.runs.specs.Machine.{Machine}
 use Rattle.runs.specs.TwoRunners.{unbroken, runNumber}
-use Rattle.runs.specs.Laws.{Bytes, Panel, Laws}
-use Rattle.runs.specs.Lists.{Call, notRefused, Meant, asked}
+use Rattle.runs.specs.Laws.{Bytes, Panel}
+use Rattle.runs.specs.EveryRun.{EveryRunCountsWithin}
+use Rattle.runs.specs.Lists.{Kind, Call, run, refusal, notRefused, Meant, asked, EveryListEndsAsOneRun}
 use Rattle.upd546.specs.declared.State.{State}
 use Rattle.upd546.specs.StateImage.{stateNumber}
 use Rattle.upd546.specs.TheLineSchedule.{scheduleNumber}
@@ -62,10 +63,10 @@ EveryDay =
     (rom sched : List ℕ) (s : State) (calls : List (Call State)) → Panel upd546 rom sched → stateNumber s ≡ 0 → Meant upd546 rom sched s calls
     → s .cycle .0 + asked upd546 (notRefused upd546 calls) ≤ 281474976710655 → OfEveryDay rom sched s calls
 
--- the same of any machine whose runs write records
+-- the same of any machine, by what is promised of its lists, of the counts of its runs and of their log records
 abbrev pub AnyDay : {S : Type 0} → Machine S → Type 0
 AnyDay {S} M =
-    Laws M → EveryRunWritesRecords M → (rom sched : List ℕ) (s : S) (calls : List (Call S)) → Panel M rom sched → M .stateNumber s ≡ 0 → Meant M rom sched s calls
+    EveryListEndsAsOneRun M → EveryRunCountsWithin M → EveryRunWritesRecords M → (rom sched : List ℕ) (s : S) (calls : List (Call S)) → Panel M rom sched → M .stateNumber s ≡ 0 → Meant M rom sched s calls
     → M .at s + asked M (notRefused M calls) ≤ 281474976710655 → ReportsAsOneRun M rom sched s calls
 
 -- R-4, of every seed; a ROM and a schedule may be of two
@@ -77,6 +78,8 @@ pub record OfEverySeed (seed seed′ : ℕ) : Type 0 where
       × (runNumber upd546 rom (scheduleOf seed m) s n ≡ 11 → ⊥)
       × (runNumber upd546 rom (scheduleOf seed m) s n ≡ 13 → ⊥)
       × (runNumber upd546 rom (scheduleOf seed m) s n ≡ 14 → ⊥)
+  pub taken : (m : ℕ) → m ≤ 4096 → (kind : Kind) (rom : List ℕ) (s : State) (log : List ℕ) (n : ℕ) → length rom ≡ 2000 → stateNumber s ≡ 0
+      → s .cycle .0 + n ≤ 281474976710655 → refusal upd546 (run kind rom (scheduleOf seed m) s log n) ≡ 0
   -- `EveryRom`
   pub rom : (sched : List ℕ) (s : State) (n : ℕ) → runNumber upd546 (romOf seed) sched s n ≡ 21 → ⊥
   -- `EveryLoad`
