@@ -88,6 +88,7 @@ module _ (P : Instruction → Type 0) (each : All P instructions) where
       ▹ wide 16 75 1
       ▹ none
 
+  -- no instruction stands at place 28, JCP at 76
   pub every-code : (code : ℕ) → P (instruction code)
   unfolding instruction
   every-code code =
