@@ -15,6 +15,7 @@ use Rattle.runs.proofs.Refusals.{first-at, passes}
 use Rattle.upd546.specs.declared.Core.{Core}
 use Rattle.upd546.specs.declared.State.{State}
 use Rattle.upd546.specs.TheMachine.{addresses, stackDepth, dpOf}
+use Rattle.upd546.specs.Parts.{withCore, withFlow}
 use Rattle.upd546.specs.Sequences.{entries}
 use Rattle.upd546.specs.Bytes.{bitAt, numberOf, bytesOf, part}
 use Rattle.upd546.specs.Sequences.{sameNumbers}
@@ -93,19 +94,7 @@ flags-back {c} k =
 -- THE STATE OF AN IMAGE OF A STATE
 
 abbrev withStack : State → List ℕ → State
-withStack s stack = record {
-  core = record {
-    registers = s .core .registers;
-    flow = record { pc = s .core .flow .pc; stack = stack };
-    interrupt = s .core .interrupt;
-    timer = s .core .timer;
-    mark = s .core .mark;
-    owed = s .core .owed;
-  };
-  ports = s .ports;
-  ram = s .ram;
-  cycle = s .cycle;
-}
+withStack s stack = withCore s (withFlow (s .core) (record { pc = s .core .flow .pc; stack = stack }))
 
 module _ (s : State) (v : Valid s) (a b c : ℕ) (ha : a < addresses) (hb : b < addresses) (hc : c < addresses) where
   abbrev here : State

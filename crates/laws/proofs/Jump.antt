@@ -22,6 +22,7 @@ use Rattle.upd546.specs.declared.Timer.{Timer}
 use Rattle.upd546.specs.declared.Lines.{Lines}
 use Rattle.upd546.specs.declared.State.{State}
 use Rattle.upd546.specs.TheMachine.{inRom, byteAt, follows, past, pageOf, markOther}
+use Rattle.upd546.specs.Parts.{withParts, withTimer, setMark, setOwed, setPc}
 use Rattle.upd546.specs.Sequences.{allOf}
 use Rattle.upd546.specs.TheLineSchedule.{recordCount, recordCycle, linesAt, noneAmong, noRecord}
 use Rattle.upd546.specs.Timer.{tick, ticksLeft}
@@ -61,19 +62,7 @@ is-jcp code h =
 
 -- the state in the loop at an address, with this timer and cycle number; nothing else changes there
 abbrev inLoop : State → ℕ → Timer → ℕ → State
-inLoop s pc t n = record {
-  core = record {
-    registers = s .core .registers;
-    flow = record { pc = pc; stack = s .core .flow .stack };
-    interrupt = s .core .interrupt;
-    timer = t;
-    mark = markOther;
-    owed = 0;
-  };
-  ports = s .ports;
-  ram = s .ram;
-  cycle = record { 0 = n };
-}
+inLoop s pc t n = withParts s (setPc pc (setMark markOther (setOwed 0 (withTimer (s .core) t)))) (s .ram) (s .ports) n
 
 module _ (rom sched : List ℕ) (s : State) where
   pub cycle-executes : s .core .owed ≡ 0 → (eqb (s .core .interrupt .int) 1 && eqb (s .core .interrupt .inte) 1) ≡ false

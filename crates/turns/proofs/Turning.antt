@@ -18,6 +18,7 @@ use Rattle.runs.specs.OneByOne.{OneByOne, none as no-cycle, also}
 use Rattle.runs.proofs.Loop.{sofar, onwards, spanOf, Halfway, loop-starts, loop-ends, loop-stops, loop-goes, loop-goes-singly}
 use Rattle.upd546.specs.declared.Core.{Core}
 use Rattle.upd546.specs.declared.State.{State}
+use Rattle.upd546.specs.Parts.{stateOf}
 use Rattle.upd546.specs.TheLineSchedule.{scheduleNumber}
 use Rattle.upd546.specs.OneMachineCycle.{cycle}
 use Rattle.upd546.specs.TwoRunners.{jumpLength, upd546}
@@ -33,7 +34,6 @@ use Rattle.schedule.specs.declared.Cursor.{Cursor}
 use Rattle.schedule.specs.Cursor.{Stands}
 use Rattle.schedule.proofs.Standing.{next-record, next-some, stays}
 use Rattle.laws.proofs.Tails.{mid-tail, put-tail}
-use Rattle.effect.specs.Answer.{stateOf}
 use Rattle.burst.specs.declared.Stretch.{Stretch}
 use Rattle.burst.specs.Turn.{Turn, Turned}
 use Rattle.jump.specs.Boundary.{Boundary, Jumpable}
