@@ -1,6 +1,6 @@
 -- Where the loop of a run stands, and where a turn takes it. Assumes nothing.
 use mathlib.Core.Path.{_≡_, _∙_, refl, sym, ap, ap₂, subst}
-use mathlib.Core.Bool.{Bool, true, false}
+use mathlib.Core.Bool.{Bool, true, false, false≢true}
 use mathlib.Core.List.{List, [], _++_, append-assoc, append-nil}
 use mathlib.Core.Option.{Option, none, some}
 use Prim.Native.Nat.{ℕ, zero, suc, _+_, _-_, _*_, _<_, _≤_}
@@ -91,9 +91,6 @@ starts skips rom sched log n s cursor e br bs k = record {
   log-is = refl;
   half = rw (sub-zero n) (loop-starts upd546 rom sched skips (length log) n s);
 }
-
-differ : false ≡ true → ⊥
-differ e = let z : _≡_ {A = ℕ} 0 1 = cc in omega arith
 
 -- CYCLES ONE BY ONE keep what a cycle keeps
 record Kept (s t : State) (d b m : ℕ) : Type 0 where
@@ -199,7 +196,7 @@ module _ {skips : Bool} {rom sched log₀ : List ℕ} {n : ℕ} {s : State} {log
     panel = record { rom-bytes = h .rom-bytes; sched-bytes = h .sched-bytes; not-refused = taken .panel }
 
     no-jump-here : (b : Bool) → 0 ≡ jumpBy b rom sched t (n - done) → b ≡ true → jumpLength rom sched t (n - done) ≡ 0
-    no-jump-here false e q = absurd (differ q)
+    no-jump-here false e q = absurd (false≢true q)
     no-jump-here true e q = sym e
 
     pub turn-asks : (table positions : List ℕ) → table ≡ instructionTable → positions ≡ positionTable → 0 ≡ jumpBy skips rom sched t (n - done)
