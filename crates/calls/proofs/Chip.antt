@@ -1,5 +1,5 @@
 -- The board's call of the uPD546. Assumes nothing.
-use mathlib.Core.Path.{_≡_, _∙_, sym, ap, subst}
+use mathlib.Core.Path.{_≡_, _∙_, refl, sym, ap, subst}
 use mathlib.Core.List.{List}
 use Prim.Native.Nat.{ℕ}
 use lib.Dec.{eqb}
@@ -26,7 +26,7 @@ use Rattle.calls.proofs.Lists.{calls-end, image-ends}
 -- an image that is accepted has 81 bytes
 accepted-length : (image : List ℕ) → imageNumber image ≡ 0 → length image ≡ imageLength
 unfolding imageNumber
-accepted-length image e = eqb-true (length image) imageLength (passes (eqb (length image) imageLength) 30 (first-at _ e 0))
+accepted-length image e = eqb-true (length image) imageLength (passes (eqb (length image) imageLength) 31 refl (first-at _ e 0))
 
 pub every-finish-or-stop-rewrites : EveryFinishOrStopRewrites
 every-finish-or-stop-rewrites c br bs h =

@@ -74,7 +74,7 @@ module _ (rom : List ℕ) (l : Lines) (ram ports : List ℕ) (n : ℕ) (c : Core
     pub begins : Begins rom table (f .cycles) (instruction (f .code)) c
     unfolding fetchStop
     begins =
-        let some : 0 < due rom c .cycles = ltb-true 0 (due rom c .cycles) (passes (ltb 0 (due rom c .cycles)) 22 (first-at _ goes-on 1)) in
+        let some : 0 < due rom c .cycles = ltb-true 0 (due rom c .cycles) (passes (ltb 0 (due rom c .cycles)) 23 refl (first-at _ goes-on 1)) in
         record {
           rom-length = r .rom-length;
           sizes = r .sizes;

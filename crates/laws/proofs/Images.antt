@@ -227,23 +227,23 @@ parts-joined p q r s t u v w = λ i. p i ++ q i ++ r i ++ s i ++ t i ++ u i ++ v
 module _ (image : List ℕ) (bytes : Bytes image) (accepted : imageNumber image ≡ 0) where
   pub accepted-length : length image ≡ imageLength
   unfolding imageNumber
-  accepted-length = eqb-true _ _ (passes (eqb (length image) imageLength) 30 (first-at _ accepted 0))
+  accepted-length = eqb-true _ _ (passes (eqb (length image) imageLength) 31 refl (first-at _ accepted 0))
 
   pub accepted-sound : stateSound (ofImage image) ≡ true
   unfolding imageNumber fieldsNumber
-  accepted-sound = and-right (ltb (byte image 15) 64) (stateSound (ofImage image)) (passes (ltb (byte image 15) 64 && stateSound (ofImage image)) 33 (first-at _ accepted 3))
+  accepted-sound = and-right (ltb (byte image 15) 64) (stateSound (ofImage image)) (passes (ltb (byte image 15) 64 && stateSound (ofImage image)) 34 refl (first-at _ accepted 3))
 
   flags-small : byte image 15 < 64
   unfolding imageNumber fieldsNumber
-  flags-small = ltb-true _ _ (and-left (ltb (byte image 15) 64) (stateSound (ofImage image)) (passes (ltb (byte image 15) 64 && stateSound (ofImage image)) 33 (first-at _ accepted 3)))
+  flags-small = ltb-true _ _ (and-left (ltb (byte image 15) 64) (stateSound (ofImage image)) (passes (ltb (byte image 15) 64 && stateSound (ofImage image)) 34 refl (first-at _ accepted 3)))
 
   mark-same : imageMark ≡ part image 0 3
   unfolding imageNumber
-  mark-same = sym (same-eq _ _ (passes (sameNumbers (part image 0 3) imageMark) 31 (first-at _ accepted 1)))
+  mark-same = sym (same-eq _ _ (passes (sameNumbers (part image 0 3) imageMark) 32 refl (first-at _ accepted 1)))
 
   version-same : imageVersion ≡ part image 3 2
   unfolding imageNumber
-  version-same = sym (same-eq _ _ (passes (sameNumbers (part image 3 2) imageVersion) 32 (first-at _ accepted 2)))
+  version-same = sym (same-eq _ _ (passes (sameNumbers (part image 3 2) imageVersion) 33 refl (first-at _ accepted 2)))
 
   word-same : (at : ℕ) → at + 2 ≤ 81 → bytesOf 2 (numberOf (part image at 2)) ≡ part image at 2
   word-same at h = rw (part-two image at (omega (arith, accepted-length))) (word-bytes (byte image at) (byte image (at + 1)) (bytes at) (bytes (at + 1)))

@@ -47,7 +47,7 @@ module _ (image : List ℕ) where
   -- an image whose head passes
   pub head-length : headNumber image ≡ 0 → length image ≡ imageLength
   unfolding headNumber
-  head-length e = eqb-true (length image) imageLength (passes (eqb (length image) imageLength) 30 (first-at _ e 0))
+  head-length e = eqb-true (length image) imageLength (passes (eqb (length image) imageLength) 31 refl (first-at _ e 0))
 
 -- THE LOOP that compares bytes with those expected, at the byte i
 module _ (bytes expected : List ℕ) (at i : ℕ) (fits : at + length expected ≤ length bytes) (more : i < length expected) where
