@@ -1,7 +1,6 @@
 // The calls of the board's C program: restore, run and save in one, and the image of a fresh state; for programs in Rattle, what a
 // call's number tells. It may not know how a restore, a
 // run or a save goes, nor the image's layout.
-use runs::ClockCycles;
 use runs::MachineCycles;
 use runs::Outcome;
 use runs::RunEnd;
@@ -54,15 +53,7 @@ fn run_image(
     let outcome = restored.outcome;
     let state = restored.state;
     if let Outcome::Refused(why) = outcome {
-        return RunAnswer {
-            end: RunEnd::Refused(why),
-            state,
-            cycles: MachineCycles(0),
-            clocks: ClockCycles(0),
-            begun: 0,
-            written: 0,
-            steps: 0,
-        };
+        return runner::refused(why, state);
     }
     if runner == 0 {
         return runner::run_plain(rom, schedule, state, log, MachineCycles(n));

@@ -19,7 +19,7 @@ use Rattle.upd546.specs.declared.Timer.{Timer}
 use Rattle.upd546.specs.declared.Lines.{Lines}
 use Rattle.upd546.specs.declared.State.{State}
 use Rattle.upd546.specs.TheMachine.{markEi, markStm}
-use Rattle.upd546.specs.Parts.{withTimer, setOwed}
+use Rattle.upd546.specs.Parts.{stateOf, withTimer, setOwed}
 use Rattle.upd546.specs.TheLineSchedule.{linesAt}
 use Rattle.upd546.specs.Timer.{ticksLeft}
 use Rattle.upd546.specs.OneMachineCycle.{taken, given, execute, onOwed, onAccepts, cycle}
@@ -37,7 +37,7 @@ use Rattle.laws.proofs.Burst.{tm-stays, ticks-stopped, forward-none, forward-on
 use Rattle.jump.specs.Boundary.{Shows}
 use Rattle.jump.proofs.Lengths.{stopped, no-loop}
 use Rattle.effect.specs.declared.Started.{Started}
-use Rattle.effect.specs.Answer.{Answer, stateOf, startOf, answerOn}
+use Rattle.effect.specs.Answer.{Answer, startOf, answerOn}
 use Rattle.cycle.specs.Ready.{Ready}
 use Rattle.burst.specs.declared.Events.{Events}
 use Rattle.burst.specs.Turn.{Turn, Due, Horizon, Moves, Bursts, endedAt}

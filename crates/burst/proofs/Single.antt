@@ -10,9 +10,9 @@ use Rattle.runs.specs.OneByOne.{none, also}
 use Rattle.upd546.specs.declared.Core.{Core}
 use Rattle.upd546.specs.declared.Lines.{Lines}
 use Rattle.upd546.specs.declared.State.{State}
+use Rattle.upd546.specs.Parts.{stateOf}
 use Rattle.upd546.specs.TheLineSchedule.{linesAt}
 use Rattle.upd546.specs.OneMachineCycle.{accepts, accepted, taken, paid, ticked, quiet, onOwed, onAccepts, cycle}
-use Rattle.effect.specs.Answer.{stateOf}
 use Rattle.burst.specs.Turn.{Turn, Turned, oneCycle}
 
 module _ {skips : Bool} {rom sched table positions : List ℕ} {l : Lines} {next left : ℕ} {s : State} (k : Turn skips rom sched table positions l next left s) where

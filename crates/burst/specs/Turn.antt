@@ -16,7 +16,7 @@ use Rattle.upd546.specs.declared.Lines.{Lines}
 use Rattle.upd546.specs.declared.State.{State}
 use Rattle.upd546.specs.declared.Timer.{Timer}
 use Rattle.upd546.specs.TheMachine.{romLength, markEi, markStm}
-use Rattle.upd546.specs.Parts.{setOwed}
+use Rattle.upd546.specs.Parts.{stateOf, setOwed}
 use Rattle.upd546.specs.TheLineSchedule.{linesAt}
 use Rattle.upd546.specs.Timer.{ticksLeft}
 use Rattle.upd546.specs.OneMachineCycle.{accepts}
@@ -25,7 +25,6 @@ use Rattle.laws.specs.Burst.{Free, forward}
 use Rattle.laws.specs.Stops.{StopNumber}
 use Rattle.laws.specs.Valid.{Valid}
 use Rattle.tables.specs.Tables.{instructionTable, positionTable}
-use Rattle.effect.specs.Answer.{stateOf}
 use Rattle.burst.specs.declared.Stretch.{Stretch}
 use Rattle.burst.specs.declared.Late.{Late}
 use Rattle.burst.specs.declared.Events.{Events}

@@ -5,7 +5,7 @@ use Prim.Native.Nat.{ℕ, zero, suc, _≤_, _<_}
 use lib.ListN.{length}
 use borrow.Author.Tests.{le-leb, lt-leb}
 use Rattle.runs.specs.Machine.{Machine}
-use Rattle.runs.specs.TwoRunners.{End, finished, stopped, refused, RunAnswer, RestoreAnswer, saveAnswer, restoreAnswer}
+use Rattle.runs.specs.TwoRunners.{End, finished, stopped, refused, RunAnswer, refusedRun, RestoreAnswer, saveAnswer, restoreAnswer}
 use Rattle.runs.specs.Lists.{Kind, run, refusalOf, runAnswer, ChangesNothing}
 use Rattle.runs.proofs.Calls.{changes-nothing}
 use Rattle.calls.specs.Call.{BoardCall, kindOf, reportLength, countBytes, reported, onRestored, imageRun, runOf, ranCall, onEnd, callAnswer}
@@ -49,7 +49,7 @@ module _ {S : Type 0} (M : Machine S) where
 
   -- a restore that is refused, with a number
   pub refused-image : (k : ℕ) (s : S) (kind : Kind) (image rom sched log : List ℕ) (n : ℕ) → (k ≡ 0 → ⊥) → record { number = k; state = s } ≡ restoreAnswer M image
-      → record { end = refused k; state = s; cycles = 0; clocks = 0; begun = 0; written = 0; steps = 0; log = log } ≡ imageRun M kind image rom sched log n
+      → refusedRun k s log ≡ imageRun M kind image rom sched log n
   unfolding imageRun
   refused-image zero s kind image rom sched log n h e = absurd (h refl)
   refused-image (suc k) s kind image rom sched log n h e =

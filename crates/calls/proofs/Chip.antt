@@ -2,17 +2,13 @@
 use mathlib.Core.Path.{_≡_, _∙_, sym, ap, subst}
 use mathlib.Core.List.{List}
 use Prim.Native.Nat.{ℕ}
-use lib.Dec.{eqb}
-use lib.ListN.{length}
-use borrow.Author.Tests.{eqb-true}
 use Rattle.runs.specs.TwoRunners.{RestoreAnswer, restoreAnswer}
 use Rattle.runs.specs.Lists.{restore}
-use Rattle.runs.proofs.Refusals.{first-at, passes}
 use Rattle.runs.proofs.Calls.{by-number}
 use Rattle.upd546.specs.declared.State.{State}
-use Rattle.upd546.specs.StateImage.{imageLength, imageOf, stateNumber, imageNumber}
+use Rattle.upd546.specs.StateImage.{imageOf, stateNumber, imageNumber}
 use Rattle.upd546.specs.TwoRunners.{upd546}
-use Rattle.laws.proofs.Images.{accepted-exactly}
+use Rattle.laws.proofs.Images.{accepted-length, accepted-exactly}
 use Rattle.laws.proofs.Numbers.{number-laws}
 use Rattle.laws.proofs.Demand3.{jump-laws, laws}
 use Rattle.calls.specs.EveryCall.{EveryReportReadsBack, EveryCallTellsItsRun, EveryCallsNumberTells}
@@ -22,11 +18,6 @@ use Rattle.calls.proofs.EveryCall.{through, back, call-rewrites, report
 use Rattle.calls.proofs.Lists.{calls-end, image-ends}
 
 -- EVERY CALL
-
--- an image that is accepted has 81 bytes
-accepted-length : (image : List ℕ) → imageNumber image ≡ 0 → length image ≡ imageLength
-unfolding imageNumber
-accepted-length image e = eqb-true (length image) imageLength (passes (eqb (length image) imageLength) 30 (first-at _ e 0))
 
 pub every-finish-or-stop-rewrites : EveryFinishOrStopRewrites
 every-finish-or-stop-rewrites c br bs h =

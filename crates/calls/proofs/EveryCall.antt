@@ -114,7 +114,7 @@ module _ {S : Type 0} (M : Machine S) where
         same-run = same;
         run-ok = ok;
         answers =
-            ap (λ (b : Bool). onReport M b c (runOf M c .end) (runOf M c)) (passes (longEnough c) 0 (first-at _ z 0))
+            ap (λ (b : Bool). onReport M b c (runOf M c .end) (runOf M c)) (passes (longEnough c) 1 refl (first-at _ z 0))
             ∙ ran-answer M c (runOf M c .end) (runOf M c) ran;
       }
 

@@ -6,7 +6,7 @@ use mathlib.Core.List.{List, _++_}
 use lib.Dec.{leb}
 use lib.ListN.{length, drop, replicate}
 use Rattle.runs.specs.Machine.{Machine}
-use Rattle.runs.specs.TwoRunners.{End, finished, stopped, refused, RunAnswer, saveAnswer, restoreAnswer}
+use Rattle.runs.specs.TwoRunners.{End, finished, stopped, refused, RunAnswer, refusedRun, saveAnswer, restoreAnswer}
 use Rattle.runs.specs.Lists.{Kind, plainOne, skippingOne, runAnswer}
 use Rattle.upd546.specs.Bytes.{bytesOf}
 
@@ -52,8 +52,7 @@ module _ {S : Type 0} (M : Machine S) where
   -- "Then image refusals come first, then the run's.": the run of what a restore answers; where that is refused, a run so refused
   abbrev pub onRestored : ℕ → S → Kind → (rom sched log : List ℕ) → ℕ → RunAnswer S
   onRestored zero s kind rom sched log n = runAnswer M kind rom sched s log n
-  onRestored (suc k) s kind rom sched log n =
-      record { end = refused (suc k); state = s; cycles = 0; clocks = 0; begun = 0; written = 0; steps = 0; log = log }
+  onRestored (suc k) s kind rom sched log n = refusedRun (suc k) s log
 
   unfoldable pub imageRun : Kind → (image rom sched log : List ℕ) → ℕ → RunAnswer S
   imageRun kind image rom sched log n = onRestored (restoreAnswer M image .number) (restoreAnswer M image .state) kind rom sched log n

@@ -11,6 +11,7 @@ use Rattle.upd546.specs.declared.Core.{Core}
 use Rattle.upd546.specs.declared.Lines.{Lines}
 use Rattle.upd546.specs.declared.State.{State}
 use Rattle.upd546.specs.TheMachine.{byteAt, wordAt}
+use Rattle.upd546.specs.Parts.{stateOf}
 use Rattle.upd546.specs.Instructions.{Effect, Instruction, instruction}
 use Rattle.upd546.specs.OneMachineCycle.{given, instructionStop, onStop}
 use Rattle.laws.specs.Burst.{started, unticked}
@@ -21,7 +22,7 @@ use Rattle.instructions.specs.Groups.{givenOf}
 use Rattle.fetch.specs.declared.Fetched.{Fetched}
 use Rattle.fetch.specs.Fetching.{fetchStop}
 use Rattle.fetch.specs.Fetching as fetching
-use Rattle.effect.specs.Answer.{stateOf, holds, answerOn}
+use Rattle.effect.specs.Answer.{holds, answerOn}
 use Rattle.effect.specs.Endings.{Begins, Outputs, outcomeOf, skipStop}
 use Rattle.cycle.specs.Ready.{Ready}
 
@@ -73,7 +74,7 @@ module _ (rom : List ℕ) (l : Lines) (ram ports : List ℕ) (n : ℕ) (c : Core
     pub begins : Begins rom table (f .cycles) (instruction (f .code)) c
     unfolding fetchStop
     begins =
-        let some : 0 < due rom c .cycles = ltb-true 0 (due rom c .cycles) (passes (ltb 0 (due rom c .cycles)) 22 (first-at _ goes-on 1)) in
+        let some : 0 < due rom c .cycles = ltb-true 0 (due rom c .cycles) (passes (ltb 0 (due rom c .cycles)) 23 refl (first-at _ goes-on 1)) in
         record {
           rom-length = r .rom-length;
           sizes = r .sizes;

@@ -12,7 +12,8 @@ ghost use mathlib.Core.Path.{_≡_};
 ghost use Prim.Native.Nat.{_+_, _≤_};
 ghost use lib.ListN.{length};
 ghost use Rattle.laws.specs.Burst.{unticked};
-ghost use Rattle.effect.specs.Answer.{stateOf, answerOn, startOf};
+ghost use Rattle.upd546.specs.Parts.{stateOf};
+ghost use Rattle.effect.specs.Answer.{answerOn, startOf};
 ghost use Rattle.cycle.specs.Ready.{Ready};
 
 // The instruction at PC, with the lines taken, begun in cycle `start + done`, with the log empty from `at` on. The log is lent

@@ -6,7 +6,7 @@ use Rattle.runs.specs.declared.Refusal.{Refusal}
 use Rattle.runs.specs.declared.RunEnd.{RunEnd}
 use Rattle.runs.specs.declared.RunEnd.the-variants.{Refused}
 use Rattle.runs.specs.Numbers.{refusalNumber, endOf}
-use Rattle.runs.specs.TwoRunners.{RunAnswer, refused, runNumber}
+use Rattle.runs.specs.TwoRunners.{RunAnswer, refused, refusedRun, runNumber}
 use Rattle.runs.specs.Lists.{Kind, run, runAnswer, refusal, refusalOf, ChangesNothing}
 use Rattle.runs.proofs.Calls.{by-number, changes-nothing}
 use Rattle.runs.proofs.Refusals.{numbered}
@@ -17,19 +17,14 @@ use Rattle.driver.specs.declared.Report.{Report}
 use Rattle.driver.specs.Lending.{broughtTo, AsItWas}
 
 module _ (kind : Kind) (rom sched : List ℕ) (m : KeptMachine) (log : List ℕ) (n : ℕ) where
-  -- what a refused run answers, with this number
-  abbrev nothing : ℕ → RunAnswer State
-  nothing k =
-      record { end = refused k; state = m .state; cycles = 0; clocks = 0; begun = 0; written = 0; steps = 0; log = log }
-
   answers-nothing : (k : ℕ) → refusal upd546 (run kind rom sched (m .state) log n) ≡ suc k
-      → runAnswer upd546 kind rom sched (m .state) log n ≡ nothing (suc k)
+      → runAnswer upd546 kind rom sched (m .state) log n ≡ refusedRun (suc k) (m .state) log
   answers-nothing k e =
       subst (λ (j : ℕ). ChangesNothing upd546 j (run kind rom sched (m .state) log n)) e
       (changes-nothing upd546 (run kind rom sched (m .state) log n))
 
   module _ (r : Report) (m′ : KeptMachine) (log′ : List ℕ) (e : broughtTo r m′ log′ ≡ runAnswer upd546 kind rom sched (m .state) log n) where
-    as-it-was : (k : ℕ) → broughtTo r m′ log′ ≡ nothing k → AsItWas r m m′ log log′
+    as-it-was : (k : ℕ) → broughtTo r m′ log′ ≡ refusedRun k (m .state) log → AsItWas r m m′ log log′
     as-it-was k a = record {
       machine-kept = λ i. record { state = a i .state };
       log-kept = ap (λ (z : RunAnswer State). z .log) a;
@@ -52,6 +47,6 @@ module _ (kind : Kind) (rom sched : List ℕ) (m : KeptMachine) (log : List ℕ)
     pub numbered-as-it-was : (k : ℕ) → runNumber upd546 rom sched (m .state) n ≡ suc k
         → (endOf (r .end) ≡ refused (suc k)) × AsItWas r m m′ log log′
     numbered-as-it-was k number =
-        let a : broughtTo r m′ log′ ≡ nothing (suc k) =
+        let a : broughtTo r m′ log′ ≡ refusedRun (suc k) (m .state) log =
         e ∙ answers-nothing k (by-number upd546 (run kind rom sched (m .state) log n) ∙ number) in
         (ap (λ (z : RunAnswer State). z .end) a, as-it-was (suc k) a)

@@ -8,14 +8,14 @@ use native.Mathlib.Omega.{arith}
 use lib.ListN.{length, getD, set}
 use borrow.Rule.Slice.PartMut.{midOf, putMid}
 use borrow.Author.Tests.{le-leb, lt-leb}
-use Rattle.runs.specs.Machine.{Out, went}
+use Rattle.runs.specs.Machine.{Out}
 use Rattle.upd546.specs.declared.Core.{Core}
 use Rattle.upd546.specs.declared.State.{State}
 use Rattle.upd546.specs.TheMachine.{byteAt, past, placeOf, withWord}
-use Rattle.upd546.specs.Parts.{setOwed, setPc}
-use Rattle.upd546.specs.Ports.{latched, logBytes}
+use Rattle.upd546.specs.Parts.{stateOf, setOwed, setPc}
+use Rattle.upd546.specs.Ports.{logBytes}
 use Rattle.upd546.specs.Instructions.{Effect, Instruction, instruction}
-use Rattle.upd546.specs.OneMachineCycle.{passedOver, onStop}
+use Rattle.upd546.specs.OneMachineCycle.{passedOver, leaving, onStop}
 use Rattle.laws.specs.Burst.{owing}
 use Rattle.laws.proofs.Tails.{put-front}
 use Rattle.laws.proofs.Cycle.{records-length}
@@ -24,7 +24,7 @@ use Rattle.portlog.specs.Appending.{Written}
 use Rattle.fetch.specs.declared.Passed.{Passed}
 use Rattle.fetch.specs.Fetching.{PassedAs}
 use Rattle.effect.specs.declared.Started.{Started}
-use Rattle.effect.specs.Answer.{Answer, stateOf, startOf, heldBack, answerOn}
+use Rattle.effect.specs.Answer.{Answer, startOf, heldBack, answerOn}
 use Rattle.instructions.specs.declared.Inputs.{Inputs}
 use Rattle.effect.specs.Endings.{skipStop, onSkip, ended, keptOn, effectOf, effectOn, portOutcome, EndsAs, EndsOn, EndsWith}
 
@@ -142,7 +142,7 @@ module _ (rom : List ℕ) (i : Instruction) (g : Inputs) (word : ℕ) (ports : L
   answer = answerOn at (portOutcome rom i (effectOf i g word ports) here) here log
 
   abbrev goes : Out State
-  goes = went (record { core = owing rom i e; ports = latched (e .writes) ports; ram = ram; cycle = record { 0 = n + 1 } }) (logBytes n (e .writes)) 1
+  goes = leaving e (owing rom i e) ram here
 
   answer-is : answer ≡ answerOn at (onStop (p .stop) goes) here log
   answer-is = ap (λ (x : Effect). answerOn at (portOutcome rom i x here) here log) is ∙ ap (λ (k : ℕ). answerOn at (onStop k goes) here log) (sym (q .stop))

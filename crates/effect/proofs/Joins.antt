@@ -7,17 +7,16 @@ use native.Mathlib.Omega.{arith}
 use lib.ListN.{length, take, drop, take-append-drop}
 use lib.Seq.{set-getD}
 use borrow.Author.Tests.{le-leb}
-use Rattle.runs.specs.Machine.{went}
 use Rattle.upd546.specs.declared.State.{State}
 use Rattle.upd546.specs.TheMachine.{placeOf, wordAt, withWord}
-use Rattle.upd546.specs.Ports.{latched, logBytes}
+use Rattle.upd546.specs.Parts.{stateOf}
 use Rattle.upd546.specs.Instructions.{Instruction, instruction}
-use Rattle.upd546.specs.OneMachineCycle.{onStop}
+use Rattle.upd546.specs.OneMachineCycle.{leaving, onStop}
 use Rattle.laws.specs.Burst.{owing, started}
 use Rattle.instructions.specs.declared.Inputs.{Inputs}
 use Rattle.instructions.specs.Groups.{givenOf}
 use Rattle.effect.specs.declared.Started.{Started}
-use Rattle.effect.specs.Answer.{Answer, stateOf, startOf, answerOn}
+use Rattle.effect.specs.Answer.{Answer, startOf, answerOn}
 use Rattle.effect.specs.Endings.{effectOn, skipStop, onSkip, keptOn, outcomeOf, Begins, Outputs, EndsAs, EndsOn, EndsWith}
 
 -- what the code stands for
@@ -77,5 +76,5 @@ module _ (rom : List ℕ) (at : ℕ) (g : Inputs) (ram ports : List ℕ) (n : �
         let x = effectOn i g ram ports in
         let same : ram ≡ withWord ram a (x .word) = sym (set-getD ram (placeOf a) 0) ∙ ap (λ (w : ℕ). withWord ram a w) (sym (e .word-is)) in
         e .is
-        ∙ ap (λ (r : List ℕ). answerOn at (onStop (skipStop x) (went (record { core = owing rom i x; ports = latched (x .writes) ports; ram = r; cycle = record { 0 = n + 1 } }) (logBytes n (x .writes)) 1)) here log) same
+        ∙ ap (λ (r : List ℕ). answerOn at (onStop (skipStop x) (leaving x (owing rom i x) r here)) here log) same
         ∙ ap answerOf named

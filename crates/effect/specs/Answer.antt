@@ -9,10 +9,6 @@ use Rattle.upd546.specs.declared.Core.{Core}
 use Rattle.upd546.specs.declared.State.{State}
 use Rattle.effect.specs.declared.Started.{Started}
 
--- the state that a core, lent RAM and latches and the cycle number are
-abbrev pub stateOf : Core → List ℕ → List ℕ → ℕ → State
-stateOf c ram ports n = record { core = c; ports = ports; ram = ram; cycle = record { 0 = n } }
-
 -- what an instruction answers, and what stands in the lent RAM, latches and log when it returns
 pub record Answer : Type 0 where
   pub stop : ℕ

@@ -1,17 +1,17 @@
 -- How an instruction ends, up to the step of the timer, by what its group touches. Assumes nothing: these are definitions.
-use Prim.Native.Nat.{ℕ, zero, suc, _+_, _<_, _≤_}
+use Prim.Native.Nat.{ℕ, zero, suc, _<_, _≤_}
 use mathlib.Core.Path.{_≡_}
 use mathlib.Core.Bool.{cond}
 use mathlib.Core.List.{List, []}
 use lib.ListN.{length}
-use Rattle.runs.specs.Machine.{Out, went}
+use Rattle.runs.specs.Machine.{Out}
 use Rattle.runs.specs.Refusals.{cycleLimit}
 use Rattle.upd546.specs.declared.Core.{Core}
 use Rattle.upd546.specs.declared.State.{State}
 use Rattle.upd546.specs.TheMachine.{romLength, wordAt, withWord}
-use Rattle.upd546.specs.Ports.{latched, logBytes}
+use Rattle.upd546.specs.Parts.{stateOf}
 use Rattle.upd546.specs.Instructions.{Effect, Instruction, instruction}
-use Rattle.upd546.specs.OneMachineCycle.{needs, onStop}
+use Rattle.upd546.specs.OneMachineCycle.{needs, leaving, onStop}
 use Rattle.tables.specs.Tables.{instructionTable}
 use Rattle.laws.specs.Burst.{owing, started}
 use Rattle.laws.specs.Valid.{Scalars, ValidPorts, ValidRam}
@@ -19,7 +19,7 @@ use Rattle.laws.specs.Writes.{All, ValidWrite}
 use Rattle.instructions.specs.declared.Inputs.{Inputs}
 use Rattle.instructions.specs.Groups.{givenOf}
 use Rattle.effect.specs.declared.Started.{Started}
-use Rattle.effect.specs.Answer.{Answer, stateOf, startOf, heldBack, answerOn}
+use Rattle.effect.specs.Answer.{Answer, startOf, heldBack, answerOn}
 
 -- what a group asks of the instruction i that is begun at the core c
 pub record Begins (rom table : List ℕ) (cycles : ℕ) (i : Instruction) (c : Core) : Type 0 where
@@ -80,9 +80,7 @@ outcomeOf rom i g s =
 
 -- the same of one that leaves the RAM alone, with its effect
 abbrev pub portOutcome : List ℕ → Instruction → Effect → State → Out State
-portOutcome rom i e s =
-    onStop (skipStop e)
-    (went (record { core = owing rom i e; ports = latched (e .writes) (s .ports); ram = s .ram; cycle = record { 0 = s .cycle .0 + 1 } }) (logBytes (s .cycle .0) (e .writes)) 1)
+portOutcome rom i e s = onStop (skipStop e) (leaving e (owing rom i e) (s .ram) s)
 
 -- a group that reads and writes ports in cycle n
 pub record EndsWith (rom : List ℕ) (at : ℕ) (i : Instruction) (g : Inputs) (word n : ℕ) (ram ports log : List ℕ) (d : Started) (ports′ log′ : List ℕ) : Type 0 where

@@ -1,6 +1,6 @@
 -- Which test of a jump fails, and how long the jump is where all pass. Assumes nothing.
 use mathlib.Core.Path.{_≡_, _∙_, refl, sym, ap, subst}
-use mathlib.Core.Bool.{Bool, true, false, _&&_, and-true, and-false}
+use mathlib.Core.Bool.{Bool, true, false, true≢false, _&&_, and-true, and-false}
 use mathlib.Core.List.{List, [], _∷_}
 use Prim.Native.Nat.{ℕ, zero, suc, _+_, _-_, _%_, _<_, _≤_, min}
 use native.Mathlib.Omega.{arith}
@@ -140,9 +140,6 @@ module _ (rom sched positions : List ℕ) (pc owed : ℕ) (interrupt : Interrupt
 
 -- AFTER A JUMP
 
-no-both : true ≡ false → ⊥
-no-both e = let z : _≡_ {A = ℕ} 0 1 = cc in omega arith
-
 -- The cursor stands at the jump's last cycle as it is, so that one move takes it past the jump.
 pub stands-last : (rom sched : List ℕ) (s : State) (left j : ℕ) (cursor : Cursor) → scheduleNumber sched ≡ 0
     → Stands sched (s .cycle .0) cursor → s .cycle .0 + left ≤ cycleLimit → jumpLength rom sched s left ≡ j → (j ≡ 0 → ⊥)
@@ -151,5 +148,5 @@ stands-last rom sched s left j cursor a k h e more =
     let n = s .cycle .0 in
     let l : j ≤ left = subst (λ (x : ℕ). x ≤ left) e (jump-within rom sched s left) in
     let none = jump-between rom sched s left j e more in
-    let u : cursor .next < n + j → ⊥ = λ q. no-both (sym none ∙ some-record sched a n (n + j) cursor k q (omega arith)) in
+    let u : cursor .next < n + j → ⊥ = λ q. true≢false (sym none ∙ some-record sched a n (n + j) cursor k q (omega arith)) in
     stays sched a n (n + j - 1) cursor k (omega arith) (omega arith)

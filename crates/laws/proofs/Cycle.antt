@@ -265,7 +265,7 @@ module _ (s : State) (v : Valid s) (h : s .cycle .0 < cycleLimit) where
     on-stop : (i : Instruction) (g : Given) (over : ℕ) → Keeps i → ValidGiven g → over ≤ 2 → s .core .owed ≡ 0 → (k : ℕ) → instructionStop i g (i .effect g) ≡ k
         → Fine s (onStop k (begun i g (i .effect g) over s))
     unfolding instructionStop
-    on-stop i g over k vg ho z zero e = begun-fine i g over k vg ho (ltb-true 0 (i .cycles) (passes (ltb 0 (i .cycles)) 22 (first-at _ e 1))) z
+    on-stop i g over k vg ho z zero e = begun-fine i g over k vg ho (ltb-true 0 (i .cycles) (passes (ltb 0 (i .cycles)) 23 refl (first-at _ e 1))) z
     on-stop i g over k vg ho z (suc n) e = tt
 
     execute-fine : s .core .owed ≡ 0 → Fine s (execute rom l s c)

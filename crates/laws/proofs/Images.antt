@@ -1,31 +1,33 @@
 -- Save and restore are exact both ways. Assumes nothing.
 use mathlib.Core.Path.{_≡_, _∙_, refl, sym, ap, ap₂, subst}
 use mathlib.Core.Bool.{true, _&&_}
-use mathlib.Core.List.{List, [], _∷_, _++_, append-assoc}
-use Prim.Native.Nat.{ℕ, zero, suc, _+_, _*_, _/_, _%_, _<_, _≤_}
+use mathlib.Core.List.{List, [], _∷_, _++_, append-assoc, append-nil}
+use Prim.Native.Nat.{ℕ, zero, suc, _+_, _-_, _*_, _/_, _%_, _<_, _≤_}
 use native.Mathlib.Omega.{arith}
 use lib.Dec.{eqb, ltb, eqb→eq}
 use lib.ListN.{length, getD, take, drop, length-append}
 use lib.Seq.{take-all, take-add, take-at, drop-at}
 use borrow.Author.Tests.{eq-eqb, eqb-true, lt-ltb, ltb-true, le-leb}
 use Rattle.runs.specs.TwoRunners.{saveNumber, saveAnswer, restoreAnswer}
-use Rattle.runs.specs.Refusals.{firstOf}
+use Rattle.runs.specs.Refusals.{firstOf, unless}
 use Rattle.runs.specs.Laws.{Bytes}
 use Rattle.runs.proofs.Refusals.{first-at, passes}
 use Rattle.upd546.specs.declared.Core.{Core}
 use Rattle.upd546.specs.declared.State.{State}
-use Rattle.upd546.specs.TheMachine.{addresses, stackDepth, dpOf}
+use Rattle.upd546.specs.TheMachine.{addresses, stackDepth, latches, dpOf}
+use Rattle.upd546.specs.Parts.{withCore, withFlow}
 use Rattle.upd546.specs.Sequences.{entries}
 use Rattle.upd546.specs.Bytes.{bitAt, numberOf, bytesOf, part}
 use Rattle.upd546.specs.Sequences.{sameNumbers}
-use Rattle.upd546.specs.StateImage.{imageLength, imageMark, imageVersion, wordsBytes, flagsByte, coreBytes, packed, imageOf, byte, unpacked, ofImage, stateSound, stateNumber, fieldsNumber, imageNumber}
+use Rattle.upd546.specs.StateImage.{imageLength, imageMarkAt, versionAt, pcAt, stackAt, dpAt, flagsAt, portsAt, ramAt, ramBytes, cycleAt}
+use Rattle.upd546.specs.StateImage.{imageMark, imageVersion, wordsBytes, flagsByte, coreBytes, packed, bodyBytes, imageOf, byte, unpacked, ofImage, stateSound, stateNumber, fieldsNumber, imageNumber}
 use Rattle.upd546.specs.TwoRunners.{upd546}
 use Rattle.upd546.proofs.Computed.{every-at, entries-of}
 use Rattle.laws.specs.Valid.{Scalars, Valid}
 use Rattle.laws.specs.Images.{SavedRestores, RestoredSaves, ImageOfSome, AcceptedExactly}
 use Rattle.laws.proofs.Lists.{and-left, and-right}
 use Rattle.laws.proofs.Sound.{sound-valid, valid-sound, accepted-valid, valid-accepted}
-use Rattle.laws.proofs.Parts.{part-two, part-six, part-seven}
+use Rattle.laws.proofs.Parts.{part-add, part-two, part-six, part-seven}
 use Rattle.laws.proofs.Digits.{bytes-back}
 use Rattle.laws.proofs.Packing.{words-length, length-packed, unpacked-packed, packed-unpacked}
 
@@ -93,51 +95,46 @@ flags-back {c} k =
 -- THE STATE OF AN IMAGE OF A STATE
 
 abbrev withStack : State → List ℕ → State
-withStack s stack = record {
-  core = record {
-    registers = s .core .registers;
-    flow = record { pc = s .core .flow .pc; stack = stack };
-    interrupt = s .core .interrupt;
-    timer = s .core .timer;
-    mark = s .core .mark;
-    owed = s .core .owed;
-  };
-  ports = s .ports;
-  ram = s .ram;
-  cycle = s .cycle;
-}
+withStack s stack = withCore s (withFlow (s .core) (record { pc = s .core .flow .pc; stack = stack }))
 
-module _ (s : State) (v : Valid s) (a b c : ℕ) (ha : a < addresses) (hb : b < addresses) (hc : c < addresses) where
+-- whatever stands behind it
+module _ (tail : List ℕ) (s : State) (v : Valid s) (a b c : ℕ) (ha : a < addresses) (hb : b < addresses) (hc : c < addresses) where
   abbrev here : State
   here = withStack s (a ∷ b ∷ c ∷ [])
 
+  -- the latches, and all that is behind them
   rest : List ℕ
-  rest = s .ports ++ packed (s .ram) ++ bytesOf 6 (s .cycle .0)
+  rest = s .ports ++ packed (s .ram) ++ bytesOf 6 (s .cycle .0) ++ tail
 
-  ram-length : length (packed (s .ram)) ≡ 48
-  ram-length = length-packed 48 (s .ram) (v .ram .count)
+  rest-is : rest ≡ s .ports ++ (packed (s .ram) ++ (bytesOf 6 (s .cycle .0) ++ tail))
+  unfolding rest
+  rest-is =
+      append-assoc (s .ports ++ packed (s .ram)) (bytesOf 6 (s .cycle .0)) tail
+      ∙ append-assoc (s .ports) (packed (s .ram)) (bytesOf 6 (s .cycle .0) ++ tail)
 
-  both-length : length (s .ports ++ packed (s .ram)) ≡ 55
+  ram-length : length (packed (s .ram)) ≡ ramBytes
+  ram-length = length-packed ramBytes (s .ram) (v .ram .count)
+
+  both-length : length (s .ports ++ packed (s .ram)) ≡ latches + ramBytes
   both-length = length-append (s .ports) (packed (s .ram)) ∙ omega (arith, v .ports .count, ram-length)
 
-  ports-back : take 7 rest ≡ s .ports
-  unfolding rest
-  ports-back = ap (take 7) (append-assoc (s .ports) (packed (s .ram)) (bytesOf 6 (s .cycle .0))) ∙ take-at (s .ports) _ 7 (v .ports .count)
+  ports-back : take latches rest ≡ s .ports
+  ports-back = ap (take latches) rest-is ∙ take-at (s .ports) _ latches (v .ports .count)
 
-  ram-back : unpacked (take 48 (drop 7 rest)) ≡ s .ram
-  unfolding rest
+  ram-back : unpacked (take ramBytes (drop latches rest)) ≡ s .ram
   ram-back =
-      ap (λ (l : List ℕ). unpacked (take 48 l)) (ap (drop 7) (append-assoc (s .ports) (packed (s .ram)) (bytesOf 6 (s .cycle .0))) ∙ drop-at (s .ports) _ 7 (v .ports .count))
-      ∙ ap unpacked (take-at (packed (s .ram)) (bytesOf 6 (s .cycle .0)) 48 ram-length)
-      ∙ unpacked-packed 48 (s .ram) (v .ram .count) (v .ram .below)
+      ap (λ (l : List ℕ). unpacked (take ramBytes l)) (ap (drop latches) rest-is ∙ drop-at (s .ports) _ latches (v .ports .count))
+      ∙ ap unpacked (take-at (packed (s .ram)) (bytesOf 6 (s .cycle .0) ++ tail) ramBytes ram-length)
+      ∙ unpacked-packed ramBytes (s .ram) (v .ram .count) (v .ram .below)
 
-  number-back : numberOf (take 6 (drop 55 rest)) ≡ s .cycle .0
+  number-back : numberOf (take 6 (drop (latches + ramBytes) rest)) ≡ s .cycle .0
   unfolding rest
   number-back =
-      ap (λ (l : List ℕ). numberOf (take 6 l)) (drop-at (s .ports ++ packed (s .ram)) (bytesOf 6 (s .cycle .0)) 55 both-length)
+      ap (λ (l : List ℕ). numberOf (take 6 (drop (latches + ramBytes) l))) (append-assoc (s .ports ++ packed (s .ram)) (bytesOf 6 (s .cycle .0)) tail)
+      ∙ ap (λ (l : List ℕ). numberOf (take 6 l)) (drop-at (s .ports ++ packed (s .ram)) (bytesOf 6 (s .cycle .0) ++ tail) (latches + ramBytes) both-length)
       ∙ cycle-back (s .cycle .0) (omega (arith, v .cycle))
 
-  back : ofImage (imageOf here) ≡ here
+  back : ofImage (imageOf here ++ tail) ≡ here
   unfolding ofImage imageOf rest
   back =
       let k = v .core .scalars in
@@ -159,7 +156,7 @@ module _ (s : State) (v : Valid s) (a b c : ℕ) (ha : a < addresses) (hb : b < 
         cycle = record { 0 = number-back i };
       }
 
-  flags-at : byte (imageOf here) 15 ≡ flagsByte (s .core)
+  flags-at : byte (imageOf here ++ tail) flagsAt ≡ flagsByte (s .core)
   unfolding imageOf
   flags-at = refl
 
@@ -177,46 +174,54 @@ module _ (s : State) (v : Valid s) where
   unfolding stack-at
   stack-below i = v .core .stack .below i
 
-  pub image-back : ofImage (imageOf s) ≡ s
-  image-back =
-      subst (λ (t : State). ofImage (imageOf t) ≡ t) three
-      (back s v (stack-at 0) (stack-at 1) (stack-at 2) (stack-below 0) (stack-below 1) (stack-below 2))
+  -- an image with bytes behind its body
+  body-back : (tail : List ℕ) → ofImage (imageOf s ++ tail) ≡ s
+  body-back tail =
+      subst (λ (t : State). ofImage (imageOf t ++ tail) ≡ t) three
+      (back tail s v (stack-at 0) (stack-at 1) (stack-at 2) (stack-below 0) (stack-below 1) (stack-below 2))
 
-  flags-byte-at : byte (imageOf s) 15 ≡ flagsByte (s .core)
-  flags-byte-at =
-      subst (λ (t : State). byte (imageOf t) 15 ≡ flagsByte (s .core)) three
-      (flags-at s v (stack-at 0) (stack-at 1) (stack-at 2) (stack-below 0) (stack-below 1) (stack-below 2))
+  flags-read : (tail : List ℕ) → byte (imageOf s ++ tail) flagsAt ≡ flagsByte (s .core)
+  flags-read tail =
+      subst (λ (t : State). byte (imageOf t ++ tail) flagsAt ≡ flagsByte (s .core)) three
+      (flags-at tail s v (stack-at 0) (stack-at 1) (stack-at 2) (stack-below 0) (stack-below 1) (stack-below 2))
 
-  pub image-length : length (imageOf s) ≡ imageLength
-  unfolding imageOf
-  image-length =
-      let stack = wordsBytes (s .core .flow .stack) in
-      let front = stack ++ coreBytes (s .core) in
+  body-length : length (bodyBytes s) ≡ imageLength - pcAt
+  body-length =
+      let words = bytesOf 2 (s .core .flow .pc) ++ wordsBytes (s .core .flow .stack) in
+      let front = words ++ coreBytes (s .core) in
       omega (
         arith,
         words-length (s .core .flow .stack),
         v .core .stack .depth,
-        length-append stack (coreBytes (s .core)),
+        length-append words (coreBytes (s .core)),
         length-append front (s .ports),
         v .ports .count,
         length-append (front ++ s .ports) (packed (s .ram)),
-        length-packed 48 (s .ram) (v .ram .count),
+        length-packed ramBytes (s .ram) (v .ram .count),
         length-append (front ++ s .ports ++ packed (s .ram)) (bytesOf 6 (s .cycle .0)),
       )
 
-  mark-at : sameNumbers (part (imageOf s) 0 3) imageMark ≡ true
+  -- with none behind it
+  pub image-back : ofImage (imageOf s) ≡ s
+  image-back = ap ofImage (sym (append-nil (imageOf s))) ∙ body-back []
+
+  pub image-length : length (imageOf s) ≡ imageLength
+  unfolding imageOf
+  image-length = omega (arith, body-length)
+
+  mark-at : sameNumbers (part (imageOf s) imageMarkAt 3) imageMark ≡ true
   unfolding imageOf
   mark-at = refl
 
-  version-at : sameNumbers (part (imageOf s) 3 2) imageVersion ≡ true
+  version-at : sameNumbers (part (imageOf s) versionAt 2) imageVersion ≡ true
   unfolding imageOf
   version-at = refl
 
   pub image-accepted : imageNumber (imageOf s) ≡ 0
   unfolding imageNumber fieldsNumber firstOf
   image-accepted =
-      let k = v .core .scalars in
-      let six : ltb (byte (imageOf s) 15) 64 ≡ true = lt-ltb (byte (imageOf s) 15) 64 (omega (arith, flags-byte-at, k)) in
+      let flags : byte (imageOf s) flagsAt ≡ flagsByte (s .core) = ap (λ (l : List ℕ). byte l flagsAt) (sym (append-nil (imageOf s))) ∙ flags-read [] in
+      let six : ltb (byte (imageOf s) flagsAt) 64 ≡ true = lt-ltb (byte (imageOf s) flagsAt) 64 (omega (arith, flags, v .core .scalars)) in
       let sound : stateSound (ofImage (imageOf s)) ≡ true = ap stateSound image-back ∙ valid-sound s v in
       rw (eq-eqb (length (imageOf s)) imageLength image-length, mark-at, version-at, six, sound)
 
@@ -230,69 +235,91 @@ same-eq (x ∷ l) (y ∷ m) e = ap₂ (λ (h : ℕ) (t : List ℕ). h ∷ t) (eq
 words-joined : {a a′ b b′ c c′ : List ℕ} → a ≡ a′ → b ≡ b′ → c ≡ c′ → a ++ (b ++ (c ++ [])) ≡ a′ ++ (b′ ++ (c′ ++ []))
 words-joined p q r = λ i. p i ++ (q i ++ (r i ++ []))
 
--- eight parts one behind the other, each the same
-parts-joined : {a a′ b b′ c c′ d d′ e e′ f f′ g g′ h h′ : List ℕ} → a ≡ a′ → b ≡ b′ → c ≡ c′ → d ≡ d′ → e ≡ e′ → f ≡ f′ → g ≡ g′ → h ≡ h′
-    → a ++ b ++ c ++ d ++ e ++ f ++ g ++ h ≡ a′ ++ b′ ++ c′ ++ d′ ++ e′ ++ f′ ++ g′ ++ h′
-parts-joined p q r s t u v w = λ i. p i ++ q i ++ r i ++ s i ++ t i ++ u i ++ v i ++ w i
+-- six parts one behind the other, each the same
+parts-joined : {a a′ b b′ c c′ d d′ e e′ f f′ : List ℕ} → a ≡ a′ → b ≡ b′ → c ≡ c′ → d ≡ d′ → e ≡ e′ → f ≡ f′
+    → a ++ b ++ c ++ d ++ e ++ f ≡ a′ ++ b′ ++ c′ ++ d′ ++ e′ ++ f′
+parts-joined p q r s t u = λ i. p i ++ q i ++ r i ++ s i ++ t i ++ u i
+
+-- 31 comes first, whatever else may refuse the bytes
+pub length-fits : (image ks : List ℕ) → firstOf (unless (eqb (length image) imageLength) 31 ∷ ks) ≡ 0 → length image ≡ imageLength
+length-fits image ks e = eqb-true _ _ (passes (eqb (length image) imageLength) 31 refl (first-at _ e 0))
+
+pub accepted-length : (image : List ℕ) → imageNumber image ≡ 0 → length image ≡ imageLength
+unfolding imageNumber
+accepted-length image e = length-fits image _ e
 
 module _ (image : List ℕ) (bytes : Bytes image) (accepted : imageNumber image ≡ 0) where
-  pub accepted-length : length image ≡ imageLength
-  unfolding imageNumber
-  accepted-length = eqb-true _ _ (passes (eqb (length image) imageLength) 30 (first-at _ accepted 0))
+  fields-sound : (ltb (byte image flagsAt) 64 && stateSound (ofImage image)) ≡ true
+  unfolding imageNumber fieldsNumber
+  fields-sound = passes (ltb (byte image flagsAt) 64 && stateSound (ofImage image)) 34 refl (first-at _ accepted 3)
 
   pub accepted-sound : stateSound (ofImage image) ≡ true
-  unfolding imageNumber fieldsNumber
-  accepted-sound = and-right (ltb (byte image 15) 64) (stateSound (ofImage image)) (passes (ltb (byte image 15) 64 && stateSound (ofImage image)) 33 (first-at _ accepted 3))
+  accepted-sound = and-right (ltb (byte image flagsAt) 64) (stateSound (ofImage image)) fields-sound
 
-  flags-small : byte image 15 < 64
-  unfolding imageNumber fieldsNumber
-  flags-small = ltb-true _ _ (and-left (ltb (byte image 15) 64) (stateSound (ofImage image)) (passes (ltb (byte image 15) 64 && stateSound (ofImage image)) 33 (first-at _ accepted 3)))
+  flags-small : byte image flagsAt < 64
+  flags-small = ltb-true _ _ (and-left (ltb (byte image flagsAt) 64) (stateSound (ofImage image)) fields-sound)
 
-  mark-same : imageMark ≡ part image 0 3
+  mark-same : imageMark ≡ part image imageMarkAt 3
   unfolding imageNumber
-  mark-same = sym (same-eq _ _ (passes (sameNumbers (part image 0 3) imageMark) 31 (first-at _ accepted 1)))
+  mark-same = sym (same-eq _ _ (passes (sameNumbers (part image imageMarkAt 3) imageMark) 32 refl (first-at _ accepted 1)))
 
-  version-same : imageVersion ≡ part image 3 2
+  version-same : imageVersion ≡ part image versionAt 2
   unfolding imageNumber
-  version-same = sym (same-eq _ _ (passes (sameNumbers (part image 3 2) imageVersion) 32 (first-at _ accepted 2)))
+  version-same = sym (same-eq _ _ (passes (sameNumbers (part image versionAt 2) imageVersion) 33 refl (first-at _ accepted 2)))
 
-  word-same : (at : ℕ) → at + 2 ≤ 81 → bytesOf 2 (numberOf (part image at 2)) ≡ part image at 2
-  word-same at h = rw (part-two image at (omega (arith, accepted-length))) (word-bytes (byte image at) (byte image (at + 1)) (bytes at) (bytes (at + 1)))
+  -- the body is there
+  whole-body : imageLength ≤ length image
+  whole-body = omega (arith, accepted-length image accepted)
 
-  stack-same : wordsBytes (entries stackDepth (λ i. numberOf (part image (7 + 2 * i) 2))) ≡ part image 7 6
+  word-same : (at : ℕ) → at + 2 ≤ imageLength → bytesOf 2 (numberOf (part image at 2)) ≡ part image at 2
+  word-same at h = rw (part-two image at (omega (arith, whole-body))) (word-bytes (byte image at) (byte image (at + 1)) (bytes at) (bytes (at + 1)))
+
+  stack-same : wordsBytes (entries stackDepth (λ i. numberOf (part image (stackAt + 2 * i) 2))) ≡ part image stackAt 6
   stack-same =
-      let seven = word-same 7 (omega arith) in
-      let nine = word-same 9 (omega arith) in
-      let eleven = word-same 11 (omega arith) in
-      words-joined seven nine eleven
+      words-joined (word-same stackAt (omega arith)) (word-same (stackAt + 2) (omega arith)) (word-same (stackAt + 4) (omega arith))
       ∙ rw (
-        part-two image 7 (omega (arith, accepted-length)),
-        part-two image 9 (omega (arith, accepted-length)),
-        part-two image 11 (omega (arith, accepted-length)),
-        part-six image 7 (omega (arith, accepted-length)),
+        part-two image stackAt (omega (arith, whole-body)),
+        part-two image (stackAt + 2) (omega (arith, whole-body)),
+        part-two image (stackAt + 4) (omega (arith, whole-body)),
+        part-six image stackAt (omega (arith, whole-body)),
       )
 
-  core-same : coreBytes (ofImage image .core) ≡ part image 13 7
+  core-same : coreBytes (ofImage image .core) ≡ part image dpAt 7
   unfolding ofImage
   core-same =
-      let dp : 16 * (byte image 13 / 16) + byte image 13 % 16 ≡ byte image 13 = omega arith in
-      rw (dp, flags-byte (byte image 15) flags-small, part-seven image 13 (omega (arith, accepted-length)))
+      let dp : 16 * (byte image dpAt / 16) + byte image dpAt % 16 ≡ byte image dpAt = omega arith in
+      rw (dp, flags-byte (byte image flagsAt) flags-small, part-seven image dpAt (omega (arith, whole-body)))
 
-  cycle-same : bytesOf 6 (numberOf (part image 75 6)) ≡ part image 75 6
+  cycle-same : bytesOf 6 (numberOf (part image cycleAt 6)) ≡ part image cycleAt 6
   cycle-same =
-      rw (part-six image 75 (omega (arith, accepted-length)))
-      (cycle-bytes _ _ _ _ _ _ (bytes 75) (bytes 76) (bytes 77) (bytes 78) (bytes 79) (bytes 80))
+      rw (part-six image cycleAt (omega (arith, whole-body)))
+      (cycle-bytes _ _ _ _ _ _ (bytes cycleAt) (bytes (cycleAt + 1)) (bytes (cycleAt + 2)) (bytes (cycleAt + 3)) (bytes (cycleAt + 4)) (bytes (cycleAt + 5)))
 
-  -- the image, part by part
-  all-parts : image ≡ part image 0 3 ++ part image 3 2 ++ part image 5 2 ++ part image 7 6 ++ part image 13 7 ++ part image 20 7 ++ part image 27 48 ++ part image 75 6
-  all-parts =
-      sym (take-all 81 image (omega (arith, accepted-length)))
-      ∙ rw (take-add 75 6 image, take-add 27 48 image, take-add 20 7 image, take-add 13 7 image, take-add 7 6 image, take-add 5 2 image, take-add 3 2 image)
+  -- the body, part by part
+  body-parts : part image pcAt (imageLength - pcAt)
+      ≡ part image pcAt 2 ++ part image stackAt 6 ++ part image dpAt 7 ++ part image portsAt latches ++ part image ramAt ramBytes ++ part image cycleAt 6
+  body-parts =
+      rw (
+        part-add image pcAt (cycleAt - pcAt) 6,
+        part-add image pcAt (ramAt - pcAt) ramBytes,
+        part-add image pcAt (portsAt - pcAt) latches,
+        part-add image pcAt (dpAt - pcAt) 7,
+        part-add image pcAt (stackAt - pcAt) 6,
+      )
+
+  body-same : bodyBytes (ofImage image) ≡ part image pcAt (imageLength - pcAt)
+  unfolding ofImage
+  body-same = parts-joined (word-same pcAt (omega arith)) stack-same core-same refl (packed-unpacked (part image ramAt ramBytes)) cycle-same ∙ sym body-parts
+
+  -- the image: mark, version and body
+  three-parts : image ≡ part image imageMarkAt 3 ++ part image versionAt 2 ++ part image pcAt (imageLength - pcAt)
+  three-parts =
+      sym (take-all imageLength image (omega (arith, accepted-length image accepted)))
+      ∙ rw (take-add pcAt (imageLength - pcAt) image, take-add versionAt 2 image)
 
   pub image-same : imageOf (ofImage image) ≡ image
-  unfolding imageOf ofImage
-  image-same =
-      parts-joined mark-same version-same (word-same 5 (omega arith)) stack-same core-same refl (packed-unpacked (part image 27 48)) cycle-same ∙ sym all-parts
+  unfolding imageOf
+  image-same = (λ i. mark-same i ++ version-same i ++ body-same i) ∙ sym three-parts
 
 -- DEMAND 2, SECOND HALF
 

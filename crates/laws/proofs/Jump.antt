@@ -1,7 +1,7 @@
 -- What a jump of the timer-skipping runner says is what so many plain cycles come to, and how long a jump is.
 -- Assumes nothing.
 use mathlib.Core.Path.{_≡_, _∙_, refl, sym, ap, subst}
-use mathlib.Core.Bool.{Bool, true, false, _&&_}
+use mathlib.Core.Bool.{Bool, true, false, true≢false, _&&_}
 use mathlib.Core.List.{List, [], _∷_}
 use mathlib.Core.Option.{none}
 use Prim.Native.Nat.{ℕ, zero, suc, _+_, _-_, _*_, _/_, _%_, _<_, _≤_, min}
@@ -22,6 +22,7 @@ use Rattle.upd546.specs.declared.Timer.{Timer}
 use Rattle.upd546.specs.declared.Lines.{Lines}
 use Rattle.upd546.specs.declared.State.{State}
 use Rattle.upd546.specs.TheMachine.{inRom, byteAt, follows, past, pageOf, markOther}
+use Rattle.upd546.specs.Parts.{withParts, withTimer, setMark, setOwed, setPc}
 use Rattle.upd546.specs.Sequences.{allOf}
 use Rattle.upd546.specs.TheLineSchedule.{recordCount, recordCycle, linesAt, noneAmong, noRecord}
 use Rattle.upd546.specs.Timer.{tick, ticksLeft}
@@ -61,19 +62,7 @@ is-jcp code h =
 
 -- the state in the loop at an address, with this timer and cycle number; nothing else changes there
 abbrev inLoop : State → ℕ → Timer → ℕ → State
-inLoop s pc t n = record {
-  core = record {
-    registers = s .core .registers;
-    flow = record { pc = pc; stack = s .core .flow .stack };
-    interrupt = s .core .interrupt;
-    timer = t;
-    mark = markOther;
-    owed = 0;
-  };
-  ports = s .ports;
-  ram = s .ram;
-  cycle = record { 0 = n };
-}
+inLoop s pc t n = withParts s (setPc pc (setMark markOther (setOwed 0 (withTimer (s .core) t)))) (s .ram) (s .ports) n
 
 module _ (rom sched : List ℕ) (s : State) where
   pub cycle-executes : s .core .owed ≡ 0 → (eqb (s .core .interrupt .int) 1 && eqb (s .core .interrupt .inte) 1) ≡ false
@@ -367,9 +356,6 @@ module _ (rom sched : List ℕ) (s : State) (left j : ℕ) (e : jumpLength rom s
 
 -- WHAT A RUNNER COMPUTES
 
-absurd-test : true ≡ false → ⊥
-absurd-test e = let z : _≡_ {A = ℕ} 0 1 = cc in omega arith
-
 -- Where m is the number of cycles up to the next record: the largest is the lesser of the bound and m, rounded down to even.
 pub largest-even : (sched : List ℕ) (n m b : ℕ) → ((j : ℕ) → j ≤ m → noRecord sched (n + 1) (n + j) ≡ true)
     → ((j : ℕ) → m < j → j ≤ b → noRecord sched (n + 1) (n + j) ≡ false) → largest (jumpable sched n) b ≡ min b m - min b m % 2
@@ -382,10 +368,10 @@ largest-even sched n m (suc k) p q =
         → largest (jumpable sched n) k ≡ min k m - min k m % 2 → largest (jumpable sched n) (suc k) ≡ min (suc k) m - min (suc k) m % 2
     go true e true f ih =
         let z : suc k % 2 ≡ 0 = eqb-true (suc k % 2) 0 e in
-        let l : m < suc k → ⊥ = λ h. absurd-test (sym f ∙ q (suc k) h (omega arith)) in
+        let l : m < suc k → ⊥ = λ h. true≢false (sym f ∙ q (suc k) h (omega arith)) in
         rw (e, f, largest) (omega arith)
     go true e false f ih =
-        let l : suc k ≤ m → ⊥ = λ h. absurd-test (sym (p (suc k) h) ∙ f) in
+        let l : suc k ≤ m → ⊥ = λ h. true≢false (sym (p (suc k) h) ∙ f) in
         rw (e, f, largest) (omega arith)
     go false e u f ih =
         let z : suc k % 2 ≡ 0 → ⊥ = eqb-false (suc k % 2) 0 e in

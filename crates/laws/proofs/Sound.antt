@@ -1,5 +1,5 @@
 -- The test of 34 passes exactly at the valid states. Assumes nothing.
-use mathlib.Core.Path.{_≡_}
+use mathlib.Core.Path.{_≡_, refl}
 use mathlib.Core.Bool.{true, _||_}
 use mathlib.Core.List.{List}
 use Prim.Native.Nat.{ℕ, zero, suc, _*_, _<_, _≤_}
@@ -111,7 +111,7 @@ valid-sound s v =
 -- what 34 doesn't refuse is valid, and the other way round
 pub accepted-valid : (s : State) → stateNumber s ≡ 0 → Valid s
 unfolding stateNumber
-accepted-valid s e = sound-valid s (passes (stateSound s) 33 e)
+accepted-valid s e = sound-valid s (passes (stateSound s) 34 refl e)
 
 pub valid-accepted : (s : State) → Valid s → stateNumber s ≡ 0
 unfolding stateNumber

@@ -7,9 +7,17 @@ use lib.Dec.{eqb}
 use lib.ListN.{length, drop}
 use Rattle.upd546.specs.Ports.{Write, written, latched, logBytes, portC, portD}
 
--- the writes that a port and a value stand for: none for 0, those of OCD for 9, else one
+-- What stands for a port where C and D are written, and where none is. Every port is below both.
+abbrev pub portsCAndD : ℕ
+portsCAndD = 9
+
+abbrev pub noPort : ℕ
+noPort = 10
+
+-- the writes that a port and a value stand for: none, those of OCD, or one
 unfoldable pub writesOf : ℕ → ℕ → List Write
-writesOf port value = cond (eqb port 0) [] (cond (eqb port 9) (written portC (value % 16) ++ written portD (value / 16)) (written port value))
+writesOf port value =
+    cond (eqb port noPort) [] (cond (eqb port portsCAndD) (written portC (value % 16) ++ written portD (value / 16)) (written port value))
 
 -- the log and the latches after the writes of cycle n, and the bytes appended
 pub record Written (log ports : List ℕ) (n : ℕ) (ws : List Write) (log′ ports′ : List ℕ) (bytes : ℕ) : Type 0 where

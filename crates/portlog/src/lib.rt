@@ -12,10 +12,10 @@ ghost use Rattle.upd546.specs.Ports.{portC, portI, logRecord, logRecordLength};
 ghost use Rattle.laws.specs.Writes.{All, ValidWrite};
 ghost use Rattle.portlog.specs.Appending.{writesOf, Written};
 
-// What stands for a port where none is written, and where C and D are, from the halves of a value.
-pub const NO_PORT: u8 = 0;
-
+// What stands for a port where C and D are written, from the halves of a value, and where none is: no port has these numbers.
 pub const PORTS_C_AND_D: u8 = 9;
+
+pub const NO_PORT: u8 = 10;
 
 // OCD appends two records.
 const OCD_LENGTH: usize = 2 * LOG_RECORD;

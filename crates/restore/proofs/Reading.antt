@@ -8,16 +8,16 @@ use native.Mathlib.Omega.{arith}
 use lib.Dec.{eqb, ltb}
 use lib.ListN.{length, getD, drop, drop-of-length-le}
 use lib.Seq.{drop-cons}
-use borrow.Author.Tests.{eq-eqb, ne-eqb, eqb-true, lt-ltb, le-ltb}
+use borrow.Author.Tests.{eq-eqb, ne-eqb, lt-ltb, le-ltb}
 use Rattle.runs.specs.TwoRunners.{restoreAnswer}
 use Rattle.runs.specs.Refusals.{firstOf, unless}
-use Rattle.runs.proofs.Refusals.{first-at, passes}
 use Rattle.upd546.specs.TheMachine.{fresh}
 use Rattle.upd546.specs.Sequences.{sameNumbers}
 use Rattle.upd546.specs.Bytes.{part}
 use Rattle.upd546.specs.StateImage.{imageLength, imageMark, imageVersion, byte, ofImage, stateSound, stateNumber, fieldsNumber, imageNumber}
 use Rattle.upd546.specs.TwoRunners.{upd546}
 use Rattle.laws.proofs.Parts.{part-cons}
+use Rattle.laws.proofs.Images.{length-fits}
 use Rattle.restore.specs.Head.{headNumber}
 
 module _ (image : List ℕ) where
@@ -47,7 +47,7 @@ module _ (image : List ℕ) where
   -- an image whose head passes
   pub head-length : headNumber image ≡ 0 → length image ≡ imageLength
   unfolding headNumber
-  head-length e = eqb-true (length image) imageLength (passes (eqb (length image) imageLength) 30 (first-at _ e 0))
+  head-length e = length-fits image _ e
 
 -- THE LOOP that compares bytes with those expected, at the byte i
 module _ (bytes expected : List ℕ) (at i : ℕ) (fits : at + length expected ≤ length bytes) (more : i < length expected) where

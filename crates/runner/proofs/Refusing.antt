@@ -8,7 +8,7 @@ use lib.ListN.{length}
 use borrow.Author.Tests.{eq-eqb, ne-eqb}
 use Rattle.runs.specs.declared.Refusal.{Refusal}
 use Rattle.runs.specs.Numbers.{refusalNumber}
-use Rattle.runs.specs.TwoRunners.{refused, runNumber, plain, skipping}
+use Rattle.runs.specs.TwoRunners.{refusedRun, runNumber, plain, skipping}
 use Rattle.runs.specs.Refusals.{cycleLimit, firstOf}
 use Rattle.runs.proofs.Refusals.{refusal-some}
 use Rattle.upd546.specs.declared.State.{State}
@@ -45,7 +45,7 @@ module _ (rom sched : List ℕ) (s : State) (n : ℕ) where
         by-none h = rw (eq-eqb (length rom) romLength r, c, v, h)
 
 refused-by : (skips : Bool) (rom sched log : List ℕ) (s : State) (n k : ℕ) → k ≡ runNumber upd546 rom sched s n → (k ≡ 0 → ⊥)
-    → record { end = refused k; state = s; cycles = 0; clocks = 0; begun = 0; written = 0; steps = 0; log = log } ≡ runBy skips rom sched s log n
+    → refusedRun k s log ≡ runBy skips rom sched s log n
 unfolding plain skipping
 refused-by skips rom sched log s n zero e h = absurd (h refl)
 refused-by false rom sched log s n (suc k) e h = rw (← e)
@@ -53,6 +53,5 @@ refused-by true rom sched log s n (suc k) e h = rw (← e)
 
 -- the answer of a refused run
 pub tells-refused : (skips : Bool) (rom sched log : List ℕ) (s : State) (n : ℕ) (w : Refusal) → refusalNumber w ≡ runNumber upd546 rom sched s n
-    → record { end = refused (refusalNumber w); state = s; cycles = 0; clocks = 0; begun = 0; written = 0; steps = 0; log = log }
-    ≡ runBy skips rom sched s log n
+    → refusedRun (refusalNumber w) s log ≡ runBy skips rom sched s log n
 tells-refused skips rom sched log s n w e = refused-by skips rom sched log s n (refusalNumber w) e (refusal-some w)

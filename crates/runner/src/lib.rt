@@ -8,8 +8,10 @@ use upd546::ROM_LENGTH;
 use upd546::RunAnswer;
 use upd546::State;
 ghost use mathlib.Core.Path.{_≡_};
-ghost use Rattle.runs.specs.Numbers.{outcomeNumber};
-ghost use Rattle.runs.specs.TwoRunners.{runNumber, plain, skipping};
+ghost use mathlib.Core.List.{List};
+ghost use Prim.Native.Nat.{ℕ};
+ghost use Rattle.runs.specs.Numbers.{outcomeNumber, refusalNumber};
+ghost use Rattle.runs.specs.TwoRunners.{refusedRun, runNumber, plain, skipping};
 ghost use Rattle.upd546.specs.TwoRunners.{upd546, answerOf};
 ghost use Rattle.turns.specs.Either.{runBy};
 
@@ -65,6 +67,21 @@ fn run_accepted(
     )
 }
 
+// The answer of a refused run: the state given, and all counts 0.
+pub fn refused(why: Refusal, s: State) -> RunAnswer
+    ensures { λ r. ⌜ ((log : List ℕ) → answerOf r log ≡ refusedRun (refusalNumber why) s log) ⌝ }
+{
+    RunAnswer {
+        end: RunEnd::Refused(why),
+        state: s,
+        cycles: MachineCycles(0),
+        clocks: ClockCycles(0),
+        begun: 0,
+        written: 0,
+        steps: 0,
+    }
+}
+
 // Either runner: refused, or run.
 fn run(
     rom: &[u8],
@@ -78,15 +95,7 @@ fn run(
 {
     let by = refusal(rom, sched, s, n);
     if let Outcome::Refused(why) = by {
-        return RunAnswer {
-            end: RunEnd::Refused(why),
-            state: s,
-            cycles: MachineCycles(0),
-            clocks: ClockCycles(0),
-            begun: 0,
-            written: 0,
-            steps: 0,
-        };
+        return refused(why, s);
     }
     run_accepted(rom, sched, s, log, n.0, skips)
 }

@@ -36,7 +36,7 @@ module _ {S : Type 0} (M : Machine S) where
   run-fit rom sched s n e = record {
     panel = first-at _ e 0;
     state = first-at _ e 1;
-    limit = leb-true (M .at s + n) cycleLimit (passes (leb (M .at s + n) cycleLimit) 1 (first-at _ e 2));
+    limit = leb-true (M .at s + n) cycleLimit (passes (leb (M .at s + n) cycleLimit) 2 refl (first-at _ e 2));
   }
 
   pub fit-run : (rom sched : List ℕ) (s : S) (n : ℕ) → Fit M rom sched s n → runNumber M rom sched s n ≡ 0
@@ -46,7 +46,7 @@ module _ {S : Type 0} (M : Machine S) where
   pub save-fit : (s : S) (buffer : List ℕ) → saveNumber M s buffer ≡ 0 → (M .stateNumber s ≡ 0) × (M .imageLength ≤ length buffer)
   unfolding saveNumber
   save-fit s buffer e =
-      (first-at _ e 0, leb-true (M .imageLength) (length buffer) (passes (leb (M .imageLength) (length buffer)) 0 (first-at _ e 1)))
+      (first-at _ e 0, leb-true (M .imageLength) (length buffer) (passes (leb (M .imageLength) (length buffer)) 1 refl (first-at _ e 1)))
 
   pub fit-save : (s : S) (buffer : List ℕ) → M .stateNumber s ≡ 0 → M .imageLength ≤ length buffer → saveNumber M s buffer ≡ 0
   unfolding saveNumber firstOf

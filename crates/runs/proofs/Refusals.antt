@@ -4,7 +4,9 @@ use mathlib.Core.Bool.{Bool, true, false}
 use mathlib.Core.List.{List, [], _∷_, _++_}
 use Prim.Native.Nat.{ℕ, zero, suc, _<_}
 use native.Mathlib.Omega.{arith}
+use lib.Dec.{eqb}
 use lib.ListN.{getD}
+use borrow.Author.Tests.{eqb-false}
 use Rattle.runs.specs.declared.Refusal.{Refusal}
 use Rattle.runs.specs.declared.Refusal.the-variants as why
 use Rattle.runs.specs.Numbers.{refusalNumber}
@@ -42,9 +44,9 @@ first-append (zero ∷ ks) js = first-append ks js
 first-append (suc k ∷ ks) js = refl
 
 -- a test whose number doesn't refuse
-pub passes : (b : Bool) (k : ℕ) → unless b (suc k) ≡ 0 → b ≡ true
-passes true k e = refl
-passes false k e = absurd (omega arith)
+pub passes : (b : Bool) (k : ℕ) → eqb k 0 ≡ false → unless b k ≡ 0 → b ≡ true
+passes true k h e = refl
+passes false k h e = absurd (eqb-false k 0 h e)
 
 -- every refusal has a number
 pub numbered : (w : Refusal) → (k : ℕ) × (refusalNumber w ≡ suc k)

@@ -79,6 +79,10 @@ module _ {S : Type 0} where
     number = q .number;
   }
 
+  -- "These change nothing, with all counts 0; a refused run answers the state given": a run that is refused with number k
+  abbrev pub refusedRun : ℕ → S → List ℕ → RunAnswer S
+  refusedRun k s log = record { end = refused k; state = s; cycles = 0; clocks = 0; begun = 0; written = 0; steps = 0; log = log }
+
   abbrev pub onOut : Out S → S → (S → Ran S) → Ran S
   onOut (stop k) s go = still s (some k)
   onOut (went t w b) s go = begins w b (go t)
@@ -129,7 +133,6 @@ module _ {S : Type 0} (M : Machine S) where
 
   -- What a run answers whose refusal is k, whose cycles come to r, on the state s and the log given.
   -- "A run starts at the lent log's first byte; each record it writes into the part of the log that is still empty."
-  -- "These change nothing, with all counts 0; a refused run answers the state given"
   abbrev pub told : ℕ → Stepped S → S → List ℕ → RunAnswer S
   told zero r s log = record {
     end = endWith (r .ran .number);
@@ -141,7 +144,7 @@ module _ {S : Type 0} (M : Machine S) where
     steps = r .steps;
     log = r .ran .bytes ++ drop (length (r .ran .bytes)) log;
   }
-  told (suc k) r s log = record { end = refused (suc k); state = s; cycles = 0; clocks = 0; begun = 0; written = 0; steps = 0; log = log }
+  told (suc k) r s log = refusedRun (suc k) s log
 
   -- "The plain one takes one step a cycle."
   abbrev pub stepwise : Ran S → Stepped S

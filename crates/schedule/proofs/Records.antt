@@ -125,7 +125,7 @@ in-order sched (suc k) i e h =
 
 above-last : (sched : List ℕ) (i : ℕ) → orderNumber sched (suc i) ≡ 0 → recordCycle sched i < recordCycle sched (suc i)
 unfolding orderNumber
-above-last sched i e = ltb-true _ _ (passes (ltb (recordCycle sched i) (recordCycle sched (suc i))) 13 e)
+above-last sched i e = ltb-true _ _ (passes (ltb (recordCycle sched i) (recordCycle sched (suc i))) 14 refl e)
 
 pub rises : (sched : List ℕ) → scheduleNumber sched ≡ 0 → (i k : ℕ) → i < k → k < recordCount sched → recordCycle sched i < recordCycle sched k
 unfolding scheduleNumber

@@ -1,5 +1,5 @@
 -- What holds of a run that isn't refused. Assumes nothing.
-use mathlib.Core.Path.{_≡_}
+use mathlib.Core.Path.{_≡_, refl}
 use mathlib.Core.List.{List}
 use Prim.Native.Nat.{ℕ, _+_, _≤_}
 use lib.Dec.{eqb, leb}
@@ -28,8 +28,8 @@ run-taken rom sched s n e =
     let panel = first-at _ e 0 in
     record {
       panel = panel;
-      rom-length = eqb-true (length rom) romLength (passes (eqb (length rom) romLength) 20 (first-at _ panel 0));
+      rom-length = eqb-true (length rom) romLength (passes (eqb (length rom) romLength) 21 refl (first-at _ panel 0));
       schedule = first-at _ panel 1;
       state = first-at _ e 1;
-      limit = leb-true (s .cycle .0 + n) cycleLimit (passes (leb (s .cycle .0 + n) cycleLimit) 1 (first-at _ e 2));
+      limit = leb-true (s .cycle .0 + n) cycleLimit (passes (leb (s .cycle .0 + n) cycleLimit) 2 refl (first-at _ e 2));
     }

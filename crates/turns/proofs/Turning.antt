@@ -1,6 +1,6 @@
 -- Where the loop of a run stands, and where a turn takes it. Assumes nothing.
 use mathlib.Core.Path.{_≡_, _∙_, refl, sym, ap, ap₂, subst}
-use mathlib.Core.Bool.{Bool, true, false}
+use mathlib.Core.Bool.{Bool, true, false, false≢true}
 use mathlib.Core.List.{List, [], _++_, append-assoc, append-nil}
 use mathlib.Core.Option.{Option, none, some}
 use Prim.Native.Nat.{ℕ, zero, suc, _+_, _-_, _*_, _<_, _≤_}
@@ -18,6 +18,7 @@ use Rattle.runs.specs.OneByOne.{OneByOne, none as no-cycle, also}
 use Rattle.runs.proofs.Loop.{sofar, onwards, spanOf, Halfway, loop-starts, loop-ends, loop-stops, loop-goes, loop-goes-singly}
 use Rattle.upd546.specs.declared.Core.{Core}
 use Rattle.upd546.specs.declared.State.{State}
+use Rattle.upd546.specs.Parts.{stateOf}
 use Rattle.upd546.specs.TheLineSchedule.{scheduleNumber}
 use Rattle.upd546.specs.OneMachineCycle.{cycle}
 use Rattle.upd546.specs.TwoRunners.{jumpLength, upd546}
@@ -33,7 +34,6 @@ use Rattle.schedule.specs.declared.Cursor.{Cursor}
 use Rattle.schedule.specs.Cursor.{Stands}
 use Rattle.schedule.proofs.Standing.{next-record, next-some, stays}
 use Rattle.laws.proofs.Tails.{mid-tail, put-tail}
-use Rattle.effect.specs.Answer.{stateOf}
 use Rattle.burst.specs.declared.Stretch.{Stretch}
 use Rattle.burst.specs.Turn.{Turn, Turned}
 use Rattle.jump.specs.Boundary.{Boundary, Jumpable}
@@ -91,9 +91,6 @@ starts skips rom sched log n s cursor e br bs k = record {
   log-is = refl;
   half = rw (sub-zero n) (loop-starts upd546 rom sched skips (length log) n s);
 }
-
-differ : false ≡ true → ⊥
-differ e = let z : _≡_ {A = ℕ} 0 1 = cc in omega arith
 
 -- CYCLES ONE BY ONE keep what a cycle keeps
 record Kept (s t : State) (d b m : ℕ) : Type 0 where
@@ -199,7 +196,7 @@ module _ {skips : Bool} {rom sched log₀ : List ℕ} {n : ℕ} {s : State} {log
     panel = record { rom-bytes = h .rom-bytes; sched-bytes = h .sched-bytes; not-refused = taken .panel }
 
     no-jump-here : (b : Bool) → 0 ≡ jumpBy b rom sched t (n - done) → b ≡ true → jumpLength rom sched t (n - done) ≡ 0
-    no-jump-here false e q = absurd (differ q)
+    no-jump-here false e q = absurd (false≢true q)
     no-jump-here true e q = sym e
 
     pub turn-asks : (table positions : List ℕ) → table ≡ instructionTable → positions ≡ positionTable → 0 ≡ jumpBy skips rom sched t (n - done)

@@ -22,7 +22,7 @@ ghost use Rattle.runs.specs.Numbers.{stopNumber};
 ghost use Rattle.runs.specs.Refusals.{cycleLimit};
 ghost use Rattle.runs.specs.Reports.{clocksPerCycle, clocksOf};
 ghost use Rattle.upd546.specs.TwoRunners.{answerOf};
-ghost use Rattle.effect.specs.Answer.{stateOf};
+ghost use Rattle.upd546.specs.Parts.{stateOf};
 ghost use Rattle.jump.specs.Boundary.{Boundary};
 ghost use Rattle.laws.specs.Stops.{StopNumber};
 ghost use Rattle.turns.specs.Either.{Ahead, Set, runBy};

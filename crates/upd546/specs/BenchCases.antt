@@ -8,7 +8,7 @@ use Rattle.runs.specs.TwoRunners.{End, finished, stopped, refused, RunAnswer, u
 use Rattle.upd546.specs.declared.Core.{Core}
 use Rattle.upd546.specs.declared.State.{State}
 use Rattle.upd546.specs.TheMachine.{fresh, newest}
-use Rattle.upd546.specs.Parts.{setAcc, setCarry, setDph, setDpl, setPc, setInt, setInte, setMark, setOwed}
+use Rattle.upd546.specs.Parts.{withCore, stateOf, setAcc, setCarry, setDph, setDpl, setPc, setInt, setInte, setMark, setOwed}
 use Rattle.upd546.specs.StateImage.{imageOf, ofImage, stateNumber, imageNumber}
 use Rattle.upd546.specs.Sequences.{sameNumbers}
 use Rattle.upd546.specs.TwoRunners.{upd546}
@@ -33,7 +33,7 @@ romAt a bytes = replicate a 0 ++ bytes ++ replicate (2000 - (a + length bytes)) 
 
 -- the fresh state, whose fields a row has in figures, with another core
 abbrev pub from : (Core → Core) → State
-from f = record { core = f (fresh .core); ports = fresh .ports; ram = fresh .ram; cycle = fresh .cycle }
+from f = withCore fresh (f (fresh .core))
 
 -- a RAM of zeros but for the word at a place: rows 0 to 4 and 7 one after the other, 16 words each, so X, word 7F, is at 95
 abbrev pub ramWith : ℕ → ℕ → List ℕ
@@ -41,11 +41,11 @@ ramWith place v = replicate place 0 ++ v ∷ replicate (95 - place) 0
 
 -- and with such a RAM
 abbrev pub fromWord : (Core → Core) → ℕ → ℕ → State
-fromWord f place v = record { core = f (fresh .core); ports = fresh .ports; ram = ramWith place v; cycle = fresh .cycle }
+fromWord f place v = stateOf (f (fresh .core)) (ramWith place v) (fresh .ports) 0
 
 -- and with latches C to I
 abbrev pub driving : (Core → Core) → List ℕ → State
-driving f ports = record { core = f (fresh .core); ports = ports; ram = fresh .ram; cycle = fresh .cycle }
+driving f ports = stateOf (f (fresh .core)) (fresh .ram) ports 0
 
 -- the state after n cycles of a ROM with no schedule
 abbrev pub stateAfter : ℕ → List ℕ → State → State

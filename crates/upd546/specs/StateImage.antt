@@ -97,17 +97,19 @@ packed (a ∷ b ∷ ws) = (16 * a + b) ∷ packed ws
 abbrev pub coreBytes : Core → List ℕ
 coreBytes c = dpOf c ∷ c .registers .acc ∷ flagsByte c ∷ c .mark ∷ c .owed ∷ c .timer .register ∷ c .timer .counter ∷ []
 
--- The image of a state. "5-6 PC; 7-12 stack, newest first; 13 DP; .. 20-26 ports C to I; 27-74 RAM ..; 75-80 cycle. Big-endian."
-unfoldable pub imageOf : State → List ℕ
-imageOf s =
-    imageMark
-    ++ imageVersion
-    ++ bytesOf 2 (s .core .flow .pc)
+-- "5-6 PC; 7-12 stack, newest first; 13 DP; .. 20-26 ports C to I; 27-74 RAM ..; 75-80 cycle. Big-endian."
+abbrev pub bodyBytes : State → List ℕ
+bodyBytes s =
+    bytesOf 2 (s .core .flow .pc)
     ++ wordsBytes (s .core .flow .stack)
     ++ coreBytes (s .core)
     ++ s .ports
     ++ packed (s .ram)
     ++ bytesOf 6 (s .cycle .0)
+
+-- The image of a state.
+unfoldable pub imageOf : State → List ℕ
+imageOf s = imageMark ++ imageVersion ++ bodyBytes s
 
 abbrev pub byte : List ℕ → ℕ → ℕ
 byte image at = getD image at 0

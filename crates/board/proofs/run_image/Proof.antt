@@ -19,13 +19,18 @@ restore-requires c κs = search needs
 enum-known-outcome : tie.Need-enum-known-outcome
 enum-known-outcome c = search needs
 
+refused-requires : tie.Need-refused-requires
+refused-requires c κs = search needs
+
 returns : tie.Need-returns
 returns c =
-    let at-restore = c .before .before .before .before in
+    let at-outcome = c .before .before in
+    let at-restore = at-outcome .before .before .before in
     let a = at-restore .before .before .before .before .before .args in
-    let w = c .before .outcome .given in
+    let w = at-outcome .outcome .given in
     let same = sym (ap (λ (o : Outcome). restoreOf (record { outcome = o; state = at-restore .restore .result .state })) (w .1)) ∙ at-restore .restore .ensures in
-    refused-image upd546 (refusalNumber (w .0 .0)) _ (kindOf (a .runner)) (now (a .image)) (now (a .rom)) (now (a .schedule)) (now (a .log)) (a .n)
+    c .refused .ensures (now (a .log))
+    ∙ refused-image upd546 (refusalNumber (w .0 .0)) _ (kindOf (a .runner)) (now (a .image)) (now (a .rom)) (now (a .schedule)) (now (a .log)) (a .n)
     (refusal-some (w .0 .0)) same
 
 enum-told : tie.Need-enum-told
@@ -75,6 +80,7 @@ run-image-spec =
     (tie.spec
     restore-requires
     enum-known-outcome
+    refused-requires
     returns
     enum-told
     run-plain-requires

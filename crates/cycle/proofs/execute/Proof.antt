@@ -4,7 +4,8 @@ use Prim.Native.Nat.{_+_}
 use denote.Ref.{now}
 use Rattle.runs.specs.Machine.{Out}
 use Rattle.upd546.specs.declared.State.{State}
-use Rattle.effect.specs.Answer.{stateOf, answerOn}
+use Rattle.upd546.specs.Parts.{stateOf}
+use Rattle.effect.specs.Answer.{answerOn}
 use Rattle.cycle.proofs.Executing.{holds-fetch, outcome-same, begins, outputs}
 use borrow.Author.Needs.{needs}
 use Rattle.cycle.proofs.execute.Statement.{statement}

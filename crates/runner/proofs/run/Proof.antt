@@ -13,11 +13,17 @@ refusal-requires c κs = search needs
 enum-known-by : tie.Need-enum-known-by
 enum-known-by c = search needs
 
+refused-requires : tie.Need-refused-requires
+refused-requires c κs = search needs
+
 returns : tie.Need-returns
 returns c =
-    let a = c .before .before .before .before .before .before .before .args in
-    let w = c .before .by .given in
-    tells-refused (a .skips) (now (a .rom)) (now (a .sched)) (now (a .log)) (a .s) (a .n .0) (w .0 .0) (sym (ap outcomeNumber (w .1)) ∙ c .before .before .before .refusal .ensures)
+    let at-by = c .before .before in
+    let at-refusal = at-by .before .before in
+    let a = at-refusal .before .before .before .before .args in
+    let w = at-by .by .given in
+    c .refused .ensures (now (a .log))
+    ∙ tells-refused (a .skips) (now (a .rom)) (now (a .sched)) (now (a .log)) (a .s) (a .n .0) (w .0 .0) (sym (ap outcomeNumber (w .1)) ∙ at-refusal .refusal .ensures)
 
 enum-told : tie.Need-enum-told
 enum-told c = search needs
@@ -37,6 +43,7 @@ run-spec =
     (tie.spec
     refusal-requires
     enum-known-by
+    refused-requires
     returns
     enum-told
     run-accepted-requires

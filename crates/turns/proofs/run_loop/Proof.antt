@@ -5,7 +5,7 @@ use Prim.Native.Nat.{_+_, _-_}
 use native.Mathlib.Nat.{add-zero}
 use native.Mathlib.Omega.{arith}
 use denote.Ref.{now}
-use Rattle.effect.specs.Answer.{stateOf}
+use Rattle.upd546.specs.Parts.{stateOf}
 use Rattle.turns.specs.Either.{jumpBy}
 use Rattle.turns.proofs.Turning.{At, Forward, Jumps, Turns, starts, limit, schedule-taken, finishes, boundary, turn-asks, jumpable, within-run, jumps-forward, stops, stop-length, stop-known, counts, turn-forward}
 use borrow.Author.Needs.{needs}
