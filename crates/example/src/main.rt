@@ -1,5 +1,6 @@
-// How another crate uses the libraries: a board keeps a machine and a day's log. The panel runs for three cycles, is kept as bytes, and
-// goes on from them after a switch-off, by the other runner, on the part of the log that is still empty; then the bytes are damaged.
+// How another crate uses the libraries: a board keeps a machine and a day's log. The machine is lent for a run of three cycles, is kept as
+// bytes, and goes on from them after a switch-off, by the other runner, on the part of the log that is still empty; then the bytes are
+// damaged.
 // The ROM is document 01's example: OCD A5, LI 3, OE, and then a code that is none.
 use driver::DriveAnswer;
 use driver::KeptMachine;
@@ -12,6 +13,10 @@ use upd546::LOG_RECORD;
 use upd546::ROM_LENGTH;
 use upd546::layout::DP_AT;
 use upd546::layout::IMAGE_LENGTH;
+ghost use mathlib.Core.Path.{_≡_};
+ghost use Rattle.runs.specs.Lists.{runAnswer};
+ghost use Rattle.upd546.specs.TwoRunners.{upd546};
+ghost use Rattle.driver.specs.Lending.{kindOf, broughtTo};
 
 // 10 cycles in two runs: each run of n cycles has 8n + 8 bytes of it.
 const LOG_LENGTH: usize = 8 * 10 + 16;
@@ -41,7 +46,7 @@ fn main() {
 fn evening(rom: &[u8], log: &mut [u8], image: &mut [u8]) -> Told {
     let schedule = [0u8; 0];
     let state = upd546::fresh_state();
-    let answer = driver::advance(
+    let answer = lend(
         KeptMachine { state },
         Runner::Plain,
         rom,
@@ -56,6 +61,23 @@ fn evening(rom: &[u8], log: &mut [u8], image: &mut [u8]) -> Told {
         out,
         at: answer.report.written,
     }
+}
+
+// The machine stands in a local, and is lent for the run. A function that lends a struct is proved by hand, in proofs/lend; whoever calls
+// this one, or `driver::advance`, which says the same, needs no such proof.
+fn lend(
+    start: KeptMachine,
+    kind: Runner,
+    rom: &[u8],
+    schedule: &[u8],
+    log: &mut [u8],
+    n: MachineCycles,
+) -> DriveAnswer
+    ensures { λ r. ⌜ broughtTo (r .report) (r .machine) (now (log .exit)) ≡ runAnswer upd546 (kindOf kind) (now (rom .entry)) (now (schedule .entry)) (start .state) (now (log .entry)) (n .0) ⌝ }
+{
+    let mut machine = start;
+    let report = driver::drive(&mut machine, kind, rom, schedule, log, n);
+    DriveAnswer { machine, report }
 }
 
 // The bytes are restored, and the panel goes on by the timer-skipping runner. It stops at the code that is none, with number 23.
