@@ -12,7 +12,7 @@ use Rattle.runs.specs.TwoRunners.{SaveAnswer, saveAnswer}
 use Rattle.upd546.specs.TheMachine.{fresh}
 use Rattle.upd546.specs.TwoRunners.{upd546}
 use Rattle.calls.specs.Call.{BoardCall, BoardAnswer, callAnswer}
-use Rattle.waiting.specs.WaitingTimes.{nothing, waitingTimes}
+use Rattle.waiting.specs.WaitingTimes.{startOfDay, waitingTimes}
 use Rattle.report.specs.Parts.{noParts, partRead}
 use Rattle.report.proofs.Parts.{reads-on, not-whole}
 use Rattle.streams.specs.Streams.{Wrote}
@@ -38,10 +38,10 @@ fronts {text} {before} {after} {r} e h = record {
 }
 
 -- before the first part nothing is carried; a part that isn't whole records is refused either way
-pub first-read : (part : List ℕ) → partRead noParts part ≡ waitingTimes part nothing
+pub first-read : (part : List ℕ) → partRead noParts part ≡ waitingTimes part startOfDay
 first-read part = go (eqb (length part % 8) 0) refl
   where
-    go : (whole : Bool) → eqb (length part % 8) 0 ≡ whole → partRead noParts part ≡ waitingTimes part nothing
+    go : (whole : Bool) → eqb (length part % 8) 0 ≡ whole → partRead noParts part ≡ waitingTimes part startOfDay
     go true w = sym (reads-on noParts part (eqb-true (length part % 8) 0 w) refl)
     go false n = sym (not-whole noParts part (eqb-false (length part % 8) 0 n))
 

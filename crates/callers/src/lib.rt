@@ -15,7 +15,7 @@ ghost use lib.ListN.{length};
 ghost use Rattle.runs.specs.TwoRunners.{saveAnswer, restoreAnswer};
 ghost use Rattle.upd546.specs.TwoRunners.{upd546, saveOf, restoreOf};
 ghost use Rattle.upd546.specs.Reports.{decimal, traceText};
-ghost use Rattle.waiting.specs.WaitingTimes.{nothing, waitingTimes};
+ghost use Rattle.waiting.specs.WaitingTimes.{startOfDay, waitingTimes};
 ghost use Rattle.report.specs.Parts.{partRead};
 ghost use Rattle.report.specs.Texts.{waitsText};
 ghost use Rattle.streams.specs.Streams.{Wrote};
@@ -85,7 +85,7 @@ pub fn panel_text(input: &[u8], out: &mut [u8; PANEL_TEXT]) -> usize
 
 // The first part of a log is read as a log of its own.
 pub fn first_part(part: &[u8]) -> Reading
-    ensures { λ r. ⌜ r ≡ waitingTimes (now (part .entry)) nothing ⌝ }
+    ensures { λ r. ⌜ r ≡ waitingTimes (now (part .entry)) startOfDay ⌝ }
 {
     report::part_read(report::no_parts(), part)
 }

@@ -14,9 +14,9 @@ use Rattle.driver.specs.declared.Runner.{Runner}
 use Rattle.driver.specs.declared.Runner.the-variants.{Plain, Skipping}
 
 -- "by the plain or the timer-skipping runner"
-abbrev pub kindOf : Runner → Kind
-kindOf Plain = plainOne
-kindOf Skipping = skippingOne
+abbrev pub runnerKind : Runner → Kind
+runnerKind Plain = plainOne
+runnerKind Skipping = skippingOne
 
 -- A run's report, with the machine and the lent log as they stand when the run returns, in the terms of the definitions.
 abbrev pub broughtTo : Report → KeptMachine → List ℕ → RunAnswer State

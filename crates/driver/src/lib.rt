@@ -13,7 +13,7 @@ ghost use Prim.Native.Nat.{ℕ};
 ghost use lib.ListN.{drop};
 ghost use Rattle.runs.specs.Lists.{runAnswer};
 ghost use Rattle.upd546.specs.TwoRunners.{upd546, answerOf};
-ghost use Rattle.driver.specs.Lending.{kindOf, broughtTo, keptBefore};
+ghost use Rattle.driver.specs.Lending.{runnerKind, broughtTo, keptBefore};
 
 // The machine that the board keeps.
 pub struct KeptMachine {
@@ -73,7 +73,7 @@ pub fn advance(
     log: &mut [u8],
     n: MachineCycles,
 ) -> DriveAnswer
-    ensures { λ r. ⌜ broughtTo (r .report) (r .machine) (now (log .exit)) ≡ runAnswer upd546 (kindOf kind) (now (rom .entry)) (now (sched .entry)) (machine .state) (now (log .entry)) (n .0) ⌝ }
+    ensures { λ r. ⌜ broughtTo (r .report) (r .machine) (now (log .exit)) ≡ runAnswer upd546 (runnerKind kind) (now (rom .entry)) (now (sched .entry)) (machine .state) (now (log .entry)) (n .0) ⌝ }
 {
     let s = machine.state;
     match kind {
@@ -93,7 +93,7 @@ pub fn advance_from(
     at: usize,
     n: MachineCycles,
 ) -> DriveAnswer
-    ensures { λ r. ⌜ broughtTo (r .report) (r .machine) (now (log .exit)) ≡ keptBefore at (now (log .entry)) (runAnswer upd546 (kindOf kind) (now (rom .entry)) (now (sched .entry)) (machine .state) (drop at (now (log .entry))) (n .0)) ⌝ }
+    ensures { λ r. ⌜ broughtTo (r .report) (r .machine) (now (log .exit)) ≡ keptBefore at (now (log .entry)) (runAnswer upd546 (runnerKind kind) (now (rom .entry)) (now (sched .entry)) (machine .state) (drop at (now (log .entry))) (n .0)) ⌝ }
 {
     let end = log.len();
     if end < at {
@@ -111,7 +111,7 @@ pub fn drive(
     log: &mut [u8],
     n: MachineCycles,
 ) -> Report
-    ensures { λ r. ⌜ broughtTo r (now (machine .exit)) (now (log .exit)) ≡ runAnswer upd546 (kindOf kind) (now (rom .entry)) (now (sched .entry)) (now (machine .entry) .state) (now (log .entry)) (n .0) ⌝ }
+    ensures { λ r. ⌜ broughtTo r (now (machine .exit)) (now (log .exit)) ≡ runAnswer upd546 (runnerKind kind) (now (rom .entry)) (now (sched .entry)) (now (machine .entry) .state) (now (log .entry)) (n .0) ⌝ }
 {
     let m = *machine;
     let a = advance(m, kind, rom, sched, log, n);

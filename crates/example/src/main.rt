@@ -16,7 +16,7 @@ use upd546::layout::IMAGE_LENGTH;
 ghost use mathlib.Core.Path.{_≡_};
 ghost use Rattle.runs.specs.Lists.{runAnswer};
 ghost use Rattle.upd546.specs.TwoRunners.{upd546};
-ghost use Rattle.driver.specs.Lending.{kindOf, broughtTo};
+ghost use Rattle.driver.specs.Lending.{runnerKind, broughtTo};
 
 // 10 cycles in two runs: each run of n cycles has 8n + 8 bytes of it.
 const LOG_LENGTH: usize = 8 * 10 + 16;
@@ -73,7 +73,7 @@ fn lend(
     log: &mut [u8],
     n: MachineCycles,
 ) -> DriveAnswer
-    ensures { λ r. ⌜ broughtTo (r .report) (r .machine) (now (log .exit)) ≡ runAnswer upd546 (kindOf kind) (now (rom .entry)) (now (schedule .entry)) (start .state) (now (log .entry)) (n .0) ⌝ }
+    ensures { λ r. ⌜ broughtTo (r .report) (r .machine) (now (log .exit)) ≡ runAnswer upd546 (runnerKind kind) (now (rom .entry)) (now (schedule .entry)) (start .state) (now (log .entry)) (n .0) ⌝ }
 {
     let mut machine = start;
     let report = driver::drive(&mut machine, kind, rom, schedule, log, n);

@@ -25,7 +25,7 @@ use Rattle.upd546.specs.StateImage.{stateSound, stateNumber}
 use Rattle.upd546.specs.TwoRunners.{panelNumber, upd546}
 use Rattle.laws.proofs.Images.{cycle-back}
 use Rattle.schedule.proofs.Records.{by-order, by-records, none-refused, one-more}
-use Rattle.generator.specs.Loads.{drawn, drawnBytes, romOf, cycleFrom, recordFrom, standsAt, lastCycle, recordOf, scheduleOf}
+use Rattle.generator.specs.Loads.{drawn, drawnBytes, romOf, cycleFrom, recordFrom, standsAt, lastDrawn, recordOf, scheduleOf}
 use Rattle.generator.specs.EveryLoad.{AcceptedSchedule, EverySchedule, EveryRom, EveryLoad, EveryBeginning}
 use Rattle.generator.proofs.Loads.{length-drawn, length-record, length-schedule, drawn-byte, gap-within, cycle-most}
 
@@ -58,15 +58,15 @@ module _ (seed m i : ℕ) (h : i < m) (few : m ≤ maxRecords) where
   unfolding recordFrom
   last-byte = byte-at 9
 
-  cycle-at : recordCycle (scheduleOf seed m) i ≡ lastCycle seed (suc i)
-  unfolding recordCycle recordFrom lastCycle
+  cycle-at : recordCycle (scheduleOf seed m) i ≡ lastDrawn seed (suc i)
+  unfolding recordCycle recordFrom lastDrawn
   cycle-at =
       ap (λ (l : List ℕ). numberOf (take 6 l)) (at-place seed m i h .1)
-      ∙ cycle-back _ (omega (arith, cycle-most seed i, gap-within (lastCycle seed i) (standsAt seed i) .1))
+      ∙ cycle-back _ (omega (arith, cycle-most seed i, gap-within (lastDrawn seed i) (standsAt seed i) .1))
 
-rises : (seed i : ℕ) → lastCycle seed i < lastCycle seed (suc i)
-unfolding lastCycle
-rises seed i = gap-within (lastCycle seed i) (standsAt seed i) .0
+rises : (seed i : ℕ) → lastDrawn seed i < lastDrawn seed (suc i)
+unfolding lastDrawn
+rises seed i = gap-within (lastDrawn seed i) (standsAt seed i) .0
 
 -- "by record 13 .., 14": neither
 in-order : (seed m i : ℕ) → i < m → m ≤ maxRecords → orderNumber (scheduleOf seed m) i ≡ 0
@@ -74,8 +74,8 @@ unfolding orderNumber
 in-order seed m zero h few = refl
 in-order seed m (suc i) h few =
     let sched = scheduleOf seed m in
-    let earlier : recordCycle sched i ≡ lastCycle seed (suc i) = cycle-at seed m i (omega arith) few in
-    let later : recordCycle sched (suc i) ≡ lastCycle seed (suc (suc i)) = cycle-at seed m (suc i) h few in
+    let earlier : recordCycle sched i ≡ lastDrawn seed (suc i) = cycle-at seed m i (omega arith) few in
+    let later : recordCycle sched (suc i) ≡ lastDrawn seed (suc (suc i)) = cycle-at seed m (suc i) h few in
     rw (lt-ltb (recordCycle sched i) (recordCycle sched (suc i)) (rw (earlier, later) (rises seed (suc i))))
 
 none-refuses : (seed m k : ℕ) → k ≤ m → m ≤ maxRecords → recordsNumber (scheduleOf seed m) k ≡ 0
@@ -208,7 +208,7 @@ record-bytes last s =
 schedule-bytes : (seed m : ℕ) → Bytes (scheduleOf seed m)
 unfolding scheduleOf
 schedule-bytes seed zero = no-byte
-schedule-bytes seed (suc m) = bytes-append (scheduleOf seed m) (recordOf seed m) (schedule-bytes seed m) (record-bytes (lastCycle seed m) (standsAt seed m))
+schedule-bytes seed (suc m) = bytes-append (scheduleOf seed m) (recordOf seed m) (schedule-bytes seed m) (record-bytes (lastDrawn seed m) (standsAt seed m))
 
 pub every-load : EveryLoad
 every-load seed seed′ m few =

@@ -24,7 +24,7 @@ use Rattle.calls.proofs.Call.{done-image}
 use Rattle.calls.proofs.EveryCall.{saves-over, back}
 use Rattle.calls.proofs.Chip.{every-call-tells-its-run}
 use Rattle.listing.specs.declared.Ended.{Ended}
-use Rattle.listing.specs.Texts.{EndsAs, endedBy, answerText}
+use Rattle.listing.specs.Texts.{TellsRun, endedBy, answerText}
 use Rattle.listing.proofs.Inputs.{sound}
 
 -- a save of the fresh state over an image's bytes leaves its image
@@ -42,12 +42,12 @@ module _ (rom sched log report : List ℕ) (n : ℕ) where
   -- what the call answers and leaves
   pub call-ends : (image : List ℕ) {k : ℕ} {image′ log′ report′ : List ℕ} → image ≡ imageOf fresh → length log < 2 ^ 64 → reportLength ≤ length report
       → record { number = k; image = image′; log = log′; report = report′ } ≡ callAnswer upd546 (freshCall image)
-      → EndsAs (plain upd546 rom sched fresh log n) (endedBy k report′) log′
+      → TellsRun (plain upd546 rom sched fresh log n) (endedBy k report′) log′
   call-ends image {k} {image′} {log′} {report′} e small long same =
       let told : TellsItsRun upd546 (freshCall image) = every-call-tells-its-run (freshCall image) small long in
       let z : BoardAnswer = record { number = k; image = image′; log = log′; report = report′ } in
-      subst (λ (a : RunAnswer State). EndsAs a (endedBy (z .number) (z .report)) (z .log)) (fresh-run image e)
-      (subst (λ (z : BoardAnswer). EndsAs (runOf upd546 (freshCall image)) (endedBy (z .number) (z .report)) (z .log)) (sym same)
+      subst (λ (a : RunAnswer State). TellsRun a (endedBy (z .number) (z .report)) (z .log)) (fresh-run image e)
+      (subst (λ (z : BoardAnswer). TellsRun (runOf upd546 (freshCall image)) (endedBy (z .number) (z .report)) (z .log)) (sym same)
       (record {
         number = told .number;
         cycles = told .counts .cycles;
@@ -56,8 +56,8 @@ module _ (rom sched log report : List ℕ) (n : ℕ) where
         same-log = told .log;
       }))
 
-pub same-end : {a : RunAnswer State} {ended ended′ : Ended} {log : List ℕ} → ended ≡ ended′ → EndsAs a ended′ log → EndsAs a ended log
-same-end {a} {log = log} e s = subst (λ (z : Ended). EndsAs a z log) (sym e) s
+pub same-end : {a : RunAnswer State} {ended ended′ : Ended} {log : List ℕ} → ended ≡ ended′ → TellsRun a ended′ log → TellsRun a ended log
+same-end {a} {log = log} e s = subst (λ (z : Ended). TellsRun a z log) (sym e) s
 
 -- THE TEXT
 
@@ -66,7 +66,7 @@ or-true true = refl
 or-true false = refl
 
 -- by the number alone, as by the end
-end-text : (a : RunAnswer State) (ended : Ended) (log : List ℕ) (e : End) → a .end ≡ e → NumberTells e → EndsAs a ended log
+end-text : (a : RunAnswer State) (ended : Ended) (log : List ℕ) (e : End) → a .end ≡ e → NumberTells e → TellsRun a ended log
     → answerText ended log ≡ onEnd e a
 end-text a ended log finished p t s =
     let none : ended .number ≡ 0 = s .number ∙ ap numberOfEnd p in
@@ -80,7 +80,7 @@ end-text a ended log (refused (suc k)) p t s =
     rw (number, ne-eqb (suc k) 0 (λ (z : suc k ≡ 0). omega arith), t)
 
 -- the text of a call is the run's
-pub run-text : (rom sched log : List ℕ) (n : ℕ) (ended : Ended) {log′ : List ℕ} → EndsAs (plain upd546 rom sched fresh log n) ended log′
+pub run-text : (rom sched log : List ℕ) (n : ℕ) (ended : Ended) {log′ : List ℕ} → TellsRun (plain upd546 rom sched fresh log n) ended log′
     → answerText ended log′ ≡ runText rom sched log n
 unfolding runText
 run-text rom sched log n ended {log′} s =

@@ -14,7 +14,7 @@ use Rattle.laws.specs.Records.{Records}
 use Rattle.laws.proofs.Records.{port-at, value-at, every-run-writes-records}
 use Rattle.listing.specs.declared.Ended.{Ended}
 use Rattle.listing.specs.Records.{Recorded}
-use Rattle.listing.specs.Texts.{EndsAs}
+use Rattle.listing.specs.Texts.{TellsRun}
 
 -- so many bytes of a log that are records
 record-log : {a b : ℕ} (written : ℕ) (log : List ℕ) → written ≤ length log → Records a b (take written log) → Recorded written log
@@ -51,5 +51,5 @@ module _ (rom sched : List ℕ) (br : Bytes rom) (bs : Bytes sched) (s : State) 
   recorded = record-log _ _ fits (every-run-writes-records plainOne rom sched s log n br bs)
 
 -- the same of what a call tells of a run
-pub by-end : {b : RunAnswer State} {ended : Ended} {log′ : List ℕ} → EndsAs b ended log′ → Recorded (b .written) (b .log) → Recorded (ended .written) log′
+pub by-end : {b : RunAnswer State} {ended : Ended} {log′ : List ℕ} → TellsRun b ended log′ → Recorded (b .written) (b .log) → Recorded (ended .written) log′
 by-end e p = rw (e .written, e .same-log) p

@@ -20,7 +20,7 @@ abbrev pub endedBy : ℕ → List ℕ → Ended
 endedBy k report = record { number = k; cycles = record { 0 = numberAt report 0 8 }; begun = numberAt report 8 8; written = numberAt report 16 8 }
 
 -- they are those of a run, and the log is the run's
-pub record EndsAs (a : RunAnswer State) (ended : Ended) (log : List ℕ) : Type 0 where
+pub record TellsRun (a : RunAnswer State) (ended : Ended) (log : List ℕ) : Type 0 where
   pub number : ended .number ≡ numberOfEnd (a .end)
   pub cycles : ended .cycles .0 ≡ a .cycles
   pub begun : ended .begun ≡ a .begun

@@ -18,7 +18,7 @@ ghost use Rattle.calls.specs.Call.{reportLength};
 ghost use Rattle.text.specs.Writing.{Appended};
 ghost use Rattle.listing.specs.Writing.{lineLength, endLength, textLength, endLine};
 ghost use Rattle.listing.specs.Records.{Legible, Recorded};
-ghost use Rattle.listing.specs.Texts.{EndsAs, endedBy, endedText, answerText, Reportable, Traced};
+ghost use Rattle.listing.specs.Texts.{TellsRun, endedBy, endedText, answerText, Reportable, Traced};
 
 // "n (4 bytes, big-endian)"
 const COUNT_LENGTH: usize = 4;
@@ -121,7 +121,7 @@ fn put_answer(out: &mut [u8], ended: Ended, log: &[u8]) -> usize
 
 // "runs a fresh state on the plain runner": the board's call on the image of a fresh state.
 fn call_fresh(rom: &[u8], sched: &[u8], log: &mut [u8], n: MachineCycles) -> Ended
-    ensures { λ r. ⌜ EndsAs (plain upd546 (now (rom .entry)) (now (sched .entry)) fresh (now (log .entry)) (n .0)) r (now (log .exit)) ⌝ }
+    ensures { λ r. ⌜ TellsRun (plain upd546 (now (rom .entry)) (now (sched .entry)) fresh (now (log .entry)) (n .0)) r (now (log .exit)) ⌝ }
     ensures { λ r. ⌜ Recorded (r .written) (now (log .exit)) ⌝ }
 {
     let mut image = [0u8; IMAGE_LENGTH];

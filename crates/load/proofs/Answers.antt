@@ -6,9 +6,9 @@ use Rattle.generator.specs.Loads.{Made as Buffer}
 use Rattle.command.specs.declared.Command.{Command}
 use Rattle.load.specs.declared.Load.{Load}
 use Rattle.load.specs.declared.Load.the-variants.{Made, Refused}
-use Rattle.load.specs.Answers.{Answer, toldAs, madeOf, loadOf}
+use Rattle.load.specs.Answers.{LoadAnswer, toldAs, madeOf, loadOf}
 
-abbrev answer : Load → List ℕ → Answer
+abbrev answer : Load → List ℕ → LoadAnswer
 answer load space = record { load = load; space = space }
 
 module _ (bytes : ℕ) {k : ℕ} {space : List ℕ} {made : Buffer} (e : record { number = k; buffer = space } ≡ made) where
@@ -23,6 +23,6 @@ module _ (bytes : ℕ) {k : ℕ} {space : List ℕ} {made : Buffer} (e : record 
   told-made z = ap (λ (l : Load). answer l space) (ap (toldAs bytes) (sym z)) ∙ ap (madeOf bytes) e
 
 -- the command of a line is what was found, and its load what was made
-pub by-command : {asked known : Command} {line : Command} (space : List ℕ) {a : Answer} → asked ≡ line → asked ≡ known → a ≡ loadOf known space
+pub by-command : {asked known : Command} {line : Command} (space : List ℕ) {a : LoadAnswer} → asked ≡ line → asked ≡ known → a ≡ loadOf known space
     → a ≡ loadOf line space
 by-command space e k h = h ∙ ap (λ (x : Command). loadOf x space) (sym k ∙ e)

@@ -10,7 +10,7 @@ use Rattle.load.specs.declared.Load.{Load}
 use Rattle.load.specs.declared.Load.the-variants.{Made, Refused, Neither}
 
 -- what is told of a line, and the lent space as it stands then
-pub record Answer : Type 0 where
+pub record LoadAnswer : Type 0 where
   pub load : Load
   pub space : List ℕ
 
@@ -19,11 +19,11 @@ abbrev pub toldAs : (bytes number : ℕ) → Load
 toldAs bytes zero = Made bytes
 toldAs bytes (suc k) = Refused (suc k)
 
-abbrev pub madeOf : (bytes : ℕ) → Buffer → Answer
+abbrev pub madeOf : (bytes : ℕ) → Buffer → LoadAnswer
 madeOf bytes made = record { load = toldAs bytes (made .number); space = made .buffer }
 
 -- THE LOAD OF A COMMAND, into a space
-unfoldable pub loadOf : Command → List ℕ → Answer
+unfoldable pub loadOf : Command → List ℕ → LoadAnswer
 loadOf (Rom seed) space = madeOf romLength (romMade seed space)
 loadOf (Schedule seed m) space = madeOf (recordLength * m) (scheduleMade seed m space)
 loadOf Unknown space = record { load = Neither; space = space }

@@ -11,7 +11,7 @@ use Rattle.waiting.specs.declared.Landing.{Landing}
 use Rattle.waiting.specs.declared.Carried.{Carried}
 use Rattle.waiting.specs.declared.Reading.{Reading}
 use Rattle.waiting.specs.WaitingTimes.{noWaits}
-use Rattle.report.specs.Texts.{heading, landingText, landingsText, reportText, onRefusal, waitsText, Reported}
+use Rattle.report.specs.Texts.{waitsHeading, landingText, landingsText, waitsReport, onRefusal, waitsText, Reported}
 
 -- five numbers, with a byte behind each
 pub line-same : (i : ℕ) (l : Landing)
@@ -24,30 +24,30 @@ line-same i l = regroup (decimal i) (decimal (l .closed)) (decimal (l .cycles .0
 
 -- a heading and four lines
 four-lines : (ls : List Landing) → length ls ≡ 4
-    → heading ++ newline
+    → waitsHeading ++ newline
     ++ landingText 0 (getD ls 0 noWaits)
     ++ landingText 1 (getD ls 1 noWaits)
     ++ landingText 2 (getD ls 2 noWaits)
     ++ landingText 3 (getD ls 3 noWaits)
-    ≡ heading ++ newline ++ landingsText 0 ls
+    ≡ waitsHeading ++ newline ++ landingsText 0 ls
 four-lines [] h = absurd (omega arith)
 four-lines (a ∷ []) h = absurd (omega arith)
 four-lines (a ∷ b ∷ []) h = absurd (omega arith)
 four-lines (a ∷ b ∷ d ∷ []) h = absurd (omega arith)
-four-lines (a ∷ b ∷ d ∷ e ∷ []) h = regroup (heading ++ newline) (landingText 0 a) (landingText 1 b) (landingText 2 d) (landingText 3 e)
+four-lines (a ∷ b ∷ d ∷ e ∷ []) h = regroup (waitsHeading ++ newline) (landingText 0 a) (landingText 1 b) (landingText 2 d) (landingText 3 e)
   where
     regroup : (t p q r s : List ℕ) → t ++ p ++ q ++ r ++ s ≡ t ++ (p ++ (q ++ (r ++ (s ++ []))))
     regroup t p q r s = simp (append-assoc, append-nil)
 four-lines (a ∷ b ∷ d ∷ e ∷ f ∷ ls) h = absurd (omega arith)
 
 pub report-same : (c : Carried) → length (c .landings) ≡ 4
-    → heading ++ newline
+    → waitsHeading ++ newline
     ++ landingText 0 (getD (c .landings) 0 noWaits)
     ++ landingText 1 (getD (c .landings) 1 noWaits)
     ++ landingText 2 (getD (c .landings) 2 noWaits)
     ++ landingText 3 (getD (c .landings) 3 noWaits)
-    ≡ reportText c
-unfolding reportText
+    ≡ waitsReport c
+unfolding waitsReport
 report-same c h = four-lines (c .landings) h
 
 -- the text of a reading
@@ -59,7 +59,7 @@ refused-reading r h = go (r .number) h
     go zero h = absurd (h refl)
     go (suc k) h = refl
 
-pub accepted-reading : (r : Reading) → r .number ≡ 0 → reportText (r .carried) ≡ waitsText r
+pub accepted-reading : (r : Reading) → r .number ≡ 0 → waitsReport (r .carried) ≡ waitsText r
 unfolding waitsText
 accepted-reading r h = rw h
 

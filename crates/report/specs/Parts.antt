@@ -8,11 +8,11 @@ use lib.ListN.{length}
 use Rattle.runs.specs.Laws.{Bytes}
 use Rattle.upd546.specs.Ports.{logRecordLength}
 use Rattle.waiting.specs.declared.Reading.{Reading}
-use Rattle.waiting.specs.WaitingTimes.{nothing, waitingTimes, refusedWith}
+use Rattle.waiting.specs.WaitingTimes.{startOfDay, waitingTimes, refusedWith}
 
 -- before the first part
 abbrev pub noParts : Reading
-noParts = record { number = 0; carried = nothing }
+noParts = record { number = 0; carried = startOfDay }
 
 -- "41 the length is no multiple of 8" comes first, also where an earlier part holds a 42
 abbrev pub onWhole : Bool → ℕ → Reading → List ℕ → Reading
@@ -41,4 +41,4 @@ WholeParts (p ∷ ps) = (length p % logRecordLength ≡ 0) × WholeParts ps
 abbrev pub PartsReadAsOne : Type 0
 PartsReadAsOne =
     (ps : List (List ℕ)) (end : List ℕ) → WholeParts ps → Bytes (joinedParts ps end) → length (joinedParts ps end) < 2 ^ 63
-    → partRead (partsRead noParts ps) end ≡ waitingTimes (joinedParts ps end) nothing
+    → partRead (partsRead noParts ps) end ≡ waitingTimes (joinedParts ps end) startOfDay

@@ -9,16 +9,16 @@ use Rattle.waiting.specs.declared.Landing.{Landing}
 use Rattle.waiting.specs.declared.Carried.{Carried}
 use Rattle.waiting.specs.declared.Reading.{Reading}
 
--- How many bytes a line has at most: five numbers of 64 bits, with a byte behind each. Every text fits `textLength`.
-abbrev pub lineLength : ℕ
-lineLength = 105
+-- How many bytes a line has at most: five numbers of 64 bits, with a byte behind each. Every text fits `waitsLength`.
+abbrev pub landingLength : ℕ
+landingLength = 105
 
-abbrev pub textLength : ℕ
-textLength = 4096
+abbrev pub waitsLength : ℕ
+waitsLength = 4096
 
 -- the words landing closed cycles longest open, as ASCII codes
-abbrev pub heading : List ℕ
-heading =
+abbrev pub waitsHeading : List ℕ
+waitsHeading =
     108 ∷ 97 ∷ 110 ∷ 100 ∷ 105 ∷ 110 ∷ 103 ∷ 32 ∷ 99 ∷ 108 ∷ 111 ∷ 115 ∷ 101 ∷ 100 ∷ 32 ∷ 99 ∷ 121 ∷ 99 ∷ 108 ∷ 101 ∷ 115 ∷ 32 ∷ 108 ∷ 111 ∷ 110 ∷ 103 ∷ 101 ∷ 115 ∷ 116 ∷ 32 ∷ 111 ∷ 112 ∷ 101 ∷ 110 ∷ []
 
 -- the line of a landing, by the number of its lamp's bit: closed waits, their cycles together, the longest, the open mark
@@ -40,12 +40,12 @@ abbrev pub landingsText : ℕ → List Landing → List ℕ
 landingsText i [] = []
 landingsText i (l ∷ ls) = landingText i l ++ landingsText (suc i) ls
 
-unfoldable pub reportText : Carried → List ℕ
-reportText c = heading ++ newline ++ landingsText 0 (c .landings)
+unfoldable pub waitsReport : Carried → List ℕ
+waitsReport c = waitsHeading ++ newline ++ landingsText 0 (c .landings)
 
 -- a refused log prints `refused` and the number
 abbrev pub onRefusal : ℕ → Carried → List ℕ
-onRefusal zero c = reportText c
+onRefusal zero c = waitsReport c
 onRefusal (suc k) c = refusedText (suc k)
 
 unfoldable pub waitsText : Reading → List ℕ

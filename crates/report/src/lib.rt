@@ -9,9 +9,9 @@ ghost use Prim.Native.Nat.{_+_, _≤_};
 ghost use lib.ListN.{length};
 ghost use Rattle.text.specs.Writing.{Appended};
 ghost use Rattle.report.specs.Parts.{noParts, partRead};
-ghost use Rattle.report.specs.Texts.{lineLength, textLength, landingText, reportText, Reported};
+ghost use Rattle.report.specs.Texts.{landingLength, waitsLength, landingText, waitsReport, Reported};
 
-// Every text fits this many bytes; `textLength` is the same number.
+// Every text fits this many bytes; `waitsLength` is the same number.
 pub const TEXT_LENGTH: usize = 4096;
 
 // Before the first part.
@@ -39,8 +39,8 @@ pub fn part_read(before: Reading, part: &[u8]) -> Reading
 
 // The line of landing i.
 fn put_landing(out: &mut [u8], at: usize, i: u64, l: Landing) -> usize
-    requires { ⌜ at + lineLength ≤ length (now out) ⌝ }
-    ensures { λ r. ⌜ Appended (now (out .entry)) at (landingText i l) (now (out .exit)) r × (r ≤ at + lineLength) ⌝ }
+    requires { ⌜ at + landingLength ≤ length (now out) ⌝ }
+    ensures { λ r. ⌜ Appended (now (out .entry)) at (landingText i l) (now (out .exit)) r × (r ≤ at + landingLength) ⌝ }
 {
     let named = text::put_number(out, at, i, b' ');
     let closed = text::put_number(out, named, l.closed, b' ');
@@ -51,8 +51,8 @@ fn put_landing(out: &mut [u8], at: usize, i: u64, l: Landing) -> usize
 
 // The text of a report that isn't refused.
 fn put_report(out: &mut [u8], carried: Carried) -> usize
-    requires { ⌜ textLength ≤ length (now out) ⌝ }
-    ensures { λ r. ⌜ Appended (now (out .entry)) 0 (reportText carried) (now (out .exit)) r ⌝ }
+    requires { ⌜ waitsLength ≤ length (now out) ⌝ }
+    ensures { λ r. ⌜ Appended (now (out .entry)) 0 (waitsReport carried) (now (out .exit)) r ⌝ }
 {
     let l = carried.landings;
     let headed = text::put(out, 0, b"landing closed cycles longest open\n");

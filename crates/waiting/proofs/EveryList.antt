@@ -23,7 +23,7 @@ use Rattle.laws.proofs.Records.{wider}
 use Rattle.waiting.specs.declared.Carried.{Carried}
 use Rattle.waiting.specs.declared.LogRecord.{LogRecord}
 use Rattle.waiting.specs.declared.Reading.{Reading}
-use Rattle.waiting.specs.WaitingTimes.{nothing, carriedAfter, recordHere, recordsIn, recordsOf, carriedAfterAll, latchMost, recordSound, recordNumber, recordsNumber, figureMost, waitingTimes}
+use Rattle.waiting.specs.WaitingTimes.{startOfDay, carriedAfter, recordHere, recordsIn, recordsOf, carriedAfterAll, latchMost, recordSound, logRecordNumber, logRecordsNumber, figureMost, waitingTimes}
 use Rattle.waiting.specs.Growth.{CarriedGrown}
 use Rattle.waiting.specs.EveryList.{AllAccepted, carriedOn, logsOf, listLogs, EveryListReportsAsOneRun}
 use Rattle.waiting.proofs.Records.{count-records, carried-append}
@@ -54,8 +54,8 @@ module _ (end : ℕ) where
   order-last c [] h o = h
   order-last c (r ∷ rs) h o = order-last (carriedAfter c r) rs (omega (arith, o .1)) (o .2)
 
-  order-taken : (c : Carried) (rs : List LogRecord) → InOrder (c .last .0) end rs → recordsNumber c rs ≡ 0
-  unfolding carriedAfter recordNumber firstOf
+  order-taken : (c : Carried) (rs : List LogRecord) → InOrder (c .last .0) end rs → logRecordsNumber c rs ≡ 0
+  unfolding carriedAfter logRecordNumber firstOf
   order-taken c [] o = refl
   order-taken c (r ∷ rs) o = rw (o .0, order-taken (carriedAfter c r) rs (o .2))
 
@@ -168,10 +168,10 @@ reports-as-one-run M E C R rom sched s calls p v meant limit =
     let small : 2 ^ 48 ≤ figureMost = omega arith in
     let order : InOrder 0 (2 ^ 48) (recordsOf (u .bytes)) = records-order wrote (omega arith) in
     let bound : 0 + length (join (listLogs M calls)) / 8 ≤ figureMost = omega (arith, ap length same, unbroken-fits M C R rom sched p s n limit log call) in
-    let read = as-joined (2 ^ 48) small (listLogs M calls) nothing 0 nothing-grown (omega arith) (logs-whole M R rom sched p s cs meant) (rw same order) bound in
+    let read = as-joined (2 ^ 48) small (listLogs M calls) startOfDay 0 nothing-grown (omega arith) (logs-whole M R rom sched p s cs meant) (rw same order) bound in
     record {
       accepted = read .accepted;
       report =
-          ap (λ (c : Carried). record { number = 0; carried = c }) (read .same ∙ ap (λ (l : List ℕ). carriedAfterAll nothing (recordsOf l)) same)
-          ∙ sym (one-log (2 ^ 48) small (u .bytes) nothing 0 nothing-grown (omega arith) (omega arith) (records-whole wrote) order);
+          ap (λ (c : Carried). record { number = 0; carried = c }) (read .same ∙ ap (λ (l : List ℕ). carriedAfterAll startOfDay (recordsOf l)) same)
+          ∙ sym (one-log (2 ^ 48) small (u .bytes) startOfDay 0 nothing-grown (omega arith) (omega arith) (records-whole wrote) order);
     }

@@ -9,7 +9,7 @@ use Rattle.upd546.specs.declared.State.{State}
 use Rattle.upd546.specs.TwoRunners.{upd546}
 use Rattle.waiting.specs.declared.Carried.{Carried}
 use Rattle.waiting.specs.declared.Reading.{Reading}
-use Rattle.waiting.specs.WaitingTimes.{nothing, waitingTimes}
+use Rattle.waiting.specs.WaitingTimes.{startOfDay, waitingTimes}
 use Rattle.waiting.specs.EveryLog.{lampsLit, waitsOf}
 use Rattle.waiting.specs.EveryList.{carriedOn, listLogs, ReportsAsOneRun}
 use Rattle.waiting.proofs.Growth.{carried-grown, can-read}
@@ -22,16 +22,16 @@ use Rattle.witness.specs.EveryLog.{EveryDay, LogFacts}
 use Rattle.witness.proofs.Waits.{each}
 
 -- nobody has waited at the start of a day
-none-yet : (i : ℕ) → i < 4 → waitsOf nothing i ≡ 0
-none-yet = each (λ i. waitsOf nothing i ≡ 0) refl refl refl refl
+none-yet : (i : ℕ) → i < 4 → waitsOf startOfDay i ≡ 0
+none-yet = each (λ i. waitsOf startOfDay i ≡ 0) refl refl refl refl
 
 waits-as : (rom sched : List ℕ) (s : State) (calls : List (Call State)) → ReportsAsOneRun upd546 rom sched s calls → (i : ℕ) → i < 4
-    → waitsOf (carriedOn nothing (listLogs upd546 calls)) i ≡ lampsLit 0 i (unbroken upd546 rom sched (asked upd546 (notRefused upd546 calls)) s .bytes)
+    → waitsOf (carriedOn startOfDay (listLogs upd546 calls)) i ≡ lampsLit 0 i (unbroken upd546 rom sched (asked upd546 (notRefused upd546 calls)) s .bytes)
 waits-as rom sched s calls r i h =
     let log = unbroken upd546 rom sched (asked upd546 (notRefused upd546 calls)) s .bytes in
-    let number : waitingTimes log nothing .number ≡ 0 = sym (ap (λ (x : Reading). x .number) (r .report)) in
-    let carried : carriedOn nothing (listLogs upd546 calls) ≡ waitingTimes log nothing .carried = ap (λ (x : Reading). x .carried) (r .report) in
-    let rise : waitsOf (waitingTimes log nothing .carried) i ≡ lampsLit 0 i log = omega (arith, every-rise-is-a-wait log nothing i h number, none-yet i h) in
+    let number : waitingTimes log startOfDay .number ≡ 0 = sym (ap (λ (x : Reading). x .number) (r .report)) in
+    let carried : carriedOn startOfDay (listLogs upd546 calls) ≡ waitingTimes log startOfDay .carried = ap (λ (x : Reading). x .carried) (r .report) in
+    let rise : waitsOf (waitingTimes log startOfDay .carried) i ≡ lampsLit 0 i log = omega (arith, every-rise-is-a-wait log startOfDay i h number, none-yet i h) in
     ap (λ (c : Carried). waitsOf c i) carried ∙ rise
 
 days : EveryDay

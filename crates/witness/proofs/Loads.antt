@@ -8,7 +8,7 @@ use Rattle.runs.proofs.Refusals.{first-past}
 use Rattle.upd546.specs.TheMachine.{fresh}
 use Rattle.upd546.specs.StateImage.{stateNumber}
 use Rattle.upd546.specs.TwoRunners.{panelNumber}
-use Rattle.generator.specs.Loads.{nextOf, stepped, drawn, drawnBytes, romOf, cycleFrom, recordFrom, lastCycle, scheduleOf}
+use Rattle.generator.specs.Loads.{nextOf, stepped, drawn, drawnBytes, romOf, cycleFrom, recordFrom, lastDrawn, scheduleOf}
 use Rattle.generator.specs.EveryLoad.{AcceptedSchedule}
 use Rattle.generator.proofs.EveryLoad.{every-schedule, every-rom, every-load, every-beginning}
 use Rattle.witness.specs.Loads.{longest, firstRecord, tenMillion, LoadFigures}
@@ -22,7 +22,7 @@ unfolding nextOf stepped drawn drawnBytes
 bytes = refl
 
 one : scheduleOf 0 1 ≡ firstRecord
-unfolding nextOf stepped drawn cycleFrom recordFrom lastCycle scheduleOf
+unfolding nextOf stepped drawn cycleFrom recordFrom lastDrawn scheduleOf
 one = refl
 
 -- neither state nor n is refused

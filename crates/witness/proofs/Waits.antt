@@ -13,7 +13,7 @@ use Rattle.upd546.specs.TheMachine.{fresh}
 use Rattle.upd546.specs.TwoRunners.{upd546}
 use Rattle.laws.proofs.Lists.{below-all}
 use Rattle.waiting.specs.declared.Reading.{Reading}
-use Rattle.waiting.specs.WaitingTimes.{landingCount, figureMost, lampsAfter, carriedAfter, recordSound, recordNumber, landingSound, carriedSound, carriedNumber, logNumber, waitingTimes, nothing, noWaits, recordHere}
+use Rattle.waiting.specs.WaitingTimes.{landingCount, figureMost, lampsAfter, carriedAfter, recordSound, logRecordNumber, landingSound, carriedSound, carriedNumber, logNumber, waitingTimes, startOfDay, noWaits, recordHere}
 use Rattle.waiting.specs.Growth.{Grown, CarriedGrown}
 use Rattle.waiting.specs.EveryLog.{landingOf, FiguresWithin}
 use Rattle.waiting.specs.EveryList.{ReportsAsOneRun}
@@ -27,11 +27,11 @@ use Rattle.witness.proofs.Calls.{sound}
 
 -- what to unfold where a reading is computed
 unfoldable read : Unit {0}
-unfolding opened lampsAfter carriedAfter recordSound recordNumber landingSound carriedSound carriedNumber logNumber waitingTimes
+unfolding opened lampsAfter carriedAfter recordSound logRecordNumber landingSound carriedSound carriedNumber logNumber waitingTimes
 read = tt
 
 -- each log is accepted
-accepts : (waitingTimes calling nothing .number ≡ 0) × (waitingTimes (calling ++ coming) nothing .number ≡ 0)
+accepts : (waitingTimes calling startOfDay .number ≡ 0) × (waitingTimes (calling ++ coming) startOfDay .number ≡ 0)
 unfolding read
 accepts = (refl, refl)
 
@@ -43,10 +43,10 @@ each P a b c d (suc (suc zero)) h = c
 each P a b c d (suc (suc (suc zero))) h = d
 each P a b c d (suc (suc (suc (suc i)))) h = absurd (omega arith)
 
-small : FiguresWithin (waitingTimes calling nothing .carried)
+small : FiguresWithin (waitingTimes calling startOfDay .carried)
 unfolding read
 small =
-    let after = waitingTimes calling nothing .carried in
+    let after = waitingTimes calling startOfDay .carried in
     record {
       last = lit≤ tt;
       closed = each (λ i. landingOf after i .closed ≤ figureMost) (lit≤ tt) (lit≤ tt) (lit≤ tt) (lit≤ tt);
@@ -62,7 +62,7 @@ grown : CarriedGrown 0 1 called
 unfolding read
 grown =
     let none = none-grown in
-    carried-grown 0 0 nothing (recordHere (lampsAt 10 1)) refl (record { four = refl; lamps = lit< tt; landings = (none, (none, (none, (none, tt)))) })
+    carried-grown 0 0 startOfDay (recordHere (lampsAt 10 1)) refl (record { four = refl; lamps = lit< tt; landings = (none, (none, (none, (none, tt)))) })
 
 panel : Panel upd546 lampRom []
 unfolding opened
@@ -85,14 +85,14 @@ pub figures : WaitFigures
 unfolding read
 figures =
     record {
-      waits-0 = every-rise-is-a-wait (calling ++ coming) nothing 0 (lit< tt) (accepts .1);
-      waits-1 = every-rise-is-a-wait (calling ++ coming) nothing 1 (lit< tt) (accepts .1);
-      waits-2 = every-rise-is-a-wait (calling ++ coming) nothing 2 (lit< tt) (accepts .1);
-      waits-3 = every-rise-is-a-wait (calling ++ coming) nothing 3 (lit< tt) (accepts .1);
-      carried-on = only-figures-draw-41 calling nothing (accepts .0) small;
-      read-on = read-on-as-joined calling coming nothing (accepts .0) (only-figures-draw-41 calling nothing (accepts .0) small);
-      last-counts = last-record-counts calling coming nothing refl (accepts .0);
-      last-refused = last-record-counts calling wide nothing refl (accepts .0);
+      waits-0 = every-rise-is-a-wait (calling ++ coming) startOfDay 0 (lit< tt) (accepts .1);
+      waits-1 = every-rise-is-a-wait (calling ++ coming) startOfDay 1 (lit< tt) (accepts .1);
+      waits-2 = every-rise-is-a-wait (calling ++ coming) startOfDay 2 (lit< tt) (accepts .1);
+      waits-3 = every-rise-is-a-wait (calling ++ coming) startOfDay 3 (lit< tt) (accepts .1);
+      carried-on = only-figures-draw-41 calling startOfDay (accepts .0) small;
+      read-on = read-on-as-joined calling coming startOfDay (accepts .0) (only-figures-draw-41 calling startOfDay (accepts .0) small);
+      last-counts = last-record-counts calling coming startOfDay refl (accepts .0);
+      last-refused = last-record-counts calling wide startOfDay refl (accepts .0);
       grown-four = grown .four;
       grown-lamps = grown .lamps;
       grown-closed = grown .landings .0 .closed;

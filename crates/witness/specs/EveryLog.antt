@@ -17,7 +17,7 @@ use Rattle.upd546.specs.TwoRunners.{upd546}
 use Rattle.laws.specs.Records.{EveryRunWritesRecords}
 use Rattle.waiting.specs.declared.Carried.{Carried}
 use Rattle.waiting.specs.declared.LogRecord.{LogRecord}
-use Rattle.waiting.specs.WaitingTimes.{carriedAfter, recordHere, recordSound, recordNumber, carriedNumber, nothing, told, waitingTimes}
+use Rattle.waiting.specs.WaitingTimes.{carriedAfter, recordHere, recordSound, logRecordNumber, carriedNumber, startOfDay, answeredWith, waitingTimes}
 use Rattle.waiting.specs.Growth.{CarriedGrown}
 use Rattle.waiting.specs.EveryLog.{lampsLit, landingOf, waitsOf, FiguresWithin}
 use Rattle.waiting.specs.EveryList.{AllAccepted, carriedOn, listLogs, ReportsAsOneRun}
@@ -36,7 +36,7 @@ pub record OfEveryLog (c : Carried) (log : List ℕ) : Type 0 where
   -- `LastRecordCounts`
   pub last : (r : List ℕ) → length r ≡ 8 → waitingTimes log c .number ≡ 0
       → waitingTimes (log ++ r) c
-      ≡ told (recordNumber (waitingTimes log c .carried .last .0) (recordHere r)) (carriedAfter (waitingTimes log c .carried) (recordHere r))
+      ≡ answeredWith (logRecordNumber (waitingTimes log c .carried .last .0) (recordHere r)) (carriedAfter (waitingTimes log c .carried) (recordHere r))
 
 -- why no figure overflows: `carried-grown`, `can-read`
 pub record OfEveryRecord (c : Carried) : Type 0 where
@@ -49,14 +49,14 @@ pub record OfEveryRecord (c : Carried) : Type 0 where
 abbrev pub EveryParts : Type 0
 EveryParts =
     (ps : List (List ℕ)) (end : List ℕ) → WholeParts ps → Bytes (joinedParts ps end) → length (joinedParts ps end) < 2 ^ 63
-    → partRead (partsRead noParts ps) end ≡ waitingTimes (joinedParts ps end) nothing
+    → partRead (partsRead noParts ps) end ≡ waitingTimes (joinedParts ps end) startOfDay
 
 -- `EveryListReportsAsOneRun`, for all cycles up to the limit. On each landing the waits of the day are then the lamps lit in the
 -- unbroken run's log.
 pub record OfEveryDay (rom sched : List ℕ) (s : State) (calls : List (Call State)) : Type 0 where
-  pub accepted : AllAccepted nothing (listLogs upd546 calls)
+  pub accepted : AllAccepted startOfDay (listLogs upd546 calls)
   pub waits : (i : ℕ) → i < 4
-      → waitsOf (carriedOn nothing (listLogs upd546 calls)) i ≡ lampsLit 0 i (unbroken upd546 rom sched (asked upd546 (notRefused upd546 calls)) s .bytes)
+      → waitsOf (carriedOn startOfDay (listLogs upd546 calls)) i ≡ lampsLit 0 i (unbroken upd546 rom sched (asked upd546 (notRefused upd546 calls)) s .bytes)
 
 abbrev pub EveryDay : Type 0
 EveryDay =

@@ -13,7 +13,7 @@ use Rattle.upd546.specs.TwoRunners.{upd546}
 use Rattle.waiting.specs.declared.Landing.{Landing}
 use Rattle.waiting.specs.declared.Carried.{Carried}
 use Rattle.waiting.specs.declared.Reading.{Reading}
-use Rattle.waiting.specs.WaitingTimes.{noWaits, nothing, carriedAfter, recordHere, carriedNumber, refusedWith, waitingTimes}
+use Rattle.waiting.specs.WaitingTimes.{noWaits, startOfDay, carriedAfter, recordHere, carriedNumber, refusedWith, waitingTimes}
 use Rattle.waiting.specs.EveryLog.{landingOf, waitsOf}
 use Rattle.waiting.specs.EveryList.{AllAccepted, carriedOn, listLogs}
 use Rattle.report.specs.Parts.{noParts, partRead, partsRead}
@@ -37,7 +37,7 @@ wide = 0 ∷ 0 ∷ 0 ∷ 0 ∷ 0 ∷ 60 ∷ 8 ∷ 8 ∷ []
 
 -- what is carried after the first of these records
 abbrev pub called : Carried
-called = carriedAfter nothing (recordHere (lampsAt 10 1))
+called = carriedAfter startOfDay (recordHere (lampsAt 10 1))
 
 -- one closed wait of so many cycles
 abbrev pub oneWait : ℕ → Landing
@@ -82,16 +82,16 @@ wantedDay = record { landings = oneWait 2 ∷ noWaits ∷ noWaits ∷ noWaits �
 
 pub record WaitFigures : Type 0 where
   -- `EveryRiseIsAWait`: one lamp lit on landings 0 and 1 each, none on landings 2 and 3
-  pub waits-0 : waitsOf (waitingTimes (calling ++ coming) nothing .carried) 0 ≡ 1
-  pub waits-1 : waitsOf (waitingTimes (calling ++ coming) nothing .carried) 1 ≡ 1
-  pub waits-2 : waitsOf (waitingTimes (calling ++ coming) nothing .carried) 2 ≡ 0
-  pub waits-3 : waitsOf (waitingTimes (calling ++ coming) nothing .carried) 3 ≡ 0
+  pub waits-0 : waitsOf (waitingTimes (calling ++ coming) startOfDay .carried) 0 ≡ 1
+  pub waits-1 : waitsOf (waitingTimes (calling ++ coming) startOfDay .carried) 1 ≡ 1
+  pub waits-2 : waitsOf (waitingTimes (calling ++ coming) startOfDay .carried) 2 ≡ 0
+  pub waits-3 : waitsOf (waitingTimes (calling ++ coming) startOfDay .carried) 3 ≡ 0
   -- `OnlyFiguresDraw41`, `ReadOnAsJoined`
-  pub carried-on : carriedNumber [] (waitingTimes calling nothing .carried) ≡ 0
-  pub read-on : waitingTimes coming (waitingTimes calling nothing .carried) ≡ wanted
+  pub carried-on : carriedNumber [] (waitingTimes calling startOfDay .carried) ≡ 0
+  pub read-on : waitingTimes coming (waitingTimes calling startOfDay .carried) ≡ wanted
   -- `LastRecordCounts`, of a record that is accepted and of one that isn't
-  pub last-counts : waitingTimes (calling ++ coming) nothing ≡ wanted
-  pub last-refused : waitingTimes (calling ++ wide) nothing ≡ refusedWith 42
+  pub last-counts : waitingTimes (calling ++ coming) startOfDay ≡ wanted
+  pub last-refused : waitingTimes (calling ++ wide) startOfDay ≡ refusedWith 42
   -- `carried-grown`, of the landing that calls and of a dark one
   pub grown-four : length (called .landings) ≡ 4
   pub grown-lamps : called .lamps < 16
@@ -106,5 +106,5 @@ pub record WaitFigures : Type 0 where
   pub parts-42 : partRead (partsRead noParts (wide ∷ [])) coming ≡ refusedWith 42
   pub parts-41 : partRead (partsRead noParts (wide ∷ [])) (take 5 coming) ≡ refusedWith 41
   -- `EveryListReportsAsOneRun`: the wait that the power cut falls into is there, and whole
-  pub accepted : AllAccepted nothing (listLogs upd546 lampCalls)
-  pub day : carriedOn nothing (listLogs upd546 lampCalls) ≡ wantedDay
+  pub accepted : AllAccepted startOfDay (listLogs upd546 lampCalls)
+  pub day : carriedOn startOfDay (listLogs upd546 lampCalls) ≡ wantedDay

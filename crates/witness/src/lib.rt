@@ -9,7 +9,7 @@ use runs::MachineCycles;
 use runs::Outcome;
 use upd546::State;
 use upd546::layout::IMAGE_LENGTH;
-ghost use Rattle.driver.specs.Lending.{kindOf};
+ghost use Rattle.driver.specs.Lending.{runnerKind};
 ghost use Rattle.witness.specs.Day.{OneSlice, TwoSlices};
 
 // How a slice ended: what each of its calls answers.
@@ -36,7 +36,7 @@ fn one_slice(
     at: usize,
     n: MachineCycles,
 ) -> SliceEnd
-    ensures { λ r. ⌜ OneSlice (kindOf kind) (now (rom .entry)) (now (sched .entry)) s (now (log .entry)) at (n .0) r (now (log .exit)) ⌝ }
+    ensures { λ r. ⌜ OneSlice (runnerKind kind) (now (rom .entry)) (now (sched .entry)) s (now (log .entry)) at (n .0) r (now (log .exit)) ⌝ }
 {
     let answer = driver::advance_from(KeptMachine { state: s }, kind, rom, sched, log, at, n);
     let machine = answer.machine;

@@ -44,7 +44,7 @@ use Rattle.runs.specs.declared.MachineCycles.{MachineCycles}
 use Rattle.runs.proofs.MachineCycles as Y
 use Rattle.runs.proofs.MachineCycles.Laws as Y′
 use Rattle.upd546.specs.TwoRunners.{upd546}
-use Rattle.driver.specs.Lending.{kindOf, broughtTo}
+use Rattle.driver.specs.Lending.{runnerKind, broughtTo}
 use Rattle.driver.specs.declared.KeptMachine.{KeptMachine}
 use Rattle.driver.specs.declared.Runner.{Runner}
 use Rattle.driver.specs.declared.Report.{Report}
@@ -171,7 +171,7 @@ module _ {M : Type 1} (𝓤 : URA M) (H : Heap 𝓤) (A : Atoms 𝓤) (W : Given
 
   -- what `advance` says of its answer and of the log
   abbrev Said : DriveAnswer → List ℕ → Type 0
-  Said r zs = broughtTo (r .report) (r .machine) zs ≡ runAnswer upd546 (kindOf k) (now x₁) (now x₂) (h .state) (now x₃) (n .0)
+  Said r zs = broughtTo (r .report) (r .machine) zs ≡ runAnswer upd546 (runnerKind k) (now x₁) (now x₂) (h .state) (now x₃) (n .0)
 
   -- an answer of `advance` with the log's last list: what is known of them, and what is left
   abbrev Z : Type 0
