@@ -72,7 +72,7 @@ static inline int wharfnettle_is_refusal(int number)
  * rom        read
  * schedule   read; records of 10 bytes
  * log        written from its first byte on, records of 8 bytes; bytes past them stay
- * n          how many machine cycles; 0 is allowed and changes nothing
+ * n          how many machine cycles; 0 is allowed, and leaves image and log as they were
  * runner     0 the plain one; any other number the timer-skipping one, which jumps over timer waits and does the same
  * report     written: cycles, instructions, log bytes and steps of this call, 8 bytes each, big-endian; bytes past the 32 stay.
  *            Steps tell how much work it was; the other three don't depend on the runner.
