@@ -306,12 +306,12 @@ static void write_state(int dir, const struct state *state)
 static const char *meaning(uint8_t number)
 {
     switch (number) {
-    case 2: return "the panel's cycle number would pass 2^48 - 1";
+    case 2: return "the panel's cycle number and n together pass 2^48 - 1";
     case 11: return "the schedule's length is no multiple of 10";
     case 12: return "the schedule has over 40,960 bytes";
     case 13: return "a record's INT level isn't 0 or 1, or its last byte isn't 0";
     case 14: return "a record's cycle isn't above the last one's";
-    case 21: return "the file has under 2,004 bytes";
+    case 21: return "the panel's file has under 2,004 bytes";
     case 32: return "the image doesn't begin with U43";
     case 33: return "the image's version isn't 1";
     case 34: return "a field of the image is above its width or against its rule";

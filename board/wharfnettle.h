@@ -36,20 +36,20 @@ extern "C" {
  *
  *   number   whose hand                  what it says
  *   0                                    all n cycles are done
- *   1        the caller                  the report has under 32 bytes; of wharfnettle_fresh, the image has under 81
+ *   1        the caller                  the report of the board's call has under 32 bytes; the buffer of a save or a fresh image has under 81 bytes
  *   2        the caller                  the panel's cycle number and n together pass 2^48 - 1
  *   3        the caller                  a stop: the log lacks the 8 or 16 bytes of the next instruction
- *   11       whoever wrote the schedule  its length is no multiple of 10
- *   12       whoever wrote the schedule  it has over 40,960 bytes
+ *   11       whoever wrote the schedule  the schedule's length is no multiple of 10
+ *   12       whoever wrote the schedule  the schedule has over 40,960 bytes
  *   13       whoever wrote the schedule  a record's INT level isn't 0 or 1, or its last byte isn't 0
  *   14       whoever wrote the schedule  a record's cycle isn't above the last one's
- *   21       whoever read the ROM        it hasn't 2,000 bytes
+ *   21       whoever read the ROM        the ROM hasn't 2,000 bytes
  *   22       whoever read the ROM        a stop: a byte above address 7CF is needed
  *   23       whoever read the ROM        a stop: code 1C or 45 is due, which is no instruction
- *   31       whoever kept the image      it hasn't 81 bytes
- *   32       whoever kept the image      it doesn't begin with U43
- *   33       whoever kept the image      its version isn't 1
- *   34       whoever kept the image      a field is above its width or against its rule
+ *   31       whoever kept the image      the image hasn't 81 bytes
+ *   32       whoever kept the image      the image doesn't begin with U43
+ *   33       whoever kept the image      the image's version isn't 1
+ *   34       whoever kept the image      a field of the image is above its width or against its rule
  *
  * A stop (3, 22, 23) leaves the panel before the instruction that wasn't begun. Image, log and report are those of the cycles up to
  * there, and a call may go on: after 3 with a new log, after 22 and 23 it stops at once again.
@@ -72,7 +72,7 @@ static inline int wharfnettle_is_refusal(int number)
  * rom        read
  * schedule   read; records of 10 bytes
  * log        written from its first byte on, records of 8 bytes; bytes past them stay
- * n          how many machine cycles; 0 is allowed and changes nothing
+ * n          how many machine cycles; 0 is allowed, and leaves image and log as they were
  * runner     0 the plain one; any other number the timer-skipping one, which jumps over timer waits and does the same
  * report     written: cycles, instructions, log bytes and steps of this call, 8 bytes each, big-endian; bytes past the 32 stay.
  *            Steps tell how much work it was; the other three don't depend on the runner.

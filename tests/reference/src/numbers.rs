@@ -39,13 +39,13 @@ pub const IMAGE_VERSION: u8 = 33;
 /// Refusal: a field, also in a state given as a value.
 pub const FIELD: u8 = 34;
 
-// Request R-1, of the log and of what is carried over to it.
+// Whoever kept the log (request R-1), and what is carried over to it.
 /// Refusal: the log's length is no multiple of 8, or something carried breaks its rule.
 pub const CARRIED: u8 = 41;
 /// Refusal: a record's port, value or cycle.
 pub const LOG_RECORD: u8 = 42;
 
-// Request R-4, whoever asked for the load.
+// Whoever asked for the load (request R-4).
 /// Refusal: more than 4,096 records.
 pub const MANY_RECORDS: u8 = 43;
 /// Refusal: the buffer is shorter than the output.
