@@ -1,20 +1,20 @@
-// A caller for each function that is for callers and of which no other proof needs the whole contract: what it promises here follows from
-// the whole contract alone, for every argument, so a contract that says less is refused here. `tests/callers` has the list.
+// A caller for each function that is for callers and of which no other proof needs the whole contract: what it promises, of every argument
+// of its own, follows only from that whole contract, so one that says less is refused here. `tests/callers` has the list.
 // It may not know how any of these functions goes, only definitions and contracts.
 use listing::TEXT_LENGTH as PANEL_TEXT;
 use report::TEXT_LENGTH as WAITS_TEXT;
-use runs::Outcome;
+use runs::MachineCycles;
 use streams::Output;
-use upd546::RestoreAnswer;
 use upd546::State;
 use waiting::Reading;
 ghost use mathlib.Core.Path.{_≡_};
 ghost use mathlib.Core.List.{_∷_, [], _++_};
 ghost use Prim.Native.Nat.{_+_};
 ghost use lib.ListN.{length};
-ghost use Rattle.runs.specs.TwoRunners.{saveAnswer, restoreAnswer};
-ghost use Rattle.upd546.specs.TwoRunners.{upd546, saveOf, restoreOf};
+ghost use Rattle.runs.specs.TwoRunners.{plain, saveAnswer, restoreAnswer};
+ghost use Rattle.upd546.specs.TwoRunners.{upd546};
 ghost use Rattle.upd546.specs.Reports.{decimal, traceText};
+ghost use Rattle.calls.specs.EveryCall.{numberOfEnd};
 ghost use Rattle.waiting.specs.WaitingTimes.{startOfDay, waitingTimes};
 ghost use Rattle.report.specs.Parts.{partRead};
 ghost use Rattle.report.specs.Texts.{waitsText};
@@ -61,19 +61,36 @@ pub fn two_calls(
     Numbers { first, second }
 }
 
-// What a save answers, and a restore of what it leaves.
+// The number of a run.
+pub fn run_number(rom: &[u8], schedule: &[u8], s: State, log: &mut [u8], n: MachineCycles) -> u8
+    ensures { λ r. ⌜ r ≡ numberOfEnd (plain upd546 (now (rom .entry)) (now (schedule .entry)) s (now (log .entry)) (n .0) .end) ⌝ }
+{
+    let answer = runner::run_plain(rom, schedule, s, log, n);
+    let end = answer.end;
+    runs::end_number(end)
+}
+
+// The number of a save; the number of a restore of what it leaves, and the state.
 pub struct SwitchedOff {
-    pub saved: Outcome,
-    pub back: RestoreAnswer,
+    pub saved: u8,
+    pub restored: u8,
+    pub state: State,
 }
 
 // A state saved into a buffer, and the whole buffer restored.
 pub fn switch_off(s: State, buffer: &mut [u8]) -> SwitchedOff
-    ensures { λ r. ⌜ (saveOf (r .saved) (now (buffer .exit)) ≡ saveAnswer upd546 s (now (buffer .entry))) × (restoreOf (r .back) ≡ restoreAnswer upd546 (now (buffer .exit))) ⌝ }
+    ensures { λ r. ⌜ (record { number = r .saved; buffer = now (buffer .exit) } ≡ saveAnswer upd546 s (now (buffer .entry))) × (record { number = r .restored; state = r .state } ≡ restoreAnswer upd546 (now (buffer .exit))) ⌝ }
 {
-    let saved = save::save(s, buffer);
+    let saved = runs::outcome_number(save::save(s, buffer));
     let back = restore::restore(buffer);
-    SwitchedOff { saved, back }
+    let outcome = back.outcome;
+    let state = back.state;
+    let restored = runs::outcome_number(outcome);
+    SwitchedOff {
+        saved,
+        restored,
+        state,
+    }
 }
 
 // The text of a panel's run, and behind it what was there.
