@@ -16,10 +16,10 @@ use Rattle.laws.proofs.Images.{accepted-exactly}
 use Rattle.laws.proofs.Numbers.{number-laws}
 use Rattle.laws.proofs.Demand3.{jump-laws, laws}
 use Rattle.calls.specs.EveryCall.{EveryCallIsRefusedByNumbers, EveryRefusalChangesNothing, EveryCallTellsItsRun}
-use Rattle.calls.specs.Lists.{callsNotRefused, OnOneImage, imageAfter, CallsEndAsOneRun, EveryListOfCallsEndsAsOneRun}
+use Rattle.calls.specs.Lists.{callsNotRefused, OnOneImage, EveryListOnOneImageIsMeant, CallsEndAsOneRun, EveryListOfCallsEndsAsOneRun}
 use Rattle.calls.specs.Chip.{EveryFinishOrStopRewrites, EveryAcceptedImageEndsAsOneRun}
 use Rattle.calls.proofs.EveryCall.{refused-by-numbers, changes-nothing, through, back, call-rewrites, call-tells-run}
-use Rattle.calls.proofs.Lists.{calls-end, image-ends}
+use Rattle.calls.proofs.Lists.{calls-end, on-one-image}
 
 -- EVERY CALL
 
@@ -48,6 +48,9 @@ every-call-tells-its-run = call-tells-run upd546 laws number-laws
 pub every-list-of-calls : EveryListOfCallsEndsAsOneRun upd546
 every-list-of-calls = calls-end upd546 laws number-laws
 
+pub every-list-on-one-image : EveryListOnOneImageIsMeant upd546
+every-list-on-one-image = on-one-image upd546 jump-laws number-laws
+
 pub every-accepted-image : EveryAcceptedImageEndsAsOneRun
 every-accepted-image rom sched image calls b p e h =
     let o = accepted-exactly image b .0 e in
@@ -55,6 +58,5 @@ every-accepted-image rom sched image calls b p e h =
     let same : s ≡ o .state = ap (λ (r : RestoreAnswer State). r .state) (back upd546 (laws .images) (o .state) image (o .not-refused) (o .same)) in
     let bytes : image ≡ imageOf s = o .same ∙ ap imageOf (sym same) in
     let sound : stateNumber s ≡ 0 = ap stateNumber same ∙ o .not-refused in
-    subst
-    (λ (i : List ℕ). CallsEndAsOneRun upd546 rom sched i s calls × (imageAfter upd546 i calls ≡ imageAfter upd546 i (callsNotRefused upd546 calls)))
-    (sym bytes) (image-ends upd546 laws number-laws rom sched s calls p sound (subst (λ (i : List ℕ). OnOneImage upd546 rom sched i calls) bytes h))
+    subst (λ (i : List ℕ). CallsEndAsOneRun upd546 rom sched i s calls) (sym bytes)
+    (every-list-of-calls rom sched s calls p sound (subst (λ (i : List ℕ). OnOneImage upd546 rom sched i (callsNotRefused upd546 calls)) bytes h))

@@ -13,7 +13,7 @@ use Rattle.runs.specs.Machine.{Machine}
 use Rattle.runs.specs.Numbers.{isStop}
 use Rattle.runs.specs.Refusals.{cycleLimit, unless}
 use Rattle.runs.specs.TwoRunners.{finished, stopped, refused, RunAnswer, SaveAnswer, unbroken, runNumber, saveAnswer, restoreAnswer}
-use Rattle.runs.specs.Laws.{Panel, NumberLaws, Laws}
+use Rattle.runs.specs.Laws.{Panel, JumpLaws, NumberLaws, Laws}
 use Rattle.runs.specs.Lists.{Kind, Call, run, save, restore, Each, refusalOf, runAnswer, notRefused, last, WrittenBy, Lent, AllGet, Meant}
 use Rattle.runs.specs.Lists.{runs, runLog, joinedLog, cycleTotal, begunTotal, AllFinish, StopsHave, asked, EndsAs, GoesOn, EndsAsOneRun}
 use Rattle.runs.proofs.Refusals.{first-past, last-one}
@@ -23,7 +23,7 @@ use Rattle.runs.proofs.Lists.{each, keeps, advances, lists-end}
 use Rattle.upd546.specs.Bytes.{numberAt}
 use Rattle.calls.specs.Call.{BoardCall, BoardAnswer, kindOf, reportLength, reported, callAnswer}
 use Rattle.calls.specs.EveryCall.{endBy, refusedReport, callRefusal, callNumber, ChangesNothing, figureAt, TellsItsRun}
-use Rattle.calls.specs.Lists.{keepCall, callsNotRefused, PanelLent, OnOneImage, imageAfter, callLogs, figureTotal, joined, callsAsk, CallsEndAs, SameFigures, EveryListOfCallsEndsAsOneRun, CallsEndAsOneRun}
+use Rattle.calls.specs.Lists.{keepCall, callsNotRefused, PanelLent, OnOneImage, imageAfter, callLogs, figureTotal, joined, callsAsk, EveryListOnOneImageIsMeant, CallsEndAs, SameFigures, EveryListOfCallsEndsAsOneRun}
 use Rattle.calls.proofs.EveryCall.{refused-by-numbers, changes-nothing, through, saves-over, written, back, ran-tells}
 
 -- WHAT CALLS TELL OF RUNS
@@ -295,37 +295,23 @@ module _ {S : Type 0} (M : Machine S) (L : Laws M) (N : NumberLaws M) where
 
 -- LISTS ON ONE IMAGE, refused calls too
 
-module _ {S : Type 0} (M : Machine S) (L : Laws M) (N : NumberLaws M) (rom sched : List ℕ) where
-  record OneImage (image : List ℕ) (calls : List BoardCall) : Type 0 where
-    given : OnOneImage M rom sched image (callsNotRefused M calls)
-    same : imageAfter M image calls ≡ imageAfter M image (callsNotRefused M calls)
+module _ {S : Type 0} (M : Machine S) (J : JumpLaws M) (N : NumberLaws M) where
+  -- the calls not refused are on one image, and leave the same one
+  abbrev OneImage : (rom sched image : List ℕ) (calls rest : List BoardCall) → Type 0
+  OneImage rom sched image calls rest = OnOneImage M rom sched image rest × (imageAfter M image calls ≡ imageAfter M image rest)
 
-  -- a refused call leaves the image, so those not refused are on one image
-  one-image : (calls : List BoardCall) (image : List ℕ) → OnOneImage M rom sched image calls → OneImage image calls
-  one-image [] image h = record { given = tt; same = refl }
-  one-image (c ∷ cs) image h = go (one-image cs (callAnswer M c .image) (h .1)) (callRefusal M c) refl (changes-nothing M (L .jumps) N c)
+  -- since a refused call leaves the image
+  pub on-one-image : EveryListOnOneImageIsMeant M
+  on-one-image rom sched image [] h = (tt, refl)
+  on-one-image rom sched image (c ∷ cs) h =
+      go (on-one-image rom sched (callAnswer M c .image) cs (h .1)) (callRefusal M c) (changes-nothing M J N c)
     where
-      go : OneImage (callAnswer M c .image) cs → (k : ℕ) → callRefusal M c ≡ k → ChangesNothing M k c → OneImage image (c ∷ cs)
-      go ih zero e q =
-          let kept : callsNotRefused M (c ∷ cs) ≡ c ∷ callsNotRefused M cs = ap (λ (k : ℕ). keepCall k c (callsNotRefused M cs)) e in
-          let all : OnOneImage M rom sched image (c ∷ callsNotRefused M cs) = (h .0, ih .given) in
-          record {
-            given = subst (λ (z : List BoardCall). OnOneImage M rom sched image z) (sym kept) all;
-            same = ih .same ∙ ap (λ (z : List BoardCall). imageAfter M image z) (sym kept);
-          }
-      go ih (suc k) e q =
-          let kept : callsNotRefused M (c ∷ cs) ≡ callsNotRefused M cs = ap (λ (k : ℕ). keepCall k c (callsNotRefused M cs)) e in
+      go : OneImage rom sched (callAnswer M c .image) cs (callsNotRefused M cs) → (k : ℕ) → ChangesNothing M k c
+          → OneImage rom sched image (c ∷ cs) (keepCall k c (callsNotRefused M cs))
+      go ih zero q = ((h .0, ih .0), ih .1)
+      go ih (suc k) q =
           let same : callAnswer M c .image ≡ image = q .image ∙ h .0 .same-image in
-          record {
-            given =
-                subst (λ (z : List BoardCall). OnOneImage M rom sched image z) (sym kept)
-                (subst (λ (i : List ℕ). OnOneImage M rom sched i (callsNotRefused M cs)) same (ih .given));
-            same =
-                ih .same
-                ∙ ap (λ (i : List ℕ). imageAfter M i (callsNotRefused M cs)) same
-                ∙ ap (λ (z : List BoardCall). imageAfter M image z) (sym kept);
-          }
-
-  pub image-ends : (s : S) (calls : List BoardCall) → Panel M rom sched → M .stateNumber s ≡ 0 → OnOneImage M rom sched (M .image s) calls
-      → CallsEndAsOneRun M rom sched (M .image s) s calls × (imageAfter M (M .image s) calls ≡ imageAfter M (M .image s) (callsNotRefused M calls))
-  image-ends s calls p v h = let o = one-image calls (M .image s) h in (calls-end M L N rom sched s calls p v (o .given), o .same)
+          (
+            subst (λ (i : List ℕ). OnOneImage M rom sched i (callsNotRefused M cs)) same (ih .0),
+            ih .1 ∙ ap (λ (i : List ℕ). imageAfter M i (callsNotRefused M cs)) same,
+          )

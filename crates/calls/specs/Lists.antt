@@ -112,3 +112,9 @@ module _ {S : Type 0} (M : Machine S) where
   EveryListOfCallsEndsAsOneRun =
       (rom sched : List ℕ) (s : S) (calls : List BoardCall) → Panel M rom sched → M .stateNumber s ≡ 0
       → OnOneImage M rom sched (M .image s) (callsNotRefused M calls) → CallsEndAsOneRun rom sched (M .image s) s calls
+
+  -- Such is every list on one image, refused calls too, and the image that the last of them leaves is that of the calls not refused.
+  abbrev pub EveryListOnOneImageIsMeant : Type 0
+  EveryListOnOneImageIsMeant =
+      (rom sched image : List ℕ) (calls : List BoardCall) → OnOneImage M rom sched image calls
+      → OnOneImage M rom sched image (callsNotRefused M calls) × (imageAfter M image calls ≡ imageAfter M image (callsNotRefused M calls))

@@ -15,7 +15,7 @@ use Rattle.laws.proofs.Lists.{below-all}
 use Rattle.calls.specs.Call.{BoardCall, longEnough, imageRun, callAnswer}
 use Rattle.calls.specs.EveryCall.{refusedReport, callRefusal, callNumber, Refuses, Rewrites, TellsItsRun}
 use Rattle.calls.specs.Lists.{PanelLent, callsNotRefused, CallLent, OnOneImage, imageAfter, CallsEndAsOneRun}
-use Rattle.calls.proofs.Chip.{every-finish-or-stop-rewrites, every-call-tells-its-run, every-list-of-calls, every-accepted-image}
+use Rattle.calls.proofs.Chip.{every-finish-or-stop-rewrites, every-call-tells-its-run, every-list-of-calls, every-list-on-one-image, every-accepted-image}
 use Rattle.witness.specs.Calls.{rom, wantedImage}
 use Rattle.witness.specs.Board.{first, second, shortReport, badRom, onOther, last, start, between, calls, carriedOut, reportedCalls, onOne, left, BoardFigures}
 use Rattle.witness.proofs.Opened.{opened}
@@ -66,9 +66,12 @@ lent =
     let refused-two : CallLent upd546 rom [] between (badRom between) = record { same-image = refl; lent = λ e. absurd (a-number e) } in
     (lent-first, (refused-one, (refused-two, (lent-second, tt))))
 
-on-one-image : CallsEndAsOneRun upd546 rom [] start (restoreAnswer upd546 start .state) onOne × (imageAfter upd546 start onOne ≡ imageAfter upd546 start (callsNotRefused upd546 onOne))
+kept : OnOneImage upd546 rom [] start (callsNotRefused upd546 onOne) × (imageAfter upd546 start onOne ≡ imageAfter upd546 start (callsNotRefused upd546 onOne))
+kept = every-list-on-one-image rom [] start onOne lent
+
+on-one-image : CallsEndAsOneRun upd546 rom [] start (restoreAnswer upd546 start .state) onOne
 unfolding called
-on-one-image = every-accepted-image rom [] start onOne (below-all 256 start (lit< tt) refl) panel refl lent
+on-one-image = every-accepted-image rom [] start onOne (below-all 256 start (lit< tt) refl) panel refl (kept .0)
 
 -- a call that was refused, as a whole
 whole : (k : ℕ) (c : BoardCall) → Refuses upd546 k c → callAnswer upd546 c ≡ left k c (refusedReport (longEnough c) (c .report))
@@ -129,6 +132,6 @@ figures =
       refused-log = tells .log;
       refused-cycles = tells .cycles;
       refused-written = tells .written;
-      one-image = on-one-image .1 ∙ on-one-image .0 .ends .image;
-      one-image-log = on-one-image .0 .ends .log;
+      one-image = kept .1 ∙ on-one-image .ends .image;
+      one-image-log = on-one-image .ends .log;
     }

@@ -25,9 +25,9 @@ use Rattle.driver.proofs.Refused.{refused-as-it-was, numbered-as-it-was}
 use Rattle.calls.specs.Call.{BoardCall}
 use Rattle.calls.specs.EveryCall.{TellsItsRun}
 use Rattle.calls.proofs.EveryCall.{refused-by-numbers, changes-nothing, call-rewrites, call-tells-run}
-use Rattle.calls.proofs.Lists.{calls-end}
+use Rattle.calls.proofs.Lists.{calls-end, on-one-image}
 use Rattle.calls.proofs.Chip.{every-call-is-refused-by-numbers, every-refusal-changes-nothing, every-finish-or-stop-rewrites, every-call-tells-its-run}
-use Rattle.calls.proofs.Chip.{every-list-of-calls, every-accepted-image}
+use Rattle.calls.proofs.Chip.{every-list-of-calls, every-list-on-one-image, every-accepted-image}
 use Rattle.witness.specs.EveryCall.{withSteps, OfEveryRun, OfEveryRefusal, RunTold, CallFacts, OfAnyMachine, OfEveryLaw}
 
 same : {S : Type 0} (M : Machine S) → JumpLaws M → (rom sched : List ℕ) (s : S) (log : List ℕ) (n : ℕ)
@@ -87,6 +87,7 @@ facts = record {
   call-lists = λ rom sched s calls p v m.
       let e = every-list-of-calls rom sched s calls p v m in
       record { nothing = e .nothing; stops = e .ends .stops; next = e .goes-on };
+  one-images = every-list-on-one-image;
   accepted-images = every-accepted-image;
 }
 
@@ -99,6 +100,7 @@ any-machine M = record {
   runs = λ L N kind rom sched s log n.
       run-facts log n _ (counts-within M L kind rom sched s log n) (numbers-tell M (L .jumps) N kind rom sched s log n);
   call-lists = calls-end M;
+  one-images = on-one-image M;
   rewrites = call-rewrites M;
   tells-run = λ L N c l h. call-tells-run M L N c l h .end;
   refused-by = refused-by-numbers M;

@@ -105,6 +105,6 @@ pub record BoardFigures : Type 0 where
   pub refused-log : callAnswer upd546 (badRom between) .log ≡ 6 ∷ 6 ∷ []
   pub refused-cycles : figureAt upd546 0 (badRom between) ≡ 0
   pub refused-written : figureAt upd546 16 (badRom between) ≡ 0
-  -- `EveryAcceptedImageEndsAsOneRun`
+  -- `EveryListOnOneImageIsMeant`, `EveryAcceptedImageEndsAsOneRun`
   pub one-image : imageAfter upd546 start onOne ≡ wantedImage
   pub one-image-log : joined (callLogs upd546 (callsNotRefused upd546 onOne)) ≡ wantedLog

@@ -123,17 +123,17 @@ pub record CallFacts : Type 0 where
       → OfEveryList rom sched s (notRefused upd546 calls)
   pub slices : (rom sched : List ℕ) (s : State) (ps : List Slice) → Panel upd546 rom sched → stateNumber s ≡ 0
       → s .cycle .0 + slicesAsk ps ≤ 281474976710655 → Lendable upd546 ps → SlicesEndAsOneRun upd546 rom sched s ps
-  -- R-3: `EveryListOfCallsEndsAsOneRun`, `EveryAcceptedImageEndsAsOneRun`
+  -- R-3: `EveryListOfCallsEndsAsOneRun`, `EveryListOnOneImageIsMeant`, `EveryAcceptedImageEndsAsOneRun`
   pub calls : (c : BoardCall) → OfEveryCall c
   pub call-lists : (rom sched : List ℕ) (s : State) (calls : List BoardCall) → Panel upd546 rom sched → stateNumber s ≡ 0
       → OnOneImage upd546 rom sched (imageOf s) (callsNotRefused upd546 calls) → OfEveryCallList rom sched s calls (callsNotRefused upd546 calls)
+  pub one-images : (rom sched image : List ℕ) (calls : List BoardCall) → OnOneImage upd546 rom sched image calls
+      → OnOneImage upd546 rom sched image (callsNotRefused upd546 calls) × (imageAfter upd546 image calls ≡ imageAfter upd546 image (callsNotRefused upd546 calls))
   pub accepted-images : (rom sched image : List ℕ) (calls : List BoardCall) → Bytes image → Panel upd546 rom sched → restoreAnswer upd546 image .number ≡ 0
-      → OnOneImage upd546 rom sched image calls
-      → CallsEndAsOneRun upd546 rom sched image (restoreAnswer upd546 image .state) calls
-      × (imageAfter upd546 image calls ≡ imageAfter upd546 image (callsNotRefused upd546 calls))
+      → OnOneImage upd546 rom sched image (callsNotRefused upd546 calls) → CallsEndAsOneRun upd546 rom sched image (restoreAnswer upd546 image .state) calls
 
--- ANY MACHINE: `skipping-same`, `lists-end`, `slices-end`, `runs-sound`, `counts-within`, `numbers-tell`, `calls-end`, `call-rewrites`,
--- `call-tells-run`, `refused-by-numbers`, `changes-nothing`
+-- ANY MACHINE: `skipping-same`, `lists-end`, `slices-end`, `runs-sound`, `counts-within`, `numbers-tell`, `calls-end`, `on-one-image`,
+-- `call-rewrites`, `call-tells-run`, `refused-by-numbers`, `changes-nothing`
 pub record OfAnyMachine {S : Type 0} (M : Machine S) : Type 0 where
   pub same : JumpLaws M → (rom sched : List ℕ) (s : S) (log : List ℕ) (n : ℕ)
       → skipping M rom sched s log n ≡ withSteps (skipping M rom sched s log n .steps) (plain M rom sched s log n)
@@ -147,6 +147,8 @@ pub record OfAnyMachine {S : Type 0} (M : Machine S) : Type 0 where
       → OfEveryRun n (length log) (runAnswer M kind rom sched s log n)
   pub call-lists : Laws M → NumberLaws M → (rom sched : List ℕ) (s : S) (calls : List BoardCall) → Panel M rom sched → M .stateNumber s ≡ 0
       → OnOneImage M rom sched (M .image s) (callsNotRefused M calls) → CallsEndAsOneRun M rom sched (M .image s) s calls
+  pub one-images : JumpLaws M → NumberLaws M → (rom sched image : List ℕ) (calls : List BoardCall) → OnOneImage M rom sched image calls
+      → OnOneImage M rom sched image (callsNotRefused M calls) × (imageAfter M image calls ≡ imageAfter M image (callsNotRefused M calls))
   pub rewrites : Laws M → NumberLaws M → (c : BoardCall) → Bytes (c .rom) → Bytes (c .sched) → length (c .image) ≡ M .imageLength → callRefusal M c ≡ 0
       → Rewrites M c
   pub tells-run : Laws M → NumberLaws M → (c : BoardCall) → length (c .log) < 2 ^ 64 → 32 ≤ length (c .report)
