@@ -9,7 +9,12 @@ use Rattle.runs.specs.TwoRunners.{End, finished, stopped, refused, RunAnswer, r
 use Rattle.runs.specs.Lists.{Kind, run, refusalOf, runAnswer, ChangesNothing}
 use Rattle.runs.proofs.Calls.{changes-nothing}
 use Rattle.calls.specs.Call.{BoardCall, kindOf, reportLength, countBytes, reported, onRestored, imageRun, runOf, ranCall, onEnd, callAnswer}
-use Rattle.calls.specs.EveryCall.{numberOfEnd}
+
+-- the number that an end is answered with
+abbrev pub numberOfEnd : End → ℕ
+numberOfEnd finished = 0
+numberOfEnd (stopped k) = k
+numberOfEnd (refused k) = k
 
 -- an end that isn't a refusal
 abbrev pub NoRefusal : End → Type 0

@@ -14,7 +14,7 @@ use Rattle.runs.specs.Refusals.{firstOf, unless}
 use Rattle.runs.specs.Numbers.{isStop}
 use Rattle.runs.specs.TwoRunners.{End, finished, stopped, refused, RunAnswer, SaveAnswer, endWith}
 use Rattle.runs.specs.TwoRunners.{within, strides, runNumber, told, stepwise, plain, skipping, saveAnswer, got, restoreAnswer}
-use Rattle.runs.specs.Laws.{ImageLaws, JumpLaws, NumberLaws, Laws}
+use Rattle.runs.specs.Laws.{Bytes, ImageLaws, JumpLaws, NumberLaws, Laws}
 use Rattle.runs.specs.EveryRun.{CountsWithin, NumberTells}
 use Rattle.runs.specs.Lists.{Kind, plainOne, skippingOne, run, restore, refusalOf, runAnswer, WrittenBy}
 use Rattle.runs.proofs.Refusals.{first-at, last-one, passes}
@@ -22,10 +22,15 @@ use Rattle.runs.proofs.Calls.{run-fit, fit-save, by-number, restore-same}
 use Rattle.runs.proofs.EveryRun.{runs-sound, counts-within, numbers-tell}
 use Rattle.upd546.specs.Bytes.{numberAt}
 use Rattle.laws.proofs.Digits.{bytes-back}
-use Rattle.calls.specs.Call.{BoardCall, BoardAnswer, kindOf, reportLength, countBytes, reported, longEnough, onRestored, imageRun, runOf, onReport, callAnswer}
-use Rattle.calls.specs.EveryCall.{numberOfEnd, refusalWith, refusedReport, callRefusal, callNumber, Refuses, ChangesNothing, AnswersItsRun, TellsItsRun, EveryCallTellsItsRun}
-use Rattle.calls.specs.EveryCall.{EveryCallRewritesTheImage, EveryReportReadsBack, stop, refusal, endingBy, endingOf, EveryCallsNumberTells}
-use Rattle.calls.proofs.Call.{NoRefusal, idle, ran-answer}
+use Rattle.calls.specs.Call.{BoardCall, BoardAnswer, kindOf, reportLength, countBytes, reported, longEnough, onRestored, imageRun, runOf, ranCall, onReport, callAnswer}
+use Rattle.calls.specs.EveryCall.{endBy, refusedReport, callRefusal, callNumber, EveryCallIsRefusedByNumbers, Refuses, ChangesNothing, EveryRefusalChangesNothing}
+use Rattle.calls.specs.EveryCall.{TellsItsRun, EveryCallTellsItsRun, Rewrites}
+use Rattle.calls.proofs.Call.{numberOfEnd, NoRefusal, idle, ran-answer}
+
+-- how a call ends: a report that is too short is refused with 1, else as the run ends
+abbrev endWithReport : Bool → End → End
+endWithReport false e = refused 1
+endWithReport true e = e
 
 module _ {S : Type 0} (M : Machine S) where
   -- WHAT REFUSES A CALL
@@ -40,12 +45,12 @@ module _ {S : Type 0} (M : Machine S) where
   unfolding imageRun restoreAnswer
   run-number c = restored-number (M .imageNumber (c .image)) (M .ofImage (c .image)) (kindOf (c .runner)) (c .rom) (c .sched) (c .log) (c .n)
 
-  -- a call is refused where the documents refuse it, and with their number
-  pub call-number : (c : BoardCall) → callRefusal M c ≡ callNumber M c
+  -- the end that refuses a call is that of the documents' number
+  call-number : (c : BoardCall) → refusalOf (endWithReport (longEnough c) (runOf M c .end)) ≡ callNumber M c
   unfolding firstOf
   call-number c = go (longEnough c)
     where
-      go : (b : Bool) → refusalWith b (runOf M c .end)
+      go : (b : Bool) → refusalOf (endWithReport b (runOf M c .end))
           ≡ firstOf (unless b 1 ∷ M .imageNumber (c .image) ∷ runNumber M (c .rom) (c .sched) (M .ofImage (c .image)) (c .n) ∷ [])
       go false = refl
       go true = run-number c
@@ -53,7 +58,7 @@ module _ {S : Type 0} (M : Machine S) where
   -- WHAT A REFUSED CALL LEAVES
 
   leaves : (c : BoardCall) (b : Bool) (e : End) (a : RunAnswer S) → longEnough c ≡ b → callAnswer M c ≡ onReport M b c e a
-      → ChangesNothing M (refusalWith b e) c
+      → ChangesNothing M (refusalOf (endWithReport b e)) c
   leaves c false e a q h = record {
     number = ap (λ (z : BoardAnswer). z .number) h;
     image = ap (λ (z : BoardAnswer). z .image) h;
@@ -70,9 +75,9 @@ module _ {S : Type 0} (M : Machine S) where
     report = ap (λ (z : BoardAnswer). z .report) h ∙ ap (λ (b : Bool). refusedReport b (c .report)) (sym q);
   }
 
-  pub changes-nothing : (c : BoardCall) → ChangesNothing M (callRefusal M c) c
+  left : (c : BoardCall) → ChangesNothing M (callNumber M c) c
   unfolding callAnswer
-  changes-nothing c = leaves c (longEnough c) (runOf M c .end) (runOf M c) refl refl
+  left c = subst (λ (k : ℕ). ChangesNothing M k c) (call-number c) (leaves c (longEnough c) (runOf M c .end) (runOf M c) refl refl)
 
   -- A CALL THAT ISN'T REFUSED
 
@@ -81,7 +86,7 @@ module _ {S : Type 0} (M : Machine S) where
     pub restored : restoreAnswer M (c .image) .number ≡ 0
     pub same-run : runOf M c ≡ runAnswer M (kindOf (c .runner)) (c .rom) (c .sched) (restoreAnswer M (c .image) .state) (c .log) (c .n)
     pub run-ok : runNumber M (c .rom) (c .sched) (restoreAnswer M (c .image) .state) (c .n) ≡ 0
-    pub answers : AnswersItsRun M c
+    pub answers : callAnswer M c ≡ ranCall M c (numberOfEnd (runOf M c .end)) (runOf M c)
 
   ends : (o : Option ℕ) → NoRefusal (endWith o)
   ends none = tt
@@ -96,15 +101,14 @@ module _ {S : Type 0} (M : Machine S) where
       let q = strides M rom sched n (length log) n s in
       subst (λ (k : ℕ). NoRefusal (told M k q s log .end)) (sym z) (ends (q .ran .number))
 
-  pub through : (c : BoardCall) → callRefusal M c ≡ 0 → Through c
+  pub through : (c : BoardCall) → callNumber M c ≡ 0 → Through c
   unfolding imageRun restoreAnswer callAnswer
   through c h =
-      let z : callNumber M c ≡ 0 = sym (call-number c) ∙ h in
       let kind : Kind = kindOf (c .runner) in
       let s : S = restoreAnswer M (c .image) .state in
-      let restored : restoreAnswer M (c .image) .number ≡ 0 = ap (λ (k : ℕ). got M k (M .ofImage (c .image)) .number) (first-at _ z 1) in
-      let same-state : s ≡ M .ofImage (c .image) = ap (λ (k : ℕ). got M k (M .ofImage (c .image)) .state) (first-at _ z 1) in
-      let ok : runNumber M (c .rom) (c .sched) s (c .n) ≡ 0 = ap (λ (t : S). runNumber M (c .rom) (c .sched) t (c .n)) same-state ∙ first-at _ z 2 in
+      let restored : restoreAnswer M (c .image) .number ≡ 0 = ap (λ (k : ℕ). got M k (M .ofImage (c .image)) .number) (first-at _ h 1) in
+      let same-state : s ≡ M .ofImage (c .image) = ap (λ (k : ℕ). got M k (M .ofImage (c .image)) .state) (first-at _ h 1) in
+      let ok : runNumber M (c .rom) (c .sched) s (c .n) ≡ 0 = ap (λ (t : S). runNumber M (c .rom) (c .sched) t (c .n)) same-state ∙ first-at _ h 2 in
       let same : runOf M c ≡ runAnswer M kind (c .rom) (c .sched) s (c .log) (c .n)
       = ap (λ (k : ℕ). onRestored M k s kind (c .rom) (c .sched) (c .log) (c .n)) restored in
       let ran : NoRefusal (runOf M c .end)
@@ -114,7 +118,7 @@ module _ {S : Type 0} (M : Machine S) where
         same-run = same;
         run-ok = ok;
         answers =
-            ap (λ (b : Bool). onReport M b c (runOf M c .end) (runOf M c)) (passes (longEnough c) 1 refl (first-at _ z 0))
+            ap (λ (b : Bool). onReport M b c (runOf M c .end) (runOf M c)) (passes (longEnough c) 1 refl (first-at _ h 0))
             ∙ ran-answer M c (runOf M c .end) (runOf M c) ran;
       }
 
@@ -142,88 +146,6 @@ module _ {S : Type 0} (M : Machine S) where
     pub back : (s : S) (image : List ℕ) → M .stateNumber s ≡ 0 → image ≡ M .image s → restoreAnswer M image ≡ record { number = 0; state = s }
     back s image v e = restore-same M L s image (subst (λ (i : List ℕ). WrittenBy M s i) (sym e) (written s v))
 
--- "a finish or a stop rewrites it"
-pub call-rewrites : {S : Type 0} (M : Machine S) → Laws M → EveryCallRewritesTheImage M
-call-rewrites {S} M L c br bs long h =
-    let t = through M c h in
-    let s : S = restoreAnswer M (c .image) .state in
-    let kind : Kind = kindOf (c .runner) in
-    let f = run-fit M (c .rom) (c .sched) s (c .n) (t .run-ok) in
-    let sound : M .stateNumber (runOf M c .state) ≡ 0
-    = ap (λ (a : RunAnswer S). M .stateNumber (a .state)) (t .same-run) ∙ runs-sound M L kind (c .rom) (c .sched) s (c .log) (c .n) br bs (f .state) in
-    let over = saves-over M (L .images) (runOf M c .state) (c .image) sound long in
-    let left : callAnswer M c .image ≡ M .image (runOf M c .state)
-    = ap (λ (z : BoardAnswer). z .image) (t .answers) ∙ ap (λ (z : SaveAnswer). z .buffer) over in
-    record {
-      saved = ap (λ (z : SaveAnswer). z .number) over;
-      image = left;
-      restores = back M (L .images) (runOf M c .state) (callAnswer M c .image) sound left;
-    }
-
--- THE COUNTS IN THE REPORT
-
-pub reports-read-back : {S : Type 0} (M : Machine S) → Laws M → EveryReportReadsBack M
-reports-read-back {S} M L c small h =
-    let t = through M c h in
-    let s : S = restoreAnswer M (c .image) .state in
-    let a : RunAnswer S = runOf M c in
-    let f = run-fit M (c .rom) (c .sched) s (c .n) (t .run-ok) in
-    let w : CountsWithin (c .log) (c .n) a
-    = subst (CountsWithin (c .log) (c .n)) (sym (t .same-run)) (counts-within M L (kindOf (c .runner)) (c .rom) (c .sched) s (c .log) (c .n)) in
-    let told : callAnswer M c .report ≡ reported (countBytes (a .cycles) (a .begun) (a .written) (a .steps)) (c .report)
-    = ap (λ (z : BoardAnswer). z .report) (t .answers) in
-    let cycles : a .cycles < 256 ^ 8 = omega (arith, w .cycles, f .limit) in
-    let begun : a .begun < 256 ^ 8 = omega (arith, w .begun, cycles) in
-    let written : a .written < 256 ^ 8 = omega (arith, w .written, small) in
-    let steps : a .steps < 256 ^ 8 = omega (arith, w .steps, cycles) in
-    record {
-      cycles = ap (λ (l : List ℕ). numberAt l 0 8) told ∙ bytes-back 8 (a .cycles) cycles;
-      begun = ap (λ (l : List ℕ). numberAt l 8 8) told ∙ bytes-back 8 (a .begun) begun;
-      written = ap (λ (l : List ℕ). numberAt l 16 8) told ∙ bytes-back 8 (a .written) written;
-      steps = ap (λ (l : List ℕ). numberAt l 24 8) told ∙ bytes-back 8 (a .steps) steps;
-    }
-
--- WHAT A CALL TELLS OF ITS RUN
-
--- an end that refuses, by its number
-refused-end : (e : End) (k : ℕ) → refusalOf e ≡ suc k → e ≡ refused (suc k)
-refused-end finished k h = cc
-refused-end (stopped j) k h = cc
-refused-end (refused j) k h = ap refused h
-
-module _ {S : Type 0} (M : Machine S) where
-  refused-tells : (c : BoardCall) (k : ℕ) → reportLength ≤ length (c .report) → callRefusal M c ≡ suc k → TellsItsRun M c
-  refused-tells c k long h =
-      let enough : longEnough c ≡ true = le-leb reportLength (length (c .report)) long in
-      let left : Refuses M (suc k) c = subst (λ (j : ℕ). ChangesNothing M j c) h (changes-nothing M c) in
-      let end : runOf M c .end ≡ refused (suc k) = refused-end (runOf M c .end) k (sym (ap (λ (b : Bool). refusalWith b (runOf M c .end)) enough) ∙ h) in
-      let none = idle M c k end in
-      let zeros : callAnswer M c .report ≡ reported (replicate reportLength 0) (c .report)
-      = left .report ∙ ap (λ (b : Bool). refusedReport b (c .report)) enough in
-      record {
-        number = left .number ∙ sym (ap numberOfEnd end);
-        log = left .log ∙ sym (none .log);
-        counts = record {
-          cycles = ap (λ (l : List ℕ). numberAt l 0 8) zeros ∙ sym (none .cycles);
-          begun = ap (λ (l : List ℕ). numberAt l 8 8) zeros ∙ sym (none .begun);
-          written = ap (λ (l : List ℕ). numberAt l 16 8) zeros ∙ sym (none .written);
-          steps = ap (λ (l : List ℕ). numberAt l 24 8) zeros ∙ sym (none .steps);
-        };
-      }
-
-  pub call-tells-run : Laws M → EveryCallTellsItsRun M
-  call-tells-run L c small long = go (callRefusal M c) refl
-    where
-      go : (k : ℕ) → callRefusal M c ≡ k → TellsItsRun M c
-      go zero h =
-          let answers = through M c h .answers in
-          record {
-            number = ap (λ (z : BoardAnswer). z .number) answers;
-            log = ap (λ (z : BoardAnswer). z .log) answers;
-            counts = reports-read-back M L c small h;
-          }
-      go (suc k) h = refused-tells c k long h
-
 -- WHAT THE NUMBER TELLS
 
 module _ {S : Type 0} (M : Machine S) where
@@ -238,14 +160,107 @@ module _ {S : Type 0} (M : Machine S) where
       restored-tells J N (restoreAnswer M (c .image) .number) (restoreAnswer M (c .image) .state) (kindOf (c .runner)) (c .rom) (c .sched) (c .log) (c .n)
       (ap isStop (by-number M (restore (c .image))) ∙ N .images (c .image))
 
-  ending-told : (c : BoardCall) (b : Bool) (e : End) (a : RunAnswer S) → NumberTells e → endingBy (onReport M b c e a .number) ≡ endingOf b e
-  ending-told c false e a h = refl
-  ending-told c true finished a h = refl
-  ending-told c true (stopped zero) a h = cc
-  ending-told c true (stopped (suc k)) a h = ap (λ (t : Bool). cond t stop refusal) h
-  ending-told c true (refused zero) a h = absurd h
-  ending-told c true (refused (suc k)) a h = ap (λ (t : Bool). cond t stop refusal) h
+  end-told : (c : BoardCall) (b : Bool) (e : End) (a : RunAnswer S) → NumberTells e → endBy (onReport M b c e a .number) ≡ endWithReport b e
+  end-told c false e a h = refl
+  end-told c true finished a h = refl
+  end-told c true (stopped zero) a h = cc
+  end-told c true (stopped (suc k)) a h = ap (λ (t : Bool). cond t (stopped (suc k)) (refused (suc k))) h
+  end-told c true (refused zero) a h = absurd h
+  end-told c true (refused (suc k)) a h = ap (λ (t : Bool). cond t (stopped (suc k)) (refused (suc k))) h
 
-  pub call-tells : JumpLaws M → NumberLaws M → EveryCallsNumberTells M
+  call-tells : JumpLaws M → NumberLaws M → (c : BoardCall) → endBy (callAnswer M c .number) ≡ endWithReport (longEnough c) (runOf M c .end)
   unfolding callAnswer
-  call-tells J N c = ending-told c (longEnough c) (runOf M c .end) (runOf M c) (run-tells J N c)
+  call-tells J N c = end-told c (longEnough c) (runOf M c .end) (runOf M c) (run-tells J N c)
+
+  pub refused-by-numbers : JumpLaws M → NumberLaws M → EveryCallIsRefusedByNumbers M
+  refused-by-numbers J N c = ap refusalOf (call-tells J N c) ∙ call-number M c
+
+  pub changes-nothing : JumpLaws M → NumberLaws M → EveryRefusalChangesNothing M
+  changes-nothing J N c = subst (λ (k : ℕ). ChangesNothing M k c) (sym (refused-by-numbers J N c)) (left M c)
+
+-- "a finish or a stop rewrites it", on bytes of an image's length, whatever the log's length
+pub call-rewrites : {S : Type 0} (M : Machine S) → Laws M → NumberLaws M
+    → (c : BoardCall) → Bytes (c .rom) → Bytes (c .sched) → length (c .image) ≡ M .imageLength → callRefusal M c ≡ 0 → Rewrites M c
+call-rewrites {S} M L N c br bs long h =
+    let t = through M c (sym (refused-by-numbers M (L .jumps) N c) ∙ h) in
+    let s : S = restoreAnswer M (c .image) .state in
+    let kind : Kind = kindOf (c .runner) in
+    let f = run-fit M (c .rom) (c .sched) s (c .n) (t .run-ok) in
+    let sound : M .stateNumber (runOf M c .state) ≡ 0
+    = ap (λ (a : RunAnswer S). M .stateNumber (a .state)) (t .same-run) ∙ runs-sound M L kind (c .rom) (c .sched) s (c .log) (c .n) br bs (f .state) in
+    let over = saves-over M (L .images) (runOf M c .state) (c .image) sound long in
+    let left : callAnswer M c .image ≡ M .image (runOf M c .state)
+    = ap (λ (z : BoardAnswer). z .image) (t .answers) ∙ ap (λ (z : SaveAnswer). z .buffer) over in
+    record {
+      saved = ap (λ (z : SaveAnswer). z .number) over;
+      image = left;
+      restores = back M (L .images) (runOf M c .state) (callAnswer M c .image) sound left;
+    }
+
+-- WHAT A CALL TELLS OF ITS RUN
+
+-- an end that refuses, by its number
+refused-end : (e : End) (k : ℕ) → refusalOf e ≡ suc k → e ≡ refused (suc k)
+refused-end finished k h = cc
+refused-end (stopped j) k h = cc
+refused-end (refused j) k h = ap refused h
+
+module _ {S : Type 0} (M : Machine S) (L : Laws M) (N : NumberLaws M) where
+  end-as : (c : BoardCall) → longEnough c ≡ true → endBy (callAnswer M c .number) ≡ runOf M c .end
+  end-as c enough = call-tells M (L .jumps) N c ∙ ap (λ (b : Bool). endWithReport b (runOf M c .end)) enough
+
+  -- a call that isn't refused, whose log bytes stand in eight bytes
+  pub ran-tells : (c : BoardCall) → callNumber M c ≡ 0 → runOf M c .written < 2 ^ 64 → TellsItsRun M c
+  ran-tells c h small =
+      let t = through M c h in
+      let s : S = restoreAnswer M (c .image) .state in
+      let a : RunAnswer S = runOf M c in
+      let f = run-fit M (c .rom) (c .sched) s (c .n) (t .run-ok) in
+      let w : CountsWithin (c .log) (c .n) a
+      = subst (CountsWithin (c .log) (c .n)) (sym (t .same-run)) (counts-within M L (kindOf (c .runner)) (c .rom) (c .sched) s (c .log) (c .n)) in
+      let told : callAnswer M c .report ≡ reported (countBytes (a .cycles) (a .begun) (a .written) (a .steps)) (c .report)
+      = ap (λ (z : BoardAnswer). z .report) (t .answers) in
+      let cycles : a .cycles < 256 ^ 8 = omega (arith, w .cycles, f .limit) in
+      let begun : a .begun < 256 ^ 8 = omega (arith, w .begun, cycles) in
+      let written : a .written < 256 ^ 8 = omega (arith, small) in
+      let steps : a .steps < 256 ^ 8 = omega (arith, w .steps, cycles) in
+      record {
+        end = end-as c (passes (longEnough c) 1 refl (first-at _ h 0));
+        log = ap (λ (z : BoardAnswer). z .log) (t .answers);
+        cycles = ap (λ (l : List ℕ). numberAt l 0 8) told ∙ bytes-back 8 (a .cycles) cycles;
+        begun = ap (λ (l : List ℕ). numberAt l 8 8) told ∙ bytes-back 8 (a .begun) begun;
+        written = ap (λ (l : List ℕ). numberAt l 16 8) told ∙ bytes-back 8 (a .written) written;
+        steps = ap (λ (l : List ℕ). numberAt l 24 8) told ∙ bytes-back 8 (a .steps) steps;
+      }
+
+  refused-tells : (c : BoardCall) (k : ℕ) → reportLength ≤ length (c .report) → callNumber M c ≡ suc k → TellsItsRun M c
+  refused-tells c k long h =
+      let enough : longEnough c ≡ true = le-leb reportLength (length (c .report)) long in
+      let same : Refuses M (suc k) c = subst (λ (j : ℕ). ChangesNothing M j c) h (left M c) in
+      let number : refusalOf (runOf M c .end) ≡ suc k
+      = sym (ap (λ (b : Bool). refusalOf (endWithReport b (runOf M c .end))) enough) ∙ call-number M c ∙ h in
+      let none = idle M c k (refused-end (runOf M c .end) k number) in
+      let zeros : callAnswer M c .report ≡ reported (replicate reportLength 0) (c .report)
+      = same .report ∙ ap (λ (b : Bool). refusedReport b (c .report)) enough in
+      record {
+        end = end-as c enough;
+        log = same .log ∙ sym (none .log);
+        cycles = ap (λ (l : List ℕ). numberAt l 0 8) zeros ∙ sym (none .cycles);
+        begun = ap (λ (l : List ℕ). numberAt l 8 8) zeros ∙ sym (none .begun);
+        written = ap (λ (l : List ℕ). numberAt l 16 8) zeros ∙ sym (none .written);
+        steps = ap (λ (l : List ℕ). numberAt l 24 8) zeros ∙ sym (none .steps);
+      }
+
+  pub call-tells-run : EveryCallTellsItsRun M
+  call-tells-run c small long = go (callNumber M c) refl
+    where
+      fits : callNumber M c ≡ 0 → runOf M c .written < 2 ^ 64
+      fits h =
+          let w : CountsWithin (c .log) (c .n) (runOf M c)
+          = subst (CountsWithin (c .log) (c .n)) (sym (through M c h .same-run))
+          (counts-within M L (kindOf (c .runner)) (c .rom) (c .sched) (restoreAnswer M (c .image) .state) (c .log) (c .n)) in
+          omega (arith, w .written, small)
+
+      go : (k : ℕ) → callNumber M c ≡ k → TellsItsRun M c
+      go zero h = ran-tells c h (fits h)
+      go (suc k) h = refused-tells c k long h

@@ -1,29 +1,121 @@
 -- The power-off guarantee over lists of the board's call: each stands for a restore, a run and a save. Assumes nothing.
-use mathlib.Core.Path.{_≡_, _∙_, refl, sym, ap, subst}
-use mathlib.Core.Bool.{Bool}
+use mathlib.Core.Path.{_≡_, _∙_, refl, sym, ap, ap₂, subst}
+use mathlib.Core.Bool.{Bool, true, false, cond}
 use mathlib.Core.Logic.{_↔_}
-use mathlib.Core.List.{List, [], _∷_}
-use mathlib.Core.Option.{none}
+use mathlib.Core.List.{List, [], _∷_, _++_, map}
+use mathlib.Core.Option.{Option, some}
 use Prim.Native.Nat.{ℕ, zero, suc, _+_, _^_, _<_, _≤_}
+use native.Mathlib.Nat.{zero-add}
 use native.Mathlib.Omega.{arith}
-use lib.ListN.{length}
+use lib.ListN.{length, take, replicate}
 use borrow.Author.Tests.{le-leb}
 use Rattle.runs.specs.Machine.{Machine}
+use Rattle.runs.specs.Numbers.{isStop}
 use Rattle.runs.specs.Refusals.{cycleLimit, unless}
-use Rattle.runs.specs.TwoRunners.{RunAnswer, SaveAnswer, unbroken, runNumber, saveAnswer, restoreAnswer}
-use Rattle.runs.specs.Laws.{Panel, Laws}
-use Rattle.runs.specs.Lists.{Kind, Call, run, save, restore, Each, runAnswer, notRefused, last, WrittenBy, Lent, AllGet}
-use Rattle.runs.specs.Lists.{runs, joinedLog, cycleTotal, begunTotal, AllFinish, StopsHave, asked, EndsAs, GoesOn, EndsAsOneRun}
+use Rattle.runs.specs.TwoRunners.{finished, stopped, refused, RunAnswer, SaveAnswer, unbroken, runNumber, saveAnswer, restoreAnswer}
+use Rattle.runs.specs.Laws.{Panel, JumpLaws, NumberLaws, Laws}
+use Rattle.runs.specs.Lists.{Kind, Call, run, save, restore, Each, refusalOf, runAnswer, notRefused, last, WrittenBy, Lent, AllGet, Meant}
+use Rattle.runs.specs.Lists.{runs, runLog, joinedLog, cycleTotal, begunTotal, AllFinish, StopsHave, asked, EndsAs, GoesOn, EndsAsOneRun}
 use Rattle.runs.proofs.Refusals.{first-past, last-one}
-use Rattle.runs.proofs.Calls.{by-number}
+use Rattle.runs.proofs.Iterate.{log-bound}
+use Rattle.runs.proofs.Calls.{run-fit, by-number}
 use Rattle.runs.proofs.Lists.{each, keeps, advances, lists-end}
-use Rattle.calls.specs.Call.{BoardCall, BoardAnswer, kindOf, reportLength, runOf, callAnswer}
-use Rattle.calls.specs.EveryCall.{callRefusal, callNumber, ChangesNothing, AnswersItsRun, ReadsBack}
-use Rattle.calls.specs.Lists.{keepCall, callsNotRefused, imageAfter, CallLent, OnOneImage, callsAsk, callRuns, slicesOf, CallsEndAs, EveryListOfCallsEndsAsOneRun}
-use Rattle.calls.specs.Lists.{Lending, callOn, onImage, LentUnlessRefused, EveryImageEndsAsOneRun}
-use Rattle.calls.proofs.EveryCall.{call-number, changes-nothing, through, saves-over, written, back, reports-read-back}
+use Rattle.upd546.specs.Bytes.{numberAt}
+use Rattle.calls.specs.Call.{BoardCall, BoardAnswer, kindOf, reportLength, reported, callAnswer}
+use Rattle.calls.specs.EveryCall.{endBy, refusedReport, callRefusal, callNumber, ChangesNothing, figureAt, TellsItsRun}
+use Rattle.calls.specs.Lists.{keepCall, callsNotRefused, PanelLent, OnOneImage, imageAfter, callLogs, figureTotal, joined, callsAsk, EveryListOnOneImageIsMeant, CallsEndAs, SameFigures, EveryListOfCallsEndsAsOneRun}
+use Rattle.calls.proofs.EveryCall.{refused-by-numbers, changes-nothing, through, saves-over, written, back, ran-tells}
+
+-- WHAT CALLS TELL OF RUNS
+
+-- a number that is a finish's
+by-finish : (k : ℕ) → endBy k ≡ finished → k ≡ 0
+by-finish zero e = refl
+by-finish (suc k) e = go (isStop (suc k)) e
+  where
+    go : (b : Bool) → cond b (stopped (suc k)) (refused (suc k)) ≡ finished → suc k ≡ 0
+    go true e = cc
+    go false e = cc
+
+-- any other that is no refusal's
+by-stop : (k : ℕ) → refusalOf (endBy (suc k)) ≡ 0 → endBy (suc k) ≡ stopped (suc k)
+by-stop k e = go (isStop (suc k)) e
+  where
+    go : (b : Bool) → refusalOf (cond b (stopped (suc k)) (refused (suc k))) ≡ 0 → cond b (stopped (suc k)) (refused (suc k)) ≡ stopped (suc k)
+    go true e = refl
+    go false e = absurd (omega (arith, e))
 
 module _ {S : Type 0} (M : Machine S) where
+  -- a call that isn't refused, and a run: what it tells is that run
+  record Tells (c : BoardCall) (a : RunAnswer S) : Type 0 where
+    taken : callRefusal M c ≡ 0
+    end : endBy (callAnswer M c .number) ≡ a .end
+    log : take (figureAt M 16 c) (callAnswer M c .log) ≡ runLog a
+    cycles : figureAt M 0 c ≡ a .cycles
+    begun : figureAt M 8 c ≡ a .begun
+
+  abbrev AllTell : List BoardCall → List (RunAnswer S) → Type 0
+  AllTell [] [] = Unit {0}
+  AllTell [] (a ∷ rs) = ⊥
+  AllTell (c ∷ cs) [] = ⊥
+  AllTell (c ∷ cs) (a ∷ rs) = Tells c a × AllTell cs rs
+
+  same-logs : (cs : List BoardCall) (rs : List (RunAnswer S)) → AllTell cs rs → callLogs M cs ≡ map runLog rs
+  same-logs [] [] h = refl
+  same-logs [] (a ∷ rs) h = absurd h
+  same-logs (c ∷ cs) [] h = absurd h
+  same-logs (c ∷ cs) (a ∷ rs) h = ap₂ (λ (l : List ℕ) (ls : List (List ℕ)). l ∷ ls) (h .0 .log) (same-logs cs rs (h .1))
+
+  joined-log : (rs : List (RunAnswer S)) → joined (map runLog rs) ≡ joinedLog rs
+  joined-log [] = refl
+  joined-log (a ∷ rs) = ap (λ (l : List ℕ). runLog a ++ l) (joined-log rs)
+
+  same-cycles : (cs : List BoardCall) (rs : List (RunAnswer S)) → AllTell cs rs → figureTotal M 0 cs ≡ cycleTotal rs
+  same-cycles [] [] h = refl
+  same-cycles [] (a ∷ rs) h = absurd h
+  same-cycles (c ∷ cs) [] h = absurd h
+  same-cycles (c ∷ cs) (a ∷ rs) h = ap₂ _+_ (h .0 .cycles) (same-cycles cs rs (h .1))
+
+  same-begun : (cs : List BoardCall) (rs : List (RunAnswer S)) → AllTell cs rs → figureTotal M 8 cs ≡ begunTotal rs
+  same-begun [] [] h = refl
+  same-begun [] (a ∷ rs) h = absurd h
+  same-begun (c ∷ cs) [] h = absurd h
+  same-begun (c ∷ cs) (a ∷ rs) h = ap₂ _+_ (h .0 .begun) (same-begun cs rs (h .1))
+
+  all-finish : (cs : List BoardCall) (rs : List (RunAnswer S)) → AllTell cs rs → Each (λ c. callAnswer M c .number ≡ 0) cs ↔ AllFinish rs
+  all-finish [] [] h = (λ f. tt, λ f. tt)
+  all-finish [] (a ∷ rs) h = absurd h
+  all-finish (c ∷ cs) [] h = absurd h
+  all-finish (c ∷ cs) (a ∷ rs) h =
+      let rest = all-finish cs rs (h .1) in
+      (
+        λ f. (sym (h .0 .end) ∙ ap endBy (f .0), rest .0 (f .1)),
+        λ f. (by-finish (callAnswer M c .number) (h .0 .end ∙ f .0), rest .1 (f .1)),
+      )
+
+  all-stops : (o : Option ℕ) (cs : List BoardCall) (rs : List (RunAnswer S)) → AllTell cs rs → StopsHave o rs
+      → Each (λ c. (k : ℕ) → callAnswer M c .number ≡ suc k → o ≡ some (suc k)) cs
+  all-stops o [] [] h f = tt
+  all-stops o [] (a ∷ rs) h f = absurd h
+  all-stops o (c ∷ cs) [] h f = absurd h
+  all-stops o (c ∷ cs) (a ∷ rs) h f = (
+    λ k e.
+        let ran : refusalOf (endBy (suc k)) ≡ 0 = ap (λ (j : ℕ). refusalOf (endBy j)) (sym e) ∙ h .0 .taken in
+        f .0 (suc k) (sym (h .0 .end) ∙ ap endBy e ∙ by-stop k ran),
+    all-stops o cs rs (h .1) (f .1),
+  )
+
+-- THE CALLS THAT A LIST STANDS FOR
+
+module _ {S : Type 0} (M : Machine S) where
+  -- "each call standing for a slice": the restore, the run and the save that a call is
+  abbrev pub slicesOf : List BoardCall → List (Call S)
+  slicesOf [] = []
+  slicesOf (c ∷ cs) =
+      let s = restoreAnswer M (c .image) .state in
+      let answer = runAnswer M (kindOf (c .runner)) (c .rom) (c .sched) s (c .log) (c .n) in
+      restore (c .image) ∷ run (kindOf (c .runner)) (c .rom) (c .sched) s (c .log) (c .n) ∷ save (answer .state) (c .image) ∷ slicesOf cs
+
   AllTaken : List BoardCall → Type 0
   AllTaken = Each (λ c. callRefusal M c ≡ 0)
 
@@ -36,31 +128,48 @@ module _ {S : Type 0} (M : Machine S) where
       go zero e h = (e, h)
       go (suc k) e h = h
 
-module _ {S : Type 0} (M : Machine S) (L : Laws M) (rom sched : List ℕ) (p : Panel M rom sched) where
+module _ {S : Type 0} (M : Machine S) (L : Laws M) (N : NumberLaws M) (rom sched : List ℕ) (p : Panel M rom sched) where
   -- calls on the image of the state held, none of them refused
   record RunThrough (held : S) (cs : List BoardCall) : Type 0 where
     all : notRefused M (slicesOf M cs) ≡ slicesOf M cs
     given : AllGet M rom sched held (slicesOf M cs)
     asks : asked M (slicesOf M cs) ≡ callsAsk cs
-    same-runs : runs M (slicesOf M cs) ≡ callRuns M cs
+    tell : AllTell M cs (runs M (slicesOf M cs))
     image : imageAfter M (M .image held) cs ≡ M .image (last M held (slicesOf M cs))
     sound : M .stateNumber (last M held (slicesOf M cs)) ≡ 0
-    answers : Each (AnswersItsRun M) cs
-    reports : Each (λ c. length (c .log) < 2 ^ 64 → ReadsBack M c) cs
+
+  -- a call on the panel tells the run that it is: n cycles write so few bytes that eight hold their count
+  tells : (c : BoardCall) → callRefusal M c ≡ 0 → PanelLent rom sched c
+      → Tells M c (runAnswer M (kindOf (c .runner)) (c .rom) (c .sched) (restoreAnswer M (c .image) .state) (c .log) (c .n))
+  tells c taken lent =
+      let free : callNumber M c ≡ 0 = sym (refused-by-numbers M (L .jumps) N c) ∙ taken in
+      let y = through M c free in
+      let from : S = restoreAnswer M (c .image) .state in
+      let a : RunAnswer S = runAnswer M (kindOf (c .runner)) (c .rom) (c .sched) from (c .log) (c .n) in
+      let on-panel : Lent M rom sched from (c .rom) (c .sched) from (c .log) (c .n)
+      = record { same-rom = lent .same-rom; same-sched = lent .same-sched; same-state = refl; room = lent .room } in
+      let x = advances M L rom sched p from (kindOf (c .runner)) (c .rom) (c .sched) from (c .log) (c .n) on-panel (y .run-ok) in
+      let f = run-fit M (c .rom) (c .sched) from (c .n) (y .run-ok) in
+      let bound = log-bound M (L .cycles) rom sched p (c .n) from (f .state) (f .limit) in
+      let few : a .written < 2 ^ 64 = omega (arith, x .answers .written, bound, f .limit) in
+      let t : TellsItsRun M c = ran-tells M L N c free (subst (λ (z : RunAnswer S). z .written < 2 ^ 64) (sym (y .same-run)) few) in
+      subst (λ (z : RunAnswer S). Tells M c z) (y .same-run)
+      (record { taken = taken; end = t .end; log = ap₂ take (t .written) (t .log); cycles = t .cycles; begun = t .begun })
 
   run-through : (cs : List BoardCall) (held : S) → M .stateNumber held ≡ 0 → AllTaken M cs → OnOneImage M rom sched (M .image held) cs → RunThrough held cs
   unfolding AllTaken
-  run-through [] held v t g = record { all = refl; given = tt; asks = refl; same-runs = refl; image = refl; sound = v; answers = tt; reports = tt }
+  run-through [] held v t g = record { all = refl; given = tt; asks = refl; tell = tt; image = refl; sound = v }
   run-through (c ∷ cs) held v t g =
       let kind : Kind = kindOf (c .runner) in
+      let lent : PanelLent rom sched c = g .0 .lent (t .0) in
       let wrote : WrittenBy M held (c .image) = subst (λ (i : List ℕ). WrittenBy M held i) (sym (g .0 .same-image)) (written M (L .images) held v) in
       let from : S = restoreAnswer M (c .image) .state in
       let a : RunAnswer S = runAnswer M kind (c .rom) (c .sched) from (c .log) (c .n) in
-      let y = through M c (t .0) in
+      let y = through M c (sym (refused-by-numbers M (L .jumps) N c) ∙ t .0) in
       let the-run : Call S = run kind (c .rom) (c .sched) from (c .log) (c .n) in
-      let lent : Lent M rom sched from (c .rom) (c .sched) from (c .log) (c .n) =
-      record { same-rom = g .0 .lent .same-rom; same-sched = g .0 .lent .same-sched; same-state = refl; room = g .0 .lent .room } in
-      let x = advances M L rom sched p from kind (c .rom) (c .sched) from (c .log) (c .n) lent (y .run-ok) in
+      let on-panel : Lent M rom sched from (c .rom) (c .sched) from (c .log) (c .n)
+      = record { same-rom = lent .same-rom; same-sched = lent .same-sched; same-state = refl; room = lent .room } in
+      let x = advances M L rom sched p from kind (c .rom) (c .sched) from (c .log) (c .n) on-panel (y .run-ok) in
       let long : length (c .image) ≡ M .imageLength = ap length (g .0 .same-image) ∙ L .images .image-length held v in
       let over : saveAnswer M (a .state) (c .image) ≡ record { number = 0; buffer = M .image (a .state) } = saves-over M (L .images) (a .state) (c .image) (x .sound) long in
       let left : callAnswer M c .image ≡ M .image (a .state) =
@@ -76,112 +185,133 @@ module _ {S : Type 0} (M : Machine S) (L : Laws M) (rom sched : List ℕ) (p : P
             keeps M (restore (c .image)) (the-run ∷ the-save ∷ rest) (the-run ∷ the-save ∷ rest) (y .restored)
             (keeps M the-run (the-save ∷ rest) (the-save ∷ rest) (by-number M the-run ∙ y .run-ok)
             (keeps M the-save rest rest (ap (λ (z : SaveAnswer). z .number) over) (ih .all)));
-        given = (wrote, (lent, (refl, ih .given)));
+        given = (wrote, (on-panel, (refl, ih .given)));
         asks = ap (λ (z : ℕ). c .n + z) (ih .asks);
-        same-runs = ap (λ (z : RunAnswer S). z ∷ runs M rest) (sym (y .same-run)) ∙ ap (λ (z : List (RunAnswer S)). runOf M c ∷ z) (ih .same-runs);
+        tell = (tells c (t .0) lent, ih .tell);
         image = ap (λ (i : List ℕ). imageAfter M i cs) left ∙ ih .image;
         sound = ih .sound;
-        answers = (y .answers, ih .answers);
-        reports = (λ small. reports-read-back M L c small (t .0), ih .reports);
       }
 
   module _ (s : S) (v : M .stateNumber s ≡ 0) (cs : List BoardCall) (r : RunThrough s cs) where
-    stands : EndsAsOneRun M rom sched s (slicesOf M cs)
-    stands = lists-end M L rom sched s (slicesOf M cs) p v (subst (λ (z : List (Call S)). AllGet M rom sched s z) (sym (r .all)) (r .given))
+    one-run : EndsAsOneRun M rom sched s (slicesOf M cs)
+    one-run = lists-end M L rom sched s (slicesOf M cs) p v (subst (λ (z : List (Call S)). AllGet M rom sched s z) (sym (r .all)) (r .given))
 
-    ends : CallsEndAs M s cs (unbroken M rom sched (callsAsk cs) s)
+    ends : CallsEndAs M (M .image s) cs (unbroken M rom sched (callsAsk cs) s)
     ends =
         let whole : EndsAs M s (slicesOf M cs) (unbroken M rom sched (asked M (slicesOf M cs)) s)
-        = subst (λ (z : List (Call S)). EndsAs M s z (unbroken M rom sched (asked M z) s)) (r .all) (stands .ends) in
+        = subst (λ (z : List (Call S)). EndsAs M s z (unbroken M rom sched (asked M z) s)) (r .all) (one-run .ends) in
         let e : EndsAs M s (slicesOf M cs) (unbroken M rom sched (callsAsk cs) s)
         = subst (λ (z : ℕ). EndsAs M s (slicesOf M cs) (unbroken M rom sched z s)) (r .asks) whole in
         let u = unbroken M rom sched (callsAsk cs) s in
+        let rs : List (RunAnswer S) = runs M (slicesOf M cs) in
         let image : imageAfter M (M .image s) cs ≡ M .image (u .state) = r .image ∙ ap (λ (t : S). M .image t) (e .state) in
         let sound : M .stateNumber (u .state) ≡ 0 = sym (ap (λ (t : S). M .stateNumber t) (e .state)) ∙ r .sound in
+        let finish = all-finish M cs rs (r .tell) in
         record {
           image = image;
           state = back M (L .images) (u .state) (imageAfter M (M .image s) cs) sound image;
-          log = sym (ap joinedLog (r .same-runs)) ∙ e .log;
-          cycles = sym (ap cycleTotal (r .same-runs)) ∙ e .cycles;
-          begun = sym (ap begunTotal (r .same-runs)) ∙ e .begun;
-          finish = subst (λ (z : List (RunAnswer S)). AllFinish z ↔ (u .number ≡ none)) (r .same-runs) (e .finish);
-          stops = subst (λ (z : List (RunAnswer S)). StopsHave (u .number) z) (r .same-runs) (e .stops);
+          log = ap joined (same-logs M cs rs (r .tell)) ∙ joined-log M rs ∙ e .log;
+          cycles = same-cycles M cs rs (r .tell) ∙ e .cycles;
+          begun = same-begun M cs rs (r .tell) ∙ e .begun;
+          finish = (λ h. e .finish .0 (finish .0 h), λ h. finish .1 (e .finish .1 h));
+          stops = all-stops M (u .number) cs rs (r .tell) (e .stops);
         }
 
-    goes-on : (c : BoardCall) → CallLent rom sched (imageAfter M (M .image s) cs) c → reportLength ≤ length (c .report)
+    goes-on : (c : BoardCall) → c .image ≡ imageAfter M (M .image s) cs → PanelLent rom sched c → reportLength ≤ length (c .report)
         → M .at s + (callsAsk cs + c .n) ≤ cycleLimit → callRefusal M c ≡ 0
-    goes-on c l h limit =
+    goes-on c same lent h limit =
         let held : S = last M s (slicesOf M cs) in
         let kind : Kind = kindOf (c .runner) in
-        let bytes : c .image ≡ M .image held = l .same-image ∙ r .image in
+        let bytes : c .image ≡ M .image held = same ∙ r .image in
         let accepted : M .imageNumber (c .image) ≡ 0 = ap (λ (i : List ℕ). M .imageNumber i) bytes ∙ L .images .image-accepted held (r .sound) in
         let state : M .ofImage (c .image) ≡ held = ap (λ (i : List ℕ). M .ofImage i) bytes ∙ L .images .image-back held (r .sound) in
-        let on = subst (λ (z : List (Call S)). GoesOn M rom sched (M .at s) (asked M z) (last M s z)) (r .all) (stands .goes-on) in
+        let on = subst (λ (z : List (Call S)). GoesOn M rom sched (M .at s) (asked M z) (last M s z)) (r .all) (one-run .goes-on) in
         let next : runNumber M rom sched held (c .n) ≡ 0
         = sym (by-number M (run kind rom sched held (c .log) (c .n))) ∙ on .next-run kind (c .log) (c .n) (omega (arith, r .asks)) in
-        let run-ok : runNumber M (c .rom) (c .sched) (M .ofImage (c .image)) (c .n) ≡ 0 = rw (l .lent .same-rom, l .lent .same-sched, state) next in
-        call-number M c
+        let run-ok : runNumber M (c .rom) (c .sched) (M .ofImage (c .image)) (c .n) ≡ 0 = rw (lent .same-rom, lent .same-sched, state) next in
+        refused-by-numbers M (L .jumps) N c
         ∙ first-past _ _ (ap (λ (b : Bool). unless b 1) (le-leb reportLength (length (c .report)) h))
         ∙ first-past _ _ accepted
         ∙ last-one _
         ∙ run-ok
 
--- THE POWER-OFF GUARANTEE over lists of the board's call
-pub calls-end : {S : Type 0} (M : Machine S) → Laws M → EveryListOfCallsEndsAsOneRun M
-calls-end M L rom sched s calls p v g =
-    let cs = callsNotRefused M calls in
-    let r = run-through M L rom sched p cs s v (all-taken M calls) g in
-    record {
-      ends = ends M L rom sched p s v cs r;
-      stands = stands M L rom sched p s v cs r;
-      none-refused = r .all;
-      answers = r .answers;
-      reports = r .reports;
-      refusals = each (λ c. callRefusal M c ≡ callNumber M c) (call-number M) calls;
-      unchanged = each (λ c. ChangesNothing M (callRefusal M c) c) (changes-nothing M) calls;
-      goes-on = goes-on M L rom sched p s v cs r;
-    }
+-- REFUSED CALLS COUNTED IN
 
--- LISTS ON ONE IMAGE
+module _ {S : Type 0} (M : Machine S) (L : Laws M) (N : NumberLaws M) where
+  -- "zeros on a refusal"
+  zeros : (c : BoardCall) (k : ℕ) → reportLength ≤ length (c .report) → ChangesNothing M (suc k) c
+      → callAnswer M c .report ≡ reported (replicate reportLength 0) (c .report)
+  zeros c k long r = r .report ∙ ap (λ (b : Bool). refusedReport b (c .report)) (le-leb reportLength (length (c .report)) long)
 
-module _ {S : Type 0} (M : Machine S) (rom sched : List ℕ) where
-  record OneImage (image : List ℕ) (calls : List BoardCall) : Type 0 where
-    given : OnOneImage M rom sched image (callsNotRefused M calls)
-    same : imageAfter M image calls ≡ imageAfter M image (callsNotRefused M calls)
-
-  -- a refused call leaves the image, so those not refused are on one image
-  one-image : (ls : List Lending) (image : List ℕ) → LentUnlessRefused M rom sched (onImage M image ls) → OneImage image (onImage M image ls)
-  one-image [] image h = record { given = tt; same = refl }
-  one-image (l ∷ ls) image h = go (one-image ls (callAnswer M c .image) (h .1)) (callRefusal M c) refl (changes-nothing M c)
+  counts-nothing : (calls : List BoardCall) → Each (λ c. reportLength ≤ length (c .report)) calls → SameFigures M calls (callsNotRefused M calls)
+  counts-nothing [] h = record { log = refl; cycles = refl; begun = refl }
+  counts-nothing (c ∷ cs) h = go (callRefusal M c) (changes-nothing M (L .jumps) N c) (counts-nothing cs (h .1))
     where
-      c : BoardCall
-      c = callOn image l
-
-      rest : List BoardCall
-      rest = onImage M (callAnswer M c .image) ls
-
-      go : OneImage (callAnswer M c .image) rest → (k : ℕ) → callRefusal M c ≡ k → ChangesNothing M k c → OneImage image (c ∷ rest)
-      go ih zero e q =
-          let kept : callsNotRefused M (c ∷ rest) ≡ c ∷ callsNotRefused M rest = ap (λ (k : ℕ). keepCall k c (callsNotRefused M rest)) e in
-          let all : OnOneImage M rom sched image (c ∷ callsNotRefused M rest) = (record { same-image = refl; lent = h .0 e }, ih .given) in
+      go : (k : ℕ) → ChangesNothing M k c → SameFigures M cs (callsNotRefused M cs) → SameFigures M (c ∷ cs) (keepCall k c (callsNotRefused M cs))
+      go zero q r = record {
+        log = ap (λ (l : List ℕ). take (figureAt M 16 c) (callAnswer M c .log) ++ l) (r .log);
+        cycles = ap (λ (n : ℕ). figureAt M 0 c + n) (r .cycles);
+        begun = ap (λ (n : ℕ). figureAt M 8 c + n) (r .begun);
+      }
+      go (suc k) q r =
+          let z = zeros c k (h .0) q in
           record {
-            given = subst (λ (z : List BoardCall). OnOneImage M rom sched image z) (sym kept) all;
-            same = ih .same ∙ ap (λ (z : List BoardCall). imageAfter M image z) (sym kept);
-          }
-      go ih (suc k) e q =
-          let kept : callsNotRefused M (c ∷ rest) ≡ callsNotRefused M rest = ap (λ (k : ℕ). keepCall k c (callsNotRefused M rest)) e in
-          record {
-            given =
-                subst (λ (z : List BoardCall). OnOneImage M rom sched image z) (sym kept)
-                (subst (λ (i : List ℕ). OnOneImage M rom sched i (callsNotRefused M rest)) (q .image) (ih .given));
-            same =
-                ih .same
-                ∙ ap (λ (i : List ℕ). imageAfter M i (callsNotRefused M rest)) (q .image)
-                ∙ ap (λ (z : List BoardCall). imageAfter M image z) (sym kept);
+            log = ap (λ (l : List ℕ). take (numberAt l 16 8) (callAnswer M c .log) ++ joined (callLogs M cs)) z ∙ r .log;
+            cycles = ap (λ (l : List ℕ). numberAt l 0 8 + figureTotal M 0 cs) z ∙ zero-add _ ∙ r .cycles;
+            begun = ap (λ (l : List ℕ). numberAt l 8 8 + figureTotal M 8 cs) z ∙ zero-add _ ∙ r .begun;
           }
 
-pub image-ends : {S : Type 0} (M : Machine S) → Laws M → EveryImageEndsAsOneRun M
-image-ends M L rom sched s ls p v h =
-    let o = one-image M rom sched ls (M .image s) h in
-    let e = calls-end M L rom sched s (onImage M (M .image s) ls) p v (o .given) in
-    record { calls-end = e; image = o .same ∙ e .ends .image }
+-- THE POWER-OFF GUARANTEE over lists of the board's call
+module _ {S : Type 0} (M : Machine S) (L : Laws M) (N : NumberLaws M) where
+  pub calls-end : EveryListOfCallsEndsAsOneRun M
+  calls-end rom sched s calls p v g =
+      let cs = callsNotRefused M calls in
+      let r = run-through M L N rom sched p cs s v (all-taken M calls) g in
+      record {
+        ends = ends M L N rom sched p s v cs r;
+        nothing = counts-nothing M L N calls;
+        refusals = each (λ c. callRefusal M c ≡ callNumber M c) (refused-by-numbers M (L .jumps) N) calls;
+        unchanged = each (λ c. ChangesNothing M (callRefusal M c) c) (changes-nothing M (L .jumps) N) calls;
+        goes-on = goes-on M L N rom sched p s v cs r;
+      }
+
+  -- Calls that aren't refused stand for a list of demand 3: it asks for as many cycles, and its runs write the logs that the board
+  -- gets.
+  pub record StandFor (rom sched : List ℕ) (s : S) (cs : List BoardCall) : Type 0 where
+    pub meant : Meant M rom sched s (slicesOf M cs)
+    pub asks : asked M (notRefused M (slicesOf M cs)) ≡ callsAsk cs
+    pub logs : callLogs M cs ≡ map runLog (runs M (notRefused M (slicesOf M cs)))
+
+  pub calls-stand : (rom sched : List ℕ) (s : S) (calls : List BoardCall) → Panel M rom sched → M .stateNumber s ≡ 0
+      → OnOneImage M rom sched (M .image s) (callsNotRefused M calls) → StandFor rom sched s (callsNotRefused M calls)
+  calls-stand rom sched s calls p v g =
+      let cs = callsNotRefused M calls in
+      let r = run-through M L N rom sched p cs s v (all-taken M calls) g in
+      record {
+        meant = subst (λ (z : List (Call S)). AllGet M rom sched s z) (sym (r .all)) (r .given);
+        asks = ap (λ (z : List (Call S)). asked M z) (r .all) ∙ r .asks;
+        logs = same-logs M cs (runs M (slicesOf M cs)) (r .tell) ∙ ap (λ (z : List (Call S)). map runLog (runs M z)) (sym (r .all));
+      }
+
+-- LISTS ON ONE IMAGE, refused calls too
+
+module _ {S : Type 0} (M : Machine S) (J : JumpLaws M) (N : NumberLaws M) where
+  -- the calls not refused are on one image, and leave the same one
+  abbrev OneImage : (rom sched image : List ℕ) (calls rest : List BoardCall) → Type 0
+  OneImage rom sched image calls rest = OnOneImage M rom sched image rest × (imageAfter M image calls ≡ imageAfter M image rest)
+
+  -- since a refused call leaves the image
+  pub on-one-image : EveryListOnOneImageIsMeant M
+  on-one-image rom sched image [] h = (tt, refl)
+  on-one-image rom sched image (c ∷ cs) h =
+      go (on-one-image rom sched (callAnswer M c .image) cs (h .1)) (callRefusal M c) (changes-nothing M J N c)
+    where
+      go : OneImage rom sched (callAnswer M c .image) cs (callsNotRefused M cs) → (k : ℕ) → ChangesNothing M k c
+          → OneImage rom sched image (c ∷ cs) (keepCall k c (callsNotRefused M cs))
+      go ih zero q = ((h .0, ih .0), ih .1)
+      go ih (suc k) q =
+          let same : callAnswer M c .image ≡ image = q .image ∙ h .0 .same-image in
+          (
+            subst (λ (i : List ℕ). OnOneImage M rom sched i (callsNotRefused M cs)) same (ih .0),
+            ih .1 ∙ ap (λ (i : List ℕ). imageAfter M i (callsNotRefused M cs)) same,
+          )

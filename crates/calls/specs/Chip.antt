@@ -4,21 +4,19 @@ use mathlib.Core.List.{List}
 use Prim.Native.Nat.{ℕ}
 use Rattle.runs.specs.TwoRunners.{restoreAnswer}
 use Rattle.runs.specs.Laws.{Bytes, Panel}
-use Rattle.upd546.specs.StateImage.{imageOf}
 use Rattle.upd546.specs.TwoRunners.{upd546}
 use Rattle.calls.specs.Call.{BoardCall}
 use Rattle.calls.specs.EveryCall.{callRefusal, Rewrites}
-use Rattle.calls.specs.Lists.{Lending, onImage, LentUnlessRefused, ImageEndsAsOneRun}
+use Rattle.calls.specs.Lists.{callsNotRefused, OnOneImage, CallsEndAsOneRun}
 
 -- "a finish or a stop rewrites it": every call that isn't refused does, whatever it is lent
 abbrev pub EveryFinishOrStopRewrites : Type 0
 EveryFinishOrStopRewrites =
     (c : BoardCall) → Bytes (c .rom) → Bytes (c .sched) → callRefusal upd546 c ≡ 0 → Rewrites upd546 c
 
--- Bytes that a restore accepts are the image of the state that it answers, and every list of calls on them ends as one unbroken run
--- from that state ends.
+-- THE POWER-OFF GUARANTEE, from any bytes that a restore accepts
 abbrev pub EveryAcceptedImageEndsAsOneRun : Type 0
 EveryAcceptedImageEndsAsOneRun =
-    (rom sched image : List ℕ) (ls : List Lending)
-    → Bytes image → Panel upd546 rom sched → restoreAnswer upd546 image .number ≡ 0 → LentUnlessRefused upd546 rom sched (onImage upd546 image ls)
-    → (image ≡ imageOf (restoreAnswer upd546 image .state)) × ImageEndsAsOneRun upd546 rom sched (restoreAnswer upd546 image .state) ls
+    (rom sched image : List ℕ) (calls : List BoardCall)
+    → Bytes image → Panel upd546 rom sched → restoreAnswer upd546 image .number ≡ 0
+    → OnOneImage upd546 rom sched image (callsNotRefused upd546 calls) → CallsEndAsOneRun upd546 rom sched image (restoreAnswer upd546 image .state) calls

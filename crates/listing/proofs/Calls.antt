@@ -1,25 +1,23 @@
 -- The board's call on the image of a fresh state, with the plain runner, tells the plain run of the fresh state. Assumes nothing.
 use mathlib.Core.Path.{_≡_, _∙_, refl, sym, ap, subst}
-use mathlib.Core.Bool.{Bool, true, false, _||_}
+use mathlib.Core.Bool.{Bool, true, false, cond}
 use lib.Dec.{eqb}
 use mathlib.Core.List.{List}
 use Prim.Native.Nat.{ℕ, zero, suc, _^_, _<_, _≤_}
 use native.Mathlib.Omega.{arith}
 use lib.ListN.{length}
 use borrow.Author.Tests.{ne-eqb}
-use Rattle.runs.specs.TwoRunners.{End, finished, stopped, refused, RunAnswer, SaveAnswer, plain, saveAnswer}
-use Rattle.runs.specs.EveryRun.{NumberTells}
+use Rattle.runs.specs.Numbers.{isStop}
+use Rattle.runs.specs.TwoRunners.{End, stopped, refused, RunAnswer, SaveAnswer, plain, saveAnswer}
 use Rattle.runs.specs.Lists.{plainOne}
 use Rattle.upd546.specs.declared.State.{State}
 use Rattle.upd546.specs.TheMachine.{fresh}
 use Rattle.upd546.specs.StateImage.{imageLength, imageOf}
 use Rattle.upd546.specs.TwoRunners.{upd546}
 use Rattle.upd546.specs.Reports.{onEnd, runText}
-use Rattle.laws.proofs.Numbers.{number-laws}
-use Rattle.laws.proofs.Demand3.{jump-laws, laws}
-use Rattle.runs.proofs.EveryRun.{numbers-tell}
+use Rattle.laws.proofs.Demand3.{laws}
 use Rattle.calls.specs.Call.{BoardCall, BoardAnswer, reportLength, runOf, callAnswer}
-use Rattle.calls.specs.EveryCall.{numberOfEnd, TellsItsRun}
+use Rattle.calls.specs.EveryCall.{endBy, TellsItsRun}
 use Rattle.calls.proofs.Call.{done-image}
 use Rattle.calls.proofs.EveryCall.{saves-over, back}
 use Rattle.calls.proofs.Chip.{every-call-tells-its-run}
@@ -49,10 +47,10 @@ module _ (rom sched log report : List ℕ) (n : ℕ) where
       subst (λ (a : RunAnswer State). TellsRun a (endedBy (z .number) (z .report)) (z .log)) (fresh-run image e)
       (subst (λ (z : BoardAnswer). TellsRun (runOf upd546 (freshCall image)) (endedBy (z .number) (z .report)) (z .log)) (sym same)
       (record {
-        number = told .number;
-        cycles = told .counts .cycles;
-        begun = told .counts .begun;
-        written = told .counts .written;
+        end = told .end;
+        cycles = told .cycles;
+        begun = told .begun;
+        written = told .written;
         same-log = told .log;
       }))
 
@@ -61,23 +59,17 @@ same-end {a} {log = log} e s = subst (λ (z : Ended). TellsRun a z log) (sym e) 
 
 -- THE TEXT
 
-or-true : (b : Bool) → (b || true) ≡ true
-or-true true = refl
-or-true false = refl
+-- by the number alone
+number-text : (a : RunAnswer State) (ended : Ended) (log : List ℕ) → TellsRun a ended log → (k : ℕ) → ended .number ≡ k → answerText ended log ≡ onEnd (endBy k) a
+number-text a ended log s zero e = rw (e, s .cycles, s .begun, s .written, s .same-log)
+number-text a ended log s (suc k) e = go (isStop (suc k)) refl
+  where
+    some-number : eqb (suc k) 0 ≡ false
+    some-number = ne-eqb (suc k) 0 (λ (z : suc k ≡ 0). omega arith)
 
--- by the number alone, as by the end
-end-text : (a : RunAnswer State) (ended : Ended) (log : List ℕ) (e : End) → a .end ≡ e → NumberTells e → TellsRun a ended log
-    → answerText ended log ≡ onEnd e a
-end-text a ended log finished p t s =
-    let none : ended .number ≡ 0 = s .number ∙ ap numberOfEnd p in
-    rw (none, s .cycles, s .begun, s .written, s .same-log)
-end-text a ended log (stopped k) p t s =
-    let number : ended .number ≡ k = s .number ∙ ap numberOfEnd p in
-    rw (number, t, or-true (eqb k 0), s .cycles, s .begun, s .written, s .same-log)
-end-text a ended log (refused zero) p t s = absurd t
-end-text a ended log (refused (suc k)) p t s =
-    let number : ended .number ≡ suc k = s .number ∙ ap numberOfEnd p in
-    rw (number, ne-eqb (suc k) 0 (λ (z : suc k ≡ 0). omega arith), t)
+    go : (b : Bool) → isStop (suc k) ≡ b → answerText ended log ≡ onEnd (cond b (stopped (suc k)) (refused (suc k))) a
+    go true h = rw (e, some-number, h, s .cycles, s .begun, s .written, s .same-log)
+    go false h = rw (e, some-number, h)
 
 -- the text of a call is the run's
 pub run-text : (rom sched log : List ℕ) (n : ℕ) (ended : Ended) {log′ : List ℕ} → TellsRun (plain upd546 rom sched fresh log n) ended log′
@@ -85,4 +77,4 @@ pub run-text : (rom sched log : List ℕ) (n : ℕ) (ended : Ended) {log′ : Li
 unfolding runText
 run-text rom sched log n ended {log′} s =
     let a : RunAnswer State = plain upd546 rom sched fresh log n in
-    end-text a ended log′ (a .end) refl (numbers-tell upd546 jump-laws number-laws plainOne rom sched fresh log n) s
+    number-text a ended log′ s (ended .number) refl ∙ ap (λ (e : End). onEnd e a) (s .end)

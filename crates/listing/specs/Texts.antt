@@ -9,7 +9,7 @@ use Rattle.upd546.specs.declared.State.{State}
 use Rattle.upd546.specs.Bytes.{numberAt}
 use Rattle.upd546.specs.Ports.{logRecordLength}
 use Rattle.upd546.specs.Reports.{heading, newline, recordsText, refusedText, traceLog, traceText}
-use Rattle.calls.specs.EveryCall.{numberOfEnd, ranBy}
+use Rattle.calls.specs.EveryCall.{endBy, ranBy}
 use Rattle.io.specs.Counts.{Counts}
 use Rattle.listing.specs.declared.Ended.{Ended}
 use Rattle.listing.specs.Writing.{textLength, endLine}
@@ -21,7 +21,7 @@ endedBy k report = record { number = k; cycles = record { 0 = numberAt report 0 
 
 -- they are those of a run, and the log is the run's
 pub record TellsRun (a : RunAnswer State) (ended : Ended) (log : List ℕ) : Type 0 where
-  pub number : ended .number ≡ numberOfEnd (a .end)
+  pub end : endBy (ended .number) ≡ a .end
   pub cycles : ended .cycles .0 ≡ a .cycles
   pub begun : ended .begun ≡ a .begun
   pub written : ended .written ≡ a .written

@@ -1,1 +1,2 @@
 pub mod EveryList
+pub mod EveryListOfCalls

@@ -1,25 +1,25 @@
 -- The figures of the board's calls, clause by clause from the theorems. Assumes nothing.
-use mathlib.Core.Path.{_≡_, refl, sym, ap, ap₂}
+use mathlib.Core.Path.{_≡_, _∙_, refl, sym, ap, ap₂}
 use mathlib.Core.List.{List, [], _∷_, map}
+use mathlib.Core.Option.{some}
 use Prim.Native.Nat.{ℕ, suc, _≤_}
 use native.Mathlib.Omega.{arith}
 use lib.Dec.{lit<, lit≤}
-use lib.ListN.{length, getD}
+use lib.ListN.{length, getD, take}
 use Rattle.runs.specs.TwoRunners.{logBound, RestoreAnswer, restoreAnswer}
 use Rattle.runs.specs.Lists.{Each}
 use Rattle.upd546.specs.declared.State.{State}
 use Rattle.upd546.specs.TheMachine.{fresh}
-use Rattle.upd546.specs.StateImage.{imageOf}
 use Rattle.upd546.specs.TwoRunners.{upd546}
 use Rattle.laws.proofs.Lists.{below-all}
-use Rattle.calls.specs.Call.{BoardCall, BoardAnswer, longEnough, imageRun, callAnswer}
+use Rattle.calls.specs.Call.{BoardCall, longEnough, imageRun, callAnswer}
 use Rattle.calls.specs.EveryCall.{refusedReport, callRefusal, callNumber, Refuses, Rewrites, TellsItsRun}
-use Rattle.calls.specs.Lists.{PanelLent, callsNotRefused, OnOneImage, callRuns, CallsEndAsOneRun, callOn, onImage, LentUnlessRefused, ImageEndsAsOneRun}
-use Rattle.calls.proofs.Chip.{every-finish-or-stop-rewrites, every-call-tells-its-run, every-calls-number-tells, every-list-of-calls, every-accepted-image}
+use Rattle.calls.specs.Lists.{PanelLent, callsNotRefused, CallLent, OnOneImage, imageAfter, CallsEndAsOneRun}
+use Rattle.calls.proofs.Chip.{every-finish-or-stop-rewrites, every-call-tells-its-run, every-list-of-calls, every-list-on-one-image, every-accepted-image}
 use Rattle.witness.specs.Calls.{rom, wantedImage}
-use Rattle.witness.specs.Board.{first, second, shortReport, badRom, start, between, onOther, calls, carriedOut, lendings, last, left, BoardFigures}
+use Rattle.witness.specs.Board.{first, second, shortReport, badRom, onOther, last, start, between, calls, carriedOut, reportedCalls, onOne, left, BoardFigures}
 use Rattle.witness.proofs.Opened.{opened}
-use Rattle.witness.proofs.Calls.{panel, sound, a-stop, all-23}
+use Rattle.witness.proofs.Calls.{panel, sound, a-stop}
 
 -- what to unfold where a call is computed
 unfoldable called : Unit {0}
@@ -30,38 +30,48 @@ called = tt
 on-panel : (c : BoardCall) → c .rom ≡ rom → c .sched ≡ [] → logBound (c .n) ≤ length (c .log) → PanelLent rom [] c
 on-panel c same-rom same-sched room = record { same-rom = same-rom; same-sched = same-sched; room = room }
 
+lent-first : CallLent upd546 rom [] start (first start)
+lent-first = record { same-image = refl; lent = λ e. on-panel (first start) refl refl (lit≤ tt) }
+
+lent-second : CallLent upd546 rom [] between (second between)
+lent-second = record { same-image = refl; lent = λ e. on-panel (second between) refl refl (lit≤ tt) }
+
 meant : OnOneImage upd546 rom [] start (callsNotRefused upd546 calls)
 unfolding called
-meant = (
-  record { same-image = refl; lent = on-panel (callOn start first) refl refl (lit≤ tt) },
-  (record { same-image = refl; lent = on-panel (callOn between second) refl refl (lit≤ tt) }, tt),
-)
+meant = (lent-first, (lent-second, tt))
 
 -- THE POWER-OFF GUARANTEE, of this list
-one-run : CallsEndAsOneRun upd546 rom [] fresh calls
+one-run : CallsEndAsOneRun upd546 rom [] start fresh calls
 one-run = every-list-of-calls rom [] fresh calls panel sound meant
 
--- and of its first call alone, which finishes
-one-finish : CallsEndAsOneRun upd546 rom [] fresh (callOn start first ∷ [])
+-- of its first call alone, which finishes
+one-finish : CallsEndAsOneRun upd546 rom [] start fresh (first start ∷ [])
 unfolding called
-one-finish =
-    every-list-of-calls rom [] fresh (callOn start first ∷ []) panel sound (record { same-image = refl; lent = on-panel (callOn start first) refl refl (lit≤ tt) }, tt)
+one-finish = every-list-of-calls rom [] fresh (first start ∷ []) panel sound (lent-first, tt)
+
+-- of the calls whose reports have 32 bytes
+with-reports : CallsEndAsOneRun upd546 rom [] start fresh reportedCalls
+unfolding called
+with-reports = every-list-of-calls rom [] fresh reportedCalls panel sound (lent-first, (lent-second, tt))
 
 -- a number that refuses
 a-number : {k : ℕ} → suc k ≡ 0 → ⊥
 a-number e = omega arith
 
 -- and of the calls on one image
-lent : LentUnlessRefused upd546 rom [] (onImage upd546 start lendings)
+lent : OnOneImage upd546 rom [] start onOne
 unfolding called
-lent = (
-  λ e. on-panel (callOn start first) refl refl (lit≤ tt),
-  (λ e. absurd (a-number e), (λ e. absurd (a-number e), (λ e. on-panel (callOn between second) refl refl (lit≤ tt), tt))),
-)
+lent =
+    let refused-one : CallLent upd546 rom [] between (shortReport between) = record { same-image = refl; lent = λ e. absurd (a-number e) } in
+    let refused-two : CallLent upd546 rom [] between (badRom between) = record { same-image = refl; lent = λ e. absurd (a-number e) } in
+    (lent-first, (refused-one, (refused-two, (lent-second, tt))))
 
-on-one-image : (start ≡ imageOf (restoreAnswer upd546 start .state)) × ImageEndsAsOneRun upd546 rom [] (restoreAnswer upd546 start .state) lendings
+kept : OnOneImage upd546 rom [] start (callsNotRefused upd546 onOne) × (imageAfter upd546 start onOne ≡ imageAfter upd546 start (callsNotRefused upd546 onOne))
+kept = every-list-on-one-image rom [] start onOne lent
+
+on-one-image : CallsEndAsOneRun upd546 rom [] start (restoreAnswer upd546 start .state) onOne
 unfolding called
-on-one-image = every-accepted-image rom [] start lendings (below-all 256 start (lit< tt) refl) panel refl lent
+on-one-image = every-accepted-image rom [] start onOne (below-all 256 start (lit< tt) refl) panel refl (kept .0)
 
 -- a call that was refused, as a whole
 whole : (k : ℕ) (c : BoardCall) → Refuses upd546 k c → callAnswer upd546 c ≡ left k c (refusedReport (longEnough c) (c .report))
@@ -72,51 +82,56 @@ by-numbers : (l : List BoardCall) → Each (λ c. callRefusal upd546 c ≡ callN
 by-numbers [] h = refl
 by-numbers (c ∷ l) h = ap₂ (λ (k : ℕ) (ks : List ℕ). k ∷ ks) (h .0) (by-numbers l (h .1))
 
-tells : TellsItsRun upd546 (callOn between badRom)
-tells = every-call-tells-its-run (callOn between badRom) (lit< tt) (lit≤ tt)
+-- stops that have the number of the unbroken run, which is 23
+all-23 : (l : List BoardCall) → Each (λ c. (k : ℕ) → callAnswer upd546 c .number ≡ suc k → some 23 ≡ some (suc k)) l
+    → Each (λ c. (k : ℕ) → callAnswer upd546 c .number ≡ suc k → suc k ≡ 23) l
+all-23 [] h = tt
+all-23 (c ∷ l) h = (λ k e. let same = h .0 k e in cc, all-23 l (h .1))
 
-rewrites : Rewrites upd546 (callOn start first)
+tells : TellsItsRun upd546 (badRom between)
+tells = every-call-tells-its-run (badRom between) (lit< tt) (lit≤ tt)
+
+tells-stop : TellsItsRun upd546 (second between)
+tells-stop = every-call-tells-its-run (second between) (lit< tt) (lit≤ tt)
+
+rewrites : Rewrites upd546 (first start)
 unfolding called
-rewrites = every-finish-or-stop-rewrites (callOn start first) (panel .rom-bytes) (panel .sched-bytes) refl
+rewrites = every-finish-or-stop-rewrites (first start) (panel .rom-bytes) (panel .sched-bytes) refl
 
 pub figures : BoardFigures
 unfolding called
-figures = record {
-  image = one-run .ends .image;
-  restored = ap (λ (r : RestoreAnswer State). r .state .core .flow .pc) (one-run .ends .state);
-  log = one-run .ends .log;
-  cycles = one-run .ends .cycles;
-  begun = one-run .ends .begun;
-  not-all-finish = λ all. a-stop 23 (one-run .ends .finish .0 all);
-  each-stop = all-23 (callRuns upd546 carriedOut) (one-run .ends .stops);
-  all-finish = one-finish .ends .finish .1 refl;
-  slices-log = one-run .stands .ends .log;
-  six-calls = ap length (one-run .none-refused);
-  first-report = ap (λ (z : BoardAnswer). z .report) (one-run .answers .0);
-  first-log = ap (λ (z : BoardAnswer). z .log) (one-run .answers .0);
-  second-number = ap (λ (z : BoardAnswer). z .number) (one-run .answers .1 .0);
-  second-cycles = one-run .reports .1 .0 (lit< tt) .cycles;
-  second-begun = one-run .reports .1 .0 (lit< tt) .begun;
-  second-written = one-run .reports .1 .0 (lit< tt) .written;
-  second-steps = one-run .reports .1 .0 (lit< tt) .steps;
-  numbers = by-numbers calls (one-run .refusals);
-  by-31 = whole 31 onOther (one-run .unchanged .1 .0);
-  by-1 = whole 1 (callOn between shortReport) (one-run .unchanged .1 .1 .0);
-  by-21 = whole 21 (callOn between badRom) (one-run .unchanged .1 .1 .1 .0);
-  next =
-      one-run .goes-on (callOn wantedImage last) (record { same-image = sym (one-run .ends .image); lent = on-panel (callOn wantedImage last) refl refl (lit≤ tt) }) (lit≤ tt)
-      (lit≤ tt);
-  saved = rewrites .saved;
-  owed-byte = ap (λ (bytes : List ℕ). getD bytes 17 0) (rewrites .image);
-  owed-kept = ap (λ (r : RestoreAnswer State). r .state .core .owed) (rewrites .restores);
-  refused-number = tells .number;
-  refused-log = tells .log;
-  refused-cycles = tells .counts .cycles;
-  refused-written = tells .counts .written;
-  told-finish = every-calls-number-tells (callOn start first);
-  told-stop = every-calls-number-tells (callOn between second);
-  told-refusal = every-calls-number-tells (callOn between badRom);
-  same-bytes = on-one-image .0;
-  one-image = on-one-image .1 .image;
-  one-image-log = on-one-image .1 .calls-end .ends .log;
-}
+figures =
+    let nothing = with-reports .nothing (lit≤ tt, (lit≤ tt, (lit≤ tt, (lit≤ tt, tt)))) in
+    record {
+      image = one-run .ends .image;
+      restored = ap (λ (r : RestoreAnswer State). r .state .core .flow .pc) (one-run .ends .state);
+      log = one-run .ends .log;
+      cycles = one-run .ends .cycles;
+      begun = one-run .ends .begun;
+      not-all-finish = λ all. a-stop 23 (one-run .ends .finish .0 all);
+      each-stop = all-23 carriedOut (one-run .ends .stops);
+      all-finish = one-finish .ends .finish .1 refl .0;
+      joined-log = nothing .log ∙ with-reports .ends .log;
+      all-cycles = nothing .cycles ∙ with-reports .ends .cycles;
+      all-begun = nothing .begun ∙ with-reports .ends .begun;
+      numbers = by-numbers calls (one-run .refusals);
+      by-31 = whole 31 onOther (one-run .unchanged .1 .0);
+      by-1 = whole 1 (shortReport between) (one-run .unchanged .1 .1 .0);
+      by-21 = whole 21 (badRom between) (one-run .unchanged .1 .1 .1 .0);
+      next = one-run .goes-on (last wantedImage) (sym (one-run .ends .image)) (on-panel (last wantedImage) refl refl (lit≤ tt)) (lit≤ tt) (lit≤ tt);
+      saved = rewrites .saved;
+      owed-byte = ap (λ (bytes : List ℕ). getD bytes 17 0) (rewrites .image);
+      owed-kept = ap (λ (r : RestoreAnswer State). r .state .core .owed) (rewrites .restores);
+      second-end = tells-stop .end;
+      second-log = ap (take 8) (tells-stop .log);
+      second-cycles = tells-stop .cycles;
+      second-begun = tells-stop .begun;
+      second-written = tells-stop .written;
+      second-steps = tells-stop .steps;
+      refused-end = tells .end;
+      refused-log = tells .log;
+      refused-cycles = tells .cycles;
+      refused-written = tells .written;
+      one-image = kept .1 ∙ on-one-image .ends .image;
+      one-image-log = on-one-image .ends .log;
+    }

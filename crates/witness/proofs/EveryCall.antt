@@ -23,12 +23,12 @@ use Rattle.driver.specs.declared.Report.{Report}
 use Rattle.driver.specs.Lending.{AsItWas}
 use Rattle.driver.proofs.Refused.{refused-as-it-was, numbered-as-it-was}
 use Rattle.calls.specs.Call.{BoardCall}
-use Rattle.calls.specs.EveryCall.{ReadsBack}
-use Rattle.calls.proofs.EveryCall.{call-number, changes-nothing, call-rewrites, reports-read-back, call-tells-run, call-tells}
-use Rattle.calls.proofs.Lists.{calls-end, image-ends}
-use Rattle.calls.proofs.Chip.{every-finish-or-stop-rewrites, every-report-reads-back, every-call-tells-its-run, every-calls-number-tells}
-use Rattle.calls.proofs.Chip.{every-list-of-calls, every-image, every-accepted-image}
-use Rattle.witness.specs.EveryCall.{withSteps, OfEveryRun, OfEveryRefusal, CountsRead, CallFacts, OfAnyMachine, OfEveryLaw}
+use Rattle.calls.specs.EveryCall.{TellsItsRun}
+use Rattle.calls.proofs.EveryCall.{refused-by-numbers, changes-nothing, call-rewrites, call-tells-run}
+use Rattle.calls.proofs.Lists.{calls-end, on-one-image}
+use Rattle.calls.proofs.Chip.{every-call-is-refused-by-numbers, every-refusal-changes-nothing, every-finish-or-stop-rewrites, every-call-tells-its-run}
+use Rattle.calls.proofs.Chip.{every-list-of-calls, every-list-on-one-image, every-accepted-image}
+use Rattle.witness.specs.EveryCall.{withSteps, OfEveryRun, OfEveryRefusal, RunTold, CallFacts, OfAnyMachine, OfEveryLaw}
 
 same : {S : Type 0} (M : Machine S) → JumpLaws M → (rom sched : List ℕ) (s : S) (log : List ℕ) (n : ℕ)
     → skipping M rom sched s log n ≡ withSteps (skipping M rom sched s log n .steps) (plain M rom sched s log n)
@@ -52,8 +52,8 @@ as-it-was : (r : Report) (m m′ : KeptMachine) (log log′ : List ℕ) → AsIt
 as-it-was r m m′ log log′ a =
     record { same-machine = a .machine-kept; same-log = a .log-kept; counts = omega (arith, a .no-cycles, a .no-clocks, a .none-begun, a .none-written, a .no-steps) }
 
-counts-read : (c : BoardCall) → ReadsBack upd546 c → CountsRead c
-counts-read c r = record { cycles = r .cycles; begun = r .begun; written = r .written; steps = r .steps }
+run-told : (c : BoardCall) → TellsItsRun upd546 c → RunTold c
+run-told c t = record { end = t .end; log = t .log; cycles = t .cycles; begun = t .begun; written = t .written; steps = t .steps }
 
 pub facts : CallFacts
 facts = record {
@@ -79,17 +79,15 @@ facts = record {
       };
   slices = every-list-of-slices;
   calls = λ c. record {
-    ending = every-calls-number-tells c;
-    refused-by = call-number upd546 c;
-    unchanged = changes-nothing upd546 c;
+    refused-by = every-call-is-refused-by-numbers c;
+    unchanged = every-refusal-changes-nothing c;
     rewrites = every-finish-or-stop-rewrites c;
-    reads-back = λ l h. counts-read c (every-report-reads-back c l h);
-    number = λ l h. every-call-tells-its-run c l h .number;
-    log = λ l h. every-call-tells-its-run c l h .log;
-    counts = λ l h. counts-read c (every-call-tells-its-run c l h .counts);
+    told = λ l h. run-told c (every-call-tells-its-run c l h);
   };
-  call-lists = λ rom sched s calls p v m. let e = every-list-of-calls rom sched s calls p v m in record { reports = e .reports; next = e .goes-on };
-  images = every-image;
+  call-lists = λ rom sched s calls p v m.
+      let e = every-list-of-calls rom sched s calls p v m in
+      record { nothing = e .nothing; stops = e .ends .stops; next = e .goes-on };
+  one-images = every-list-on-one-image;
   accepted-images = every-accepted-image;
 }
 
@@ -102,12 +100,10 @@ any-machine M = record {
   runs = λ L N kind rom sched s log n.
       run-facts log n _ (counts-within M L kind rom sched s log n) (numbers-tell M (L .jumps) N kind rom sched s log n);
   call-lists = calls-end M;
-  images = image-ends M;
+  one-images = on-one-image M;
   rewrites = call-rewrites M;
-  reads-back = λ L c l h. reports-read-back M L c l h .cycles;
-  tells-run = λ L c l h. call-tells-run M L c l h .number;
-  ending = call-tells M;
-  refused-by = call-number M;
+  tells-run = λ L N c l h. call-tells-run M L N c l h .end;
+  refused-by = refused-by-numbers M;
   unchanged = changes-nothing M;
 }
 

@@ -3,41 +3,40 @@ use mathlib.Core.Path.{_≡_, _∙_, refl, sym, ap}
 use mathlib.Core.List.{List}
 use Prim.Native.Nat.{ℕ, _<_}
 use native.Mathlib.Omega.{arith}
-use Rattle.runs.specs.TwoRunners.{unbroken}
-use Rattle.runs.specs.Lists.{Call, notRefused, asked}
-use Rattle.upd546.specs.declared.State.{State}
-use Rattle.upd546.specs.TwoRunners.{upd546}
 use Rattle.waiting.specs.declared.Carried.{Carried}
 use Rattle.waiting.specs.declared.Reading.{Reading}
 use Rattle.waiting.specs.WaitingTimes.{startOfDay, waitingTimes}
 use Rattle.waiting.specs.EveryLog.{lampsLit, waitsOf}
-use Rattle.waiting.specs.EveryList.{carriedOn, listLogs, ReportsAsOneRun}
 use Rattle.waiting.proofs.Growth.{carried-grown, can-read}
 use Rattle.waiting.proofs.EveryLog.{every-rise-is-a-wait, read-on-as-joined, only-figures-draw-41, last-record-counts}
 use Rattle.waiting.proofs.EveryList.{reports-as-one-run}
 use Rattle.switch_offs.proofs.EveryList.{every-list-reports-as-one-run}
+use Rattle.switch_offs.proofs.EveryListOfCalls.{calls-report-as-one-run, every-list-of-calls-reports-as-one-run}
 use Rattle.report.proofs.Parts.{parts-read-as-one}
 use Rattle.generator.proofs.EveryLoad.{every-schedule, every-rom, every-load, every-beginning}
-use Rattle.witness.specs.EveryLog.{EveryDay, LogFacts}
+use Rattle.witness.specs.EveryLog.{EveryDay, EveryCallDay, LogFacts}
 use Rattle.witness.proofs.Waits.{each}
 
 -- nobody has waited at the start of a day
 none-yet : (i : ℕ) → i < 4 → waitsOf startOfDay i ≡ 0
 none-yet = each (λ i. waitsOf startOfDay i ≡ 0) refl refl refl refl
 
-waits-as : (rom sched : List ℕ) (s : State) (calls : List (Call State)) → ReportsAsOneRun upd546 rom sched s calls → (i : ℕ) → i < 4
-    → waitsOf (carriedOn startOfDay (listLogs upd546 calls)) i ≡ lampsLit 0 i (unbroken upd546 rom sched (asked upd546 (notRefused upd546 calls)) s .bytes)
-waits-as rom sched s calls r i h =
-    let log = unbroken upd546 rom sched (asked upd546 (notRefused upd546 calls)) s .bytes in
-    let number : waitingTimes log startOfDay .number ≡ 0 = sym (ap (λ (x : Reading). x .number) (r .report)) in
-    let carried : carriedOn startOfDay (listLogs upd546 calls) ≡ waitingTimes log startOfDay .carried = ap (λ (x : Reading). x .carried) (r .report) in
+-- what is carried where the report of a log is reached
+waits-as : (log : List ℕ) (c : Carried) → record { number = 0; carried = c } ≡ waitingTimes log startOfDay → (i : ℕ) → i < 4 → waitsOf c i ≡ lampsLit 0 i log
+waits-as log c r i h =
+    let number : waitingTimes log startOfDay .number ≡ 0 = sym (ap (λ (x : Reading). x .number) r) in
     let rise : waitsOf (waitingTimes log startOfDay .carried) i ≡ lampsLit 0 i log = omega (arith, every-rise-is-a-wait log startOfDay i h number, none-yet i h) in
-    ap (λ (c : Carried). waitsOf c i) carried ∙ rise
+    ap (λ (x : Reading). waitsOf (x .carried) i) r ∙ rise
 
 days : EveryDay
 days rom sched s calls p v m h =
     let r = every-list-reports-as-one-run rom sched s calls p v m h in
-    record { accepted = r .accepted; waits = waits-as rom sched s calls r }
+    record { accepted = r .accepted; waits = waits-as _ _ (r .report) }
+
+call-days : EveryCallDay
+call-days rom sched s calls p v m h =
+    let r = every-list-of-calls-reports-as-one-run rom sched s calls p v m h in
+    record { accepted = r .accepted; waits = waits-as _ _ (r .report) }
 
 pub facts : LogFacts
 facts = record {
@@ -55,6 +54,8 @@ facts = record {
   parts = parts-read-as-one;
   days = days;
   any-days = λ M. reports-as-one-run M;
+  call-days = call-days;
+  any-call-days = λ M. calls-report-as-one-run M;
   seeds = λ seed seed′. record {
     accepted = λ m h. every-schedule seed m h .by-the-check;
     never = λ m h rom s n.

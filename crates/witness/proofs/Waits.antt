@@ -10,8 +10,11 @@ use Rattle.runs.specs.Laws.{Panel}
 use Rattle.runs.specs.Lists.{WrittenBy, Lent, Meant}
 use Rattle.upd546.specs.declared.State.{State}
 use Rattle.upd546.specs.TheMachine.{fresh}
+use Rattle.upd546.specs.StateImage.{imageOf}
 use Rattle.upd546.specs.TwoRunners.{upd546}
 use Rattle.laws.proofs.Lists.{below-all}
+use Rattle.calls.specs.Call.{BoardCall, imageRun, callAnswer}
+use Rattle.calls.specs.Lists.{PanelLent, callsNotRefused, CallLent}
 use Rattle.waiting.specs.declared.Reading.{Reading}
 use Rattle.waiting.specs.WaitingTimes.{landingCount, figureMost, lampsAfter, carriedAfter, recordSound, logRecordNumber, landingSound, carriedSound, carriedNumber, logNumber, waitingTimes, startOfDay, noWaits, recordHere}
 use Rattle.waiting.specs.Growth.{Grown, CarriedGrown}
@@ -19,9 +22,11 @@ use Rattle.waiting.specs.EveryLog.{landingOf, FiguresWithin}
 use Rattle.waiting.specs.EveryList.{ReportsAsOneRun}
 use Rattle.waiting.proofs.Growth.{carried-grown}
 use Rattle.waiting.proofs.EveryLog.{every-rise-is-a-wait, read-on-as-joined, only-figures-draw-41, last-record-counts}
+use Rattle.switch_offs.specs.EveryListOfCalls.{CallsReportAsOneRun}
 use Rattle.switch_offs.proofs.EveryList.{every-list-reports-as-one-run}
+use Rattle.switch_offs.proofs.EveryListOfCalls.{every-list-of-calls-reports-as-one-run}
 use Rattle.report.proofs.Parts.{parts-read-as-one}
-use Rattle.witness.specs.Waits.{lampsAt, calling, coming, wide, called, lampRom, lit, keptLit, lampCalls, WaitFigures}
+use Rattle.witness.specs.Waits.{lampsAt, calling, coming, wide, called, lampRom, lit, keptLit, lampCalls, firstLamp, secondLamp, lampBoard, WaitFigures}
 use Rattle.witness.proofs.Opened.{opened}
 use Rattle.witness.proofs.Calls.{sound}
 
@@ -81,8 +86,22 @@ one-day : ReportsAsOneRun upd546 lampRom [] fresh lampCalls
 unfolding opened
 one-day = every-list-reports-as-one-run lampRom [] fresh lampCalls panel sound meant (lit≤ tt)
 
+-- and by the board's calls
+on-panel : (c : BoardCall) → c .rom ≡ lampRom → c .sched ≡ [] → logBound (c .n) ≤ length (c .log) → PanelLent lampRom [] c
+on-panel c same-rom same-sched room = record { same-rom = same-rom; same-sched = same-sched; room = room }
+
+lent-first : CallLent upd546 lampRom [] (imageOf fresh) firstLamp
+lent-first = record { same-image = refl; lent = λ e. on-panel firstLamp refl refl (lit≤ tt) }
+
+lent-second : CallLent upd546 lampRom [] (callAnswer upd546 firstLamp .image) secondLamp
+lent-second = record { same-image = refl; lent = λ e. on-panel secondLamp refl refl (lit≤ tt) }
+
+board-day : CallsReportAsOneRun upd546 lampRom [] fresh (callsNotRefused upd546 lampBoard)
+unfolding opened imageRun callAnswer
+board-day = every-list-of-calls-reports-as-one-run lampRom [] fresh lampBoard panel sound (lent-first, (lent-second, tt)) (lit≤ tt)
+
 pub figures : WaitFigures
-unfolding read
+unfolding read imageRun callAnswer
 figures =
     record {
       waits-0 = every-rise-is-a-wait (calling ++ coming) startOfDay 0 (lit< tt) (accepts .1);
@@ -106,4 +125,6 @@ figures =
       parts-41 = parts-read-as-one (wide ∷ []) (take 5 coming) (refl, tt) (below-all 256 (wide ++ take 5 coming) (lit< tt) refl) (lit< tt);
       accepted = one-day .accepted;
       day = ap (λ (r : Reading). r .carried) (one-day .report);
+      board-accepted = board-day .accepted;
+      board-day = ap (λ (r : Reading). r .carried) (board-day .report);
     }

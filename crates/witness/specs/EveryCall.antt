@@ -5,6 +5,7 @@ use mathlib.Core.Path.{_≡_}
 use mathlib.Core.Logic.{_↔_}
 use mathlib.Core.Bool.{true, false}
 use mathlib.Core.List.{List, _++_}
+use mathlib.Core.Option.{some}
 use lib.ListN.{length, take, drop}
 use Rattle.runs.specs.declared.Refusal.{Refusal}
 use Rattle.runs.specs.declared.RunEnd.the-variants.{Refused}
@@ -23,9 +24,9 @@ use Rattle.laws.specs.Records.{Records}
 use Rattle.driver.specs.declared.KeptMachine.{KeptMachine}
 use Rattle.driver.specs.declared.Report.{Report}
 use Rattle.driver.specs.Lending.{broughtTo}
-use Rattle.calls.specs.Call.{BoardCall, longEnough, runOf, callAnswer}
-use Rattle.calls.specs.EveryCall.{numberOfEnd, callRefusal, callNumber, ChangesNothing, Rewrites, ReadsBack, endingBy, endingOf}
-use Rattle.calls.specs.Lists.{CallLent, callsAsk, callsNotRefused, imageAfter, OnOneImage, CallsEndAsOneRun, Lending, onImage, LentUnlessRefused, ImageEndsAsOneRun}
+use Rattle.calls.specs.Call.{BoardCall, runOf, callAnswer}
+use Rattle.calls.specs.EveryCall.{endBy, callRefusal, callNumber, ChangesNothing, Rewrites}
+use Rattle.calls.specs.Lists.{PanelLent, callsNotRefused, OnOneImage, imageAfter, callsAsk, SameFigures, CallsEndAsOneRun}
 
 -- RUNS
 
@@ -69,31 +70,29 @@ pub record OfEveryList (rom sched : List ℕ) (s : State) (cs : List (Call State
 
 -- THE BOARD'S CALL
 
--- of the calls not refused, what `reports` and `goes-on` say
-pub record OfEveryCallList (rom sched : List ℕ) (s : State) (cs : List BoardCall) : Type 0 where
-  pub reports : Each (λ c. length (c .log) < 2 ^ 64 → ReadsBack upd546 c) cs
-  pub next : (c : BoardCall) → CallLent rom sched (imageAfter upd546 (imageOf s) cs) c → 32 ≤ length (c .report)
+-- of calls and of those of them that aren't refused, what `nothing`, `stops` and `goes-on` say
+pub record OfEveryCallList (rom sched : List ℕ) (s : State) (calls cs : List BoardCall) : Type 0 where
+  pub nothing : Each (λ c. 32 ≤ length (c .report)) calls → SameFigures upd546 calls cs
+  pub stops : Each (λ c. (k : ℕ) → callAnswer upd546 c .number ≡ suc k → unbroken upd546 rom sched (callsAsk cs) s .number ≡ some (suc k)) cs
+  pub next : (c : BoardCall) → c .image ≡ imageAfter upd546 (imageOf s) cs → PanelLent rom sched c → 32 ≤ length (c .report)
       → s .cycle .0 + (callsAsk cs + c .n) ≤ 281474976710655 → callRefusal upd546 c ≡ 0
 
--- `EveryReportReadsBack` and the counts of `EveryCallTellsItsRun`
-pub record CountsRead (c : BoardCall) : Type 0 where
+-- `EveryCallTellsItsRun`
+pub record RunTold (c : BoardCall) : Type 0 where
+  pub end : endBy (callAnswer upd546 c .number) ≡ runOf upd546 c .end
+  pub log : callAnswer upd546 c .log ≡ runOf upd546 c .log
   pub cycles : numberAt (callAnswer upd546 c .report) 0 8 ≡ runOf upd546 c .cycles
   pub begun : numberAt (callAnswer upd546 c .report) 8 8 ≡ runOf upd546 c .begun
   pub written : numberAt (callAnswer upd546 c .report) 16 8 ≡ runOf upd546 c .written
   pub steps : numberAt (callAnswer upd546 c .report) 24 8 ≡ runOf upd546 c .steps
 
 pub record OfEveryCall (c : BoardCall) : Type 0 where
-  -- `EveryCallsNumberTells`, `call-number`, `changes-nothing`
-  pub ending : endingBy (callAnswer upd546 c .number) ≡ endingOf (longEnough c) (runOf upd546 c .end)
+  -- `EveryCallIsRefusedByNumbers`, `EveryRefusalChangesNothing`
   pub refused-by : callRefusal upd546 c ≡ callNumber upd546 c
   pub unchanged : ChangesNothing upd546 (callRefusal upd546 c) c
   -- `EveryFinishOrStopRewrites`
   pub rewrites : Bytes (c .rom) → Bytes (c .sched) → callRefusal upd546 c ≡ 0 → Rewrites upd546 c
-  -- `EveryReportReadsBack`, `EveryCallTellsItsRun`
-  pub reads-back : length (c .log) < 2 ^ 64 → callRefusal upd546 c ≡ 0 → CountsRead c
-  pub number : length (c .log) < 2 ^ 64 → 32 ≤ length (c .report) → callAnswer upd546 c .number ≡ numberOfEnd (runOf upd546 c .end)
-  pub log : length (c .log) < 2 ^ 64 → 32 ≤ length (c .report) → callAnswer upd546 c .log ≡ runOf upd546 c .log
-  pub counts : length (c .log) < 2 ^ 64 → 32 ≤ length (c .report) → CountsRead c
+  pub told : length (c .log) < 2 ^ 64 → 32 ≤ length (c .report) → RunTold c
 
 pub record CallFacts : Type 0 where
   -- `skipping-same`: all but the steps
@@ -124,18 +123,17 @@ pub record CallFacts : Type 0 where
       → OfEveryList rom sched s (notRefused upd546 calls)
   pub slices : (rom sched : List ℕ) (s : State) (ps : List Slice) → Panel upd546 rom sched → stateNumber s ≡ 0
       → s .cycle .0 + slicesAsk ps ≤ 281474976710655 → Lendable upd546 ps → SlicesEndAsOneRun upd546 rom sched s ps
-  -- R-3: `EveryListOfCallsEndsAsOneRun`, `EveryImageEndsAsOneRun`, `EveryAcceptedImageEndsAsOneRun`
+  -- R-3: `EveryListOfCallsEndsAsOneRun`, `EveryListOnOneImageIsMeant`, `EveryAcceptedImageEndsAsOneRun`
   pub calls : (c : BoardCall) → OfEveryCall c
   pub call-lists : (rom sched : List ℕ) (s : State) (calls : List BoardCall) → Panel upd546 rom sched → stateNumber s ≡ 0
-      → OnOneImage upd546 rom sched (imageOf s) (callsNotRefused upd546 calls) → OfEveryCallList rom sched s (callsNotRefused upd546 calls)
-  pub images : (rom sched : List ℕ) (s : State) (ls : List Lending) → Panel upd546 rom sched → stateNumber s ≡ 0
-      → LentUnlessRefused upd546 rom sched (onImage upd546 (imageOf s) ls) → ImageEndsAsOneRun upd546 rom sched s ls
-  pub accepted-images : (rom sched image : List ℕ) (ls : List Lending) → Bytes image → Panel upd546 rom sched → restoreAnswer upd546 image .number ≡ 0
-      → LentUnlessRefused upd546 rom sched (onImage upd546 image ls)
-      → (image ≡ imageOf (restoreAnswer upd546 image .state)) × ImageEndsAsOneRun upd546 rom sched (restoreAnswer upd546 image .state) ls
+      → OnOneImage upd546 rom sched (imageOf s) (callsNotRefused upd546 calls) → OfEveryCallList rom sched s calls (callsNotRefused upd546 calls)
+  pub one-images : (rom sched image : List ℕ) (calls : List BoardCall) → OnOneImage upd546 rom sched image calls
+      → OnOneImage upd546 rom sched image (callsNotRefused upd546 calls) × (imageAfter upd546 image calls ≡ imageAfter upd546 image (callsNotRefused upd546 calls))
+  pub accepted-images : (rom sched image : List ℕ) (calls : List BoardCall) → Bytes image → Panel upd546 rom sched → restoreAnswer upd546 image .number ≡ 0
+      → OnOneImage upd546 rom sched image (callsNotRefused upd546 calls) → CallsEndAsOneRun upd546 rom sched image (restoreAnswer upd546 image .state) calls
 
--- ANY MACHINE: `skipping-same`, `lists-end`, `slices-end`, `runs-sound`, `counts-within`, `numbers-tell`, `calls-end`, `image-ends`,
--- `call-rewrites`, `reports-read-back`, `call-tells-run`, `call-tells`
+-- ANY MACHINE: `skipping-same`, `lists-end`, `slices-end`, `runs-sound`, `counts-within`, `numbers-tell`, `calls-end`, `on-one-image`,
+-- `call-rewrites`, `call-tells-run`, `refused-by-numbers`, `changes-nothing`
 pub record OfAnyMachine {S : Type 0} (M : Machine S) : Type 0 where
   pub same : JumpLaws M → (rom sched : List ℕ) (s : S) (log : List ℕ) (n : ℕ)
       → skipping M rom sched s log n ≡ withSteps (skipping M rom sched s log n .steps) (plain M rom sched s log n)
@@ -147,18 +145,16 @@ pub record OfAnyMachine {S : Type 0} (M : Machine S) : Type 0 where
       → M .stateNumber (runAnswer M kind rom sched s log n .state) ≡ 0
   pub runs : Laws M → NumberLaws M → (kind : Kind) (rom sched : List ℕ) (s : S) (log : List ℕ) (n : ℕ)
       → OfEveryRun n (length log) (runAnswer M kind rom sched s log n)
-  pub call-lists : Laws M → (rom sched : List ℕ) (s : S) (calls : List BoardCall) → Panel M rom sched → M .stateNumber s ≡ 0
-      → OnOneImage M rom sched (M .image s) (callsNotRefused M calls) → CallsEndAsOneRun M rom sched s calls
-  pub images : Laws M → (rom sched : List ℕ) (s : S) (ls : List Lending) → Panel M rom sched → M .stateNumber s ≡ 0
-      → LentUnlessRefused M rom sched (onImage M (M .image s) ls) → ImageEndsAsOneRun M rom sched s ls
-  pub rewrites : Laws M → (c : BoardCall) → Bytes (c .rom) → Bytes (c .sched) → length (c .image) ≡ M .imageLength → callRefusal M c ≡ 0 → Rewrites M c
-  pub reads-back : Laws M → (c : BoardCall) → length (c .log) < 2 ^ 64 → callRefusal M c ≡ 0
-      → numberAt (callAnswer M c .report) 0 8 ≡ runOf M c .cycles
-  pub tells-run : Laws M → (c : BoardCall) → length (c .log) < 2 ^ 64 → 32 ≤ length (c .report)
-      → callAnswer M c .number ≡ numberOfEnd (runOf M c .end)
-  pub ending : JumpLaws M → NumberLaws M → (c : BoardCall) → endingBy (callAnswer M c .number) ≡ endingOf (longEnough c) (runOf M c .end)
-  pub refused-by : (c : BoardCall) → callRefusal M c ≡ callNumber M c
-  pub unchanged : (c : BoardCall) → ChangesNothing M (callRefusal M c) c
+  pub call-lists : Laws M → NumberLaws M → (rom sched : List ℕ) (s : S) (calls : List BoardCall) → Panel M rom sched → M .stateNumber s ≡ 0
+      → OnOneImage M rom sched (M .image s) (callsNotRefused M calls) → CallsEndAsOneRun M rom sched (M .image s) s calls
+  pub one-images : JumpLaws M → NumberLaws M → (rom sched image : List ℕ) (calls : List BoardCall) → OnOneImage M rom sched image calls
+      → OnOneImage M rom sched image (callsNotRefused M calls) × (imageAfter M image calls ≡ imageAfter M image (callsNotRefused M calls))
+  pub rewrites : Laws M → NumberLaws M → (c : BoardCall) → Bytes (c .rom) → Bytes (c .sched) → length (c .image) ≡ M .imageLength → callRefusal M c ≡ 0
+      → Rewrites M c
+  pub tells-run : Laws M → NumberLaws M → (c : BoardCall) → length (c .log) < 2 ^ 64 → 32 ≤ length (c .report)
+      → endBy (callAnswer M c .number) ≡ runOf M c .end
+  pub refused-by : JumpLaws M → NumberLaws M → (c : BoardCall) → callRefusal M c ≡ callNumber M c
+  pub unchanged : JumpLaws M → NumberLaws M → (c : BoardCall) → ChangesNothing M (callRefusal M c) c
 
 -- What these ask of a machine, and nothing else: the laws, each made of all that it says.
 pub record OfEveryLaw {S : Type 0} (M : Machine S) : Type 0 where

@@ -7,20 +7,23 @@ use mathlib.Core.List.{List, [], _++_}
 use lib.ListN.{length, take}
 use Rattle.runs.specs.Machine.{Machine}
 use Rattle.runs.specs.TwoRunners.{unbroken, runNumber}
-use Rattle.runs.specs.Laws.{Bytes, Panel}
+use Rattle.runs.specs.Laws.{Bytes, Panel, NumberLaws, Laws}
 use Rattle.runs.specs.EveryRun.{EveryRunCountsWithin}
 use Rattle.runs.specs.Lists.{Kind, Call, run, refusal, notRefused, Meant, asked, EveryListEndsAsOneRun}
 use Rattle.upd546.specs.declared.State.{State}
-use Rattle.upd546.specs.StateImage.{stateNumber}
+use Rattle.upd546.specs.StateImage.{imageOf, stateNumber}
 use Rattle.upd546.specs.TheLineSchedule.{scheduleNumber}
 use Rattle.upd546.specs.TwoRunners.{upd546}
 use Rattle.laws.specs.Records.{EveryRunWritesRecords}
+use Rattle.calls.specs.Call.{BoardCall}
+use Rattle.calls.specs.Lists.{callsNotRefused, OnOneImage, callLogs, callsAsk}
 use Rattle.waiting.specs.declared.Carried.{Carried}
 use Rattle.waiting.specs.declared.LogRecord.{LogRecord}
 use Rattle.waiting.specs.WaitingTimes.{carriedAfter, recordHere, recordSound, logRecordNumber, carriedNumber, startOfDay, answeredWith, waitingTimes}
 use Rattle.waiting.specs.Growth.{CarriedGrown}
 use Rattle.waiting.specs.EveryLog.{lampsLit, landingOf, waitsOf, FiguresWithin}
-use Rattle.waiting.specs.EveryList.{AllAccepted, carriedOn, listLogs, ReportsAsOneRun}
+use Rattle.waiting.specs.EveryList.{AllAccepted, carriedOn, listLogs, ReportsAsOneRun, EveryListReportsAsOneRun}
+use Rattle.switch_offs.specs.EveryListOfCalls.{CallsReportAsOneRun}
 use Rattle.report.specs.Parts.{noParts, partRead, partsRead, joinedParts, WholeParts}
 use Rattle.generator.specs.Loads.{romOf, scheduleOf}
 
@@ -69,6 +72,24 @@ AnyDay {S} M =
     EveryListEndsAsOneRun M → EveryRunCountsWithin M → EveryRunWritesRecords M → (rom sched : List ℕ) (s : S) (calls : List (Call S)) → Panel M rom sched → M .stateNumber s ≡ 0 → Meant M rom sched s calls
     → M .at s + asked M (notRefused M calls) ≤ 281474976710655 → ReportsAsOneRun M rom sched s calls
 
+-- `EveryListOfCallsReportsAsOneRun`: the same of the log bytes that the board gets
+pub record OfEveryCallDay (rom sched : List ℕ) (s : State) (cs : List BoardCall) : Type 0 where
+  pub accepted : AllAccepted startOfDay (callLogs upd546 cs)
+  pub waits : (i : ℕ) → i < 4 → waitsOf (carriedOn startOfDay (callLogs upd546 cs)) i ≡ lampsLit 0 i (unbroken upd546 rom sched (callsAsk cs) s .bytes)
+
+abbrev pub EveryCallDay : Type 0
+EveryCallDay =
+    (rom sched : List ℕ) (s : State) (calls : List BoardCall) → Panel upd546 rom sched → stateNumber s ≡ 0
+    → OnOneImage upd546 rom sched (imageOf s) (callsNotRefused upd546 calls)
+    → s .cycle .0 + callsAsk (callsNotRefused upd546 calls) ≤ 281474976710655 → OfEveryCallDay rom sched s (callsNotRefused upd546 calls)
+
+-- of any machine, by its laws and what is promised of its lists
+abbrev pub AnyCallDay : {S : Type 0} → Machine S → Type 0
+AnyCallDay {S} M =
+    Laws M → NumberLaws M → EveryListReportsAsOneRun M → (rom sched : List ℕ) (s : S) (calls : List BoardCall) → Panel M rom sched → M .stateNumber s ≡ 0
+    → OnOneImage M rom sched (M .image s) (callsNotRefused M calls) → M .at s + callsAsk (callsNotRefused M calls) ≤ 281474976710655
+    → CallsReportAsOneRun M rom sched s (callsNotRefused M calls)
+
 -- R-4, of every seed; a ROM and a schedule may be of two
 pub record OfEverySeed (seed seed′ : ℕ) : Type 0 where
   -- `EverySchedule`, up to 4,096 records
@@ -93,4 +114,6 @@ pub record LogFacts : Type 1 where
   pub parts : EveryParts
   pub days : EveryDay
   pub any-days : {S : Type 0} (M : Machine S) → AnyDay M
+  pub call-days : EveryCallDay
+  pub any-call-days : {S : Type 0} (M : Machine S) → AnyCallDay M
   pub seeds : (seed seed′ : ℕ) → OfEverySeed seed seed′

@@ -8,8 +8,11 @@ use Rattle.runs.specs.Lists.{plainOne, skippingOne, Call, run, save, restore, r
 use Rattle.runs.specs.TwoRunners.{saveAnswer, restoreAnswer}
 use Rattle.upd546.specs.declared.State.{State}
 use Rattle.upd546.specs.TheMachine.{fresh}
+use Rattle.upd546.specs.StateImage.{imageOf}
 use Rattle.upd546.specs.BenchCases.{romAt}
 use Rattle.upd546.specs.TwoRunners.{upd546}
+use Rattle.calls.specs.Call.{BoardCall, callAnswer}
+use Rattle.calls.specs.Lists.{callLogs}
 use Rattle.waiting.specs.declared.Landing.{Landing}
 use Rattle.waiting.specs.declared.Carried.{Carried}
 use Rattle.waiting.specs.declared.Reading.{Reading}
@@ -75,6 +78,19 @@ lampCalls =
     ∷ run skippingOne lampRom [] (restoreAnswer upd546 keptLit .state) (replicate 80 0) 9
     ∷ []
 
+-- the same by the board's call, on an image
+abbrev pub lampCall : (image log : List ℕ) → (n runner : ℕ) → BoardCall
+lampCall image log n runner = record { image = image; rom = lampRom; sched = []; log = log; n = n; runner = runner; report = replicate 32 9 }
+
+abbrev pub firstLamp : BoardCall
+firstLamp = lampCall (imageOf fresh) (replicate 32 7) 3 0
+
+abbrev pub secondLamp : BoardCall
+secondLamp = lampCall (callAnswer upd546 firstLamp .image) (replicate 80 0) 9 1
+
+abbrev pub lampBoard : List BoardCall
+lampBoard = firstLamp ∷ lampCall [] [] 1 0 ∷ secondLamp ∷ []
+
 abbrev pub wantedDay : Carried
 wantedDay = record { landings = oneWait 2 ∷ noWaits ∷ noWaits ∷ noWaits ∷ []; lamps = 0; last = record { 0 = 4 } }
 
@@ -108,3 +124,6 @@ pub record WaitFigures : Type 0 where
   -- `EveryListReportsAsOneRun`: the wait that the power cut falls into is there, and whole
   pub accepted : AllAccepted startOfDay (listLogs upd546 lampCalls)
   pub day : carriedOn startOfDay (listLogs upd546 lampCalls) ≡ wantedDay
+  -- `EveryListOfCallsReportsAsOneRun`: the same of what the board gets
+  pub board-accepted : AllAccepted startOfDay (callLogs upd546 (firstLamp ∷ secondLamp ∷ []))
+  pub board-day : carriedOn startOfDay (callLogs upd546 (firstLamp ∷ secondLamp ∷ [])) ≡ wantedDay
