@@ -14,7 +14,7 @@ use Rattle.laws.proofs.Demand3.{jump-laws, laws}
 use Rattle.calls.specs.EveryCall.{EveryCallIsRefusedByNumbers, EveryRefusalChangesNothing, EveryCallTellsItsRun}
 use Rattle.calls.specs.Lists.{callsNotRefused, OnOneImage, EveryListOnOneImageIsMeant, CallsEndAsOneRun, EveryListOfCallsEndsAsOneRun}
 use Rattle.calls.specs.Chip.{EveryFinishOrStopRewrites, EveryAcceptedImageEndsAsOneRun}
-use Rattle.calls.proofs.EveryCall.{refused-by-numbers, changes-nothing, through, back, call-rewrites, call-tells-run}
+use Rattle.calls.proofs.EveryCall.{own-refusal, refused-by-numbers, changes-nothing, through, back, call-rewrites, call-tells-run}
 use Rattle.calls.proofs.Lists.{calls-end, on-one-image}
 
 -- EVERY CALL
@@ -27,7 +27,7 @@ every-refusal-changes-nothing = changes-nothing upd546 jump-laws number-laws
 
 pub every-finish-or-stop-rewrites : EveryFinishOrStopRewrites
 every-finish-or-stop-rewrites c br bs h =
-    let free = sym (every-call-is-refused-by-numbers c) ∙ h in
+    let free = own-refusal upd546 jump-laws number-laws c ∙ h in
     let accepted : imageNumber (c .image) ≡ 0 = sym (by-number upd546 (restore (c .image))) ∙ through upd546 c free .restored in
     call-rewrites upd546 laws number-laws c br bs (accepted-length (c .image) accepted) h
 

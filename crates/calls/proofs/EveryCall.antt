@@ -35,6 +35,10 @@ endWithReport true e = e
 module _ {S : Type 0} (M : Machine S) where
   -- WHAT REFUSES A CALL
 
+  -- the number of the end that refuses it, else 0
+  abbrev ownRefusal : BoardCall → ℕ
+  ownRefusal c = refusalOf (endWithReport (longEnough c) (runOf M c .end))
+
   restored-number : (k : ℕ) (s : S) (kind : Kind) (rom sched log : List ℕ) (n : ℕ)
       → refusalOf (onRestored M (got M k s .number) (got M k s .state) kind rom sched log n .end) ≡ firstOf (k ∷ runNumber M rom sched s n ∷ [])
   unfolding firstOf
@@ -45,8 +49,8 @@ module _ {S : Type 0} (M : Machine S) where
   unfolding imageRun restoreAnswer
   run-number c = restored-number (M .imageNumber (c .image)) (M .ofImage (c .image)) (kindOf (c .runner)) (c .rom) (c .sched) (c .log) (c .n)
 
-  -- the end that refuses a call is that of the documents' number
-  call-number : (c : BoardCall) → refusalOf (endWithReport (longEnough c) (runOf M c .end)) ≡ callNumber M c
+  -- it is the documents' number
+  call-number : (c : BoardCall) → ownRefusal c ≡ callNumber M c
   unfolding firstOf
   call-number c = go (longEnough c)
     where
@@ -75,17 +79,18 @@ module _ {S : Type 0} (M : Machine S) where
     report = ap (λ (z : BoardAnswer). z .report) h ∙ ap (λ (b : Bool). refusedReport b (c .report)) (sym q);
   }
 
-  left : (c : BoardCall) → ChangesNothing M (callNumber M c) c
+  left : (c : BoardCall) → ChangesNothing M (ownRefusal c) c
   unfolding callAnswer
-  left c = subst (λ (k : ℕ). ChangesNothing M k c) (call-number c) (leaves c (longEnough c) (runOf M c .end) (runOf M c) refl refl)
+  left c = leaves c (longEnough c) (runOf M c .end) (runOf M c) refl refl
 
   -- A CALL THAT ISN'T REFUSED
 
-  -- its image is restored, its run is the run from there, which no number refuses, and it answers that run
+  -- its image is restored, its run is the run from there, which no number refuses, its report has 32 bytes, and it answers that run
   pub record Through (c : BoardCall) : Type 0 where
     pub restored : restoreAnswer M (c .image) .number ≡ 0
     pub same-run : runOf M c ≡ runAnswer M (kindOf (c .runner)) (c .rom) (c .sched) (restoreAnswer M (c .image) .state) (c .log) (c .n)
     pub run-ok : runNumber M (c .rom) (c .sched) (restoreAnswer M (c .image) .state) (c .n) ≡ 0
+    pub enough : longEnough c ≡ true
     pub answers : callAnswer M c ≡ ranCall M c (numberOfEnd (runOf M c .end)) (runOf M c)
 
   ends : (o : Option ℕ) → NoRefusal (endWith o)
@@ -101,24 +106,27 @@ module _ {S : Type 0} (M : Machine S) where
       let q = strides M rom sched n (length log) n s in
       subst (λ (k : ℕ). NoRefusal (told M k q s log .end)) (sym z) (ends (q .ran .number))
 
-  pub through : (c : BoardCall) → callNumber M c ≡ 0 → Through c
+  pub through : (c : BoardCall) → ownRefusal c ≡ 0 → Through c
   unfolding imageRun restoreAnswer callAnswer
   through c h =
+      let z : callNumber M c ≡ 0 = sym (call-number c) ∙ h in
       let kind : Kind = kindOf (c .runner) in
       let s : S = restoreAnswer M (c .image) .state in
-      let restored : restoreAnswer M (c .image) .number ≡ 0 = ap (λ (k : ℕ). got M k (M .ofImage (c .image)) .number) (first-at _ h 1) in
-      let same-state : s ≡ M .ofImage (c .image) = ap (λ (k : ℕ). got M k (M .ofImage (c .image)) .state) (first-at _ h 1) in
-      let ok : runNumber M (c .rom) (c .sched) s (c .n) ≡ 0 = ap (λ (t : S). runNumber M (c .rom) (c .sched) t (c .n)) same-state ∙ first-at _ h 2 in
+      let restored : restoreAnswer M (c .image) .number ≡ 0 = ap (λ (k : ℕ). got M k (M .ofImage (c .image)) .number) (first-at _ z 1) in
+      let same-state : s ≡ M .ofImage (c .image) = ap (λ (k : ℕ). got M k (M .ofImage (c .image)) .state) (first-at _ z 1) in
+      let ok : runNumber M (c .rom) (c .sched) s (c .n) ≡ 0 = ap (λ (t : S). runNumber M (c .rom) (c .sched) t (c .n)) same-state ∙ first-at _ z 2 in
       let same : runOf M c ≡ runAnswer M kind (c .rom) (c .sched) s (c .log) (c .n)
       = ap (λ (k : ℕ). onRestored M k s kind (c .rom) (c .sched) (c .log) (c .n)) restored in
       let ran : NoRefusal (runOf M c .end)
       = subst (λ (a : RunAnswer S). NoRefusal (a .end)) (sym same) (run-ends kind (c .rom) (c .sched) s (c .log) (c .n) ok) in
+      let enough : longEnough c ≡ true = passes (longEnough c) 1 refl (first-at _ z 0) in
       record {
         restored = restored;
         same-run = same;
         run-ok = ok;
+        enough = enough;
         answers =
-            ap (λ (b : Bool). onReport M b c (runOf M c .end) (runOf M c)) (passes (longEnough c) 1 refl (first-at _ h 0))
+            ap (λ (b : Bool). onReport M b c (runOf M c .end) (runOf M c)) enough
             ∙ ran-answer M c (runOf M c .end) (runOf M c) ran;
       }
 
@@ -172,17 +180,20 @@ module _ {S : Type 0} (M : Machine S) where
   unfolding callAnswer
   call-tells J N c = end-told c (longEnough c) (runOf M c .end) (runOf M c) (run-tells J N c)
 
+  pub own-refusal : JumpLaws M → NumberLaws M → (c : BoardCall) → ownRefusal M c ≡ callRefusal M c
+  own-refusal J N c = sym (ap refusalOf (call-tells J N c))
+
   pub refused-by-numbers : JumpLaws M → NumberLaws M → EveryCallIsRefusedByNumbers M
-  refused-by-numbers J N c = ap refusalOf (call-tells J N c) ∙ call-number M c
+  refused-by-numbers J N c = sym (own-refusal J N c) ∙ call-number M c
 
   pub changes-nothing : JumpLaws M → NumberLaws M → EveryRefusalChangesNothing M
-  changes-nothing J N c = subst (λ (k : ℕ). ChangesNothing M k c) (sym (refused-by-numbers J N c)) (left M c)
+  changes-nothing J N c = subst (λ (k : ℕ). ChangesNothing M k c) (own-refusal J N c) (left M c)
 
 -- "a finish or a stop rewrites it", on bytes of an image's length, whatever the log's length
 pub call-rewrites : {S : Type 0} (M : Machine S) → Laws M → NumberLaws M
     → (c : BoardCall) → Bytes (c .rom) → Bytes (c .sched) → length (c .image) ≡ M .imageLength → callRefusal M c ≡ 0 → Rewrites M c
 call-rewrites {S} M L N c br bs long h =
-    let t = through M c (sym (refused-by-numbers M (L .jumps) N c) ∙ h) in
+    let t = through M c (own-refusal M (L .jumps) N c ∙ h) in
     let s : S = restoreAnswer M (c .image) .state in
     let kind : Kind = kindOf (c .runner) in
     let f = run-fit M (c .rom) (c .sched) s (c .n) (t .run-ok) in
@@ -210,7 +221,7 @@ module _ {S : Type 0} (M : Machine S) (L : Laws M) (N : NumberLaws M) where
   end-as c enough = call-tells M (L .jumps) N c ∙ ap (λ (b : Bool). endWithReport b (runOf M c .end)) enough
 
   -- a call that isn't refused, whose log bytes stand in eight bytes
-  pub ran-tells : (c : BoardCall) → callNumber M c ≡ 0 → runOf M c .written < 2 ^ 64 → TellsItsRun M c
+  pub ran-tells : (c : BoardCall) → ownRefusal M c ≡ 0 → runOf M c .written < 2 ^ 64 → TellsItsRun M c
   ran-tells c h small =
       let t = through M c h in
       let s : S = restoreAnswer M (c .image) .state in
@@ -225,7 +236,7 @@ module _ {S : Type 0} (M : Machine S) (L : Laws M) (N : NumberLaws M) where
       let written : a .written < 256 ^ 8 = omega (arith, small) in
       let steps : a .steps < 256 ^ 8 = omega (arith, w .steps, cycles) in
       record {
-        end = end-as c (passes (longEnough c) 1 refl (first-at _ h 0));
+        end = end-as c (t .enough);
         log = ap (λ (z : BoardAnswer). z .log) (t .answers);
         cycles = ap (λ (l : List ℕ). numberAt l 0 8) told ∙ bytes-back 8 (a .cycles) cycles;
         begun = ap (λ (l : List ℕ). numberAt l 8 8) told ∙ bytes-back 8 (a .begun) begun;
@@ -233,12 +244,12 @@ module _ {S : Type 0} (M : Machine S) (L : Laws M) (N : NumberLaws M) where
         steps = ap (λ (l : List ℕ). numberAt l 24 8) told ∙ bytes-back 8 (a .steps) steps;
       }
 
-  refused-tells : (c : BoardCall) (k : ℕ) → reportLength ≤ length (c .report) → callNumber M c ≡ suc k → TellsItsRun M c
+  refused-tells : (c : BoardCall) (k : ℕ) → reportLength ≤ length (c .report) → ownRefusal M c ≡ suc k → TellsItsRun M c
   refused-tells c k long h =
       let enough : longEnough c ≡ true = le-leb reportLength (length (c .report)) long in
       let same : Refuses M (suc k) c = subst (λ (j : ℕ). ChangesNothing M j c) h (left M c) in
       let number : refusalOf (runOf M c .end) ≡ suc k
-      = sym (ap (λ (b : Bool). refusalOf (endWithReport b (runOf M c .end))) enough) ∙ call-number M c ∙ h in
+      = sym (ap (λ (b : Bool). refusalOf (endWithReport b (runOf M c .end))) enough) ∙ h in
       let none = idle M c k (refused-end (runOf M c .end) k number) in
       let zeros : callAnswer M c .report ≡ reported (replicate reportLength 0) (c .report)
       = same .report ∙ ap (λ (b : Bool). refusedReport b (c .report)) enough in
@@ -252,15 +263,15 @@ module _ {S : Type 0} (M : Machine S) (L : Laws M) (N : NumberLaws M) where
       }
 
   pub call-tells-run : EveryCallTellsItsRun M
-  call-tells-run c small long = go (callNumber M c) refl
+  call-tells-run c small long = go (ownRefusal M c) refl
     where
-      fits : callNumber M c ≡ 0 → runOf M c .written < 2 ^ 64
+      fits : ownRefusal M c ≡ 0 → runOf M c .written < 2 ^ 64
       fits h =
           let w : CountsWithin (c .log) (c .n) (runOf M c)
           = subst (CountsWithin (c .log) (c .n)) (sym (through M c h .same-run))
           (counts-within M L (kindOf (c .runner)) (c .rom) (c .sched) (restoreAnswer M (c .image) .state) (c .log) (c .n)) in
           omega (arith, w .written, small)
 
-      go : (k : ℕ) → callNumber M c ≡ k → TellsItsRun M c
+      go : (k : ℕ) → ownRefusal M c ≡ k → TellsItsRun M c
       go zero h = ran-tells c h (fits h)
       go (suc k) h = refused-tells c k long h

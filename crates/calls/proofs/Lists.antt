@@ -24,7 +24,7 @@ use Rattle.upd546.specs.Bytes.{numberAt}
 use Rattle.calls.specs.Call.{BoardCall, BoardAnswer, kindOf, reportLength, reported, callAnswer}
 use Rattle.calls.specs.EveryCall.{endBy, refusedReport, callRefusal, callNumber, ChangesNothing, figureAt, TellsItsRun}
 use Rattle.calls.specs.Lists.{keepCall, callsNotRefused, PanelLent, OnOneImage, imageAfter, callLogs, figureTotal, joined, callsAsk, EveryListOnOneImageIsMeant, CallsEndAs, SameFigures, EveryListOfCallsEndsAsOneRun}
-use Rattle.calls.proofs.EveryCall.{refused-by-numbers, changes-nothing, through, saves-over, written, back, ran-tells}
+use Rattle.calls.proofs.EveryCall.{own-refusal, refused-by-numbers, changes-nothing, through, saves-over, written, back, ran-tells}
 
 -- WHAT CALLS TELL OF RUNS
 
@@ -87,8 +87,7 @@ module _ {S : Type 0} (M : Machine S) where
   all-finish [] (a ∷ rs) h = absurd h
   all-finish (c ∷ cs) [] h = absurd h
   all-finish (c ∷ cs) (a ∷ rs) h =
-      let rest = all-finish cs rs (h .1) in
-      (
+      let rest = all-finish cs rs (h .1) in (
         λ f. (sym (h .0 .end) ∙ ap endBy (f .0), rest .0 (f .1)),
         λ f. (by-finish (callAnswer M c .number) (h .0 .end ∙ f .0), rest .1 (f .1)),
       )
@@ -142,7 +141,7 @@ module _ {S : Type 0} (M : Machine S) (L : Laws M) (N : NumberLaws M) (rom sched
   tells : (c : BoardCall) → callRefusal M c ≡ 0 → PanelLent rom sched c
       → Tells M c (runAnswer M (kindOf (c .runner)) (c .rom) (c .sched) (restoreAnswer M (c .image) .state) (c .log) (c .n))
   tells c taken lent =
-      let free : callNumber M c ≡ 0 = sym (refused-by-numbers M (L .jumps) N c) ∙ taken in
+      let free = own-refusal M (L .jumps) N c ∙ taken in
       let y = through M c free in
       let from : S = restoreAnswer M (c .image) .state in
       let a : RunAnswer S = runAnswer M (kindOf (c .runner)) (c .rom) (c .sched) from (c .log) (c .n) in
@@ -165,7 +164,7 @@ module _ {S : Type 0} (M : Machine S) (L : Laws M) (N : NumberLaws M) (rom sched
       let wrote : WrittenBy M held (c .image) = subst (λ (i : List ℕ). WrittenBy M held i) (sym (g .0 .same-image)) (written M (L .images) held v) in
       let from : S = restoreAnswer M (c .image) .state in
       let a : RunAnswer S = runAnswer M kind (c .rom) (c .sched) from (c .log) (c .n) in
-      let y = through M c (sym (refused-by-numbers M (L .jumps) N c) ∙ t .0) in
+      let y = through M c (own-refusal M (L .jumps) N c ∙ t .0) in
       let the-run : Call S = run kind (c .rom) (c .sched) from (c .log) (c .n) in
       let on-panel : Lent M rom sched from (c .rom) (c .sched) from (c .log) (c .n)
       = record { same-rom = lent .same-rom; same-sched = lent .same-sched; same-state = refl; room = lent .room } in
@@ -310,8 +309,7 @@ module _ {S : Type 0} (M : Machine S) (J : JumpLaws M) (N : NumberLaws M) where
           → OneImage rom sched image (c ∷ cs) (keepCall k c (callsNotRefused M cs))
       go ih zero q = ((h .0, ih .0), ih .1)
       go ih (suc k) q =
-          let same : callAnswer M c .image ≡ image = q .image ∙ h .0 .same-image in
-          (
+          let same : callAnswer M c .image ≡ image = q .image ∙ h .0 .same-image in (
             subst (λ (i : List ℕ). OnOneImage M rom sched i (callsNotRefused M cs)) same (ih .0),
             ih .1 ∙ ap (λ (i : List ℕ). imageAfter M i (callsNotRefused M cs)) same,
           )
