@@ -14,12 +14,11 @@ ghost use lib.ListN.{length};
 ghost use Rattle.runs.specs.TwoRunners.{plain, saveAnswer, restoreAnswer};
 ghost use Rattle.upd546.specs.TwoRunners.{upd546};
 ghost use Rattle.upd546.specs.Reports.{decimal, traceText};
-ghost use Rattle.calls.specs.EveryCall.{numberOfEnd};
 ghost use Rattle.waiting.specs.WaitingTimes.{startOfDay, waitingTimes};
 ghost use Rattle.report.specs.Parts.{partRead};
 ghost use Rattle.report.specs.Texts.{waitsText};
 ghost use Rattle.streams.specs.Streams.{Wrote};
-ghost use Rattle.callers.specs.Uses.{FirstCall, TwoCalls, Fronts};
+ghost use Rattle.callers.specs.Uses.{FirstCall, TwoCalls, Fronts, numberTold};
 
 // The numbers of two calls, one after the other.
 pub struct Numbers {
@@ -63,7 +62,7 @@ pub fn two_calls(
 
 // The number of a run.
 pub fn run_number(rom: &[u8], schedule: &[u8], s: State, log: &mut [u8], n: MachineCycles) -> u8
-    ensures { λ r. ⌜ r ≡ numberOfEnd (plain upd546 (now (rom .entry)) (now (schedule .entry)) s (now (log .entry)) (n .0) .end) ⌝ }
+    ensures { λ r. ⌜ r ≡ numberTold (plain upd546 (now (rom .entry)) (now (schedule .entry)) s (now (log .entry)) (n .0) .end) ⌝ }
 {
     let answer = runner::run_plain(rom, schedule, s, log, n);
     let end = answer.end;
