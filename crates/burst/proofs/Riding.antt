@@ -1,86 +1,102 @@
 -- Where the loop of a burst stands: the machine has come so many cycles, and the core is the machine's with the timer behind.
 -- Assumes nothing.
 use mathlib.Core.Path.{_≡_, _∙_, refl, sym, ap, ap₂, subst}
-use mathlib.Core.Bool.{Bool, true, false, cond, not, _&&_, _||_}
+use mathlib.Core.Bool.{Bool, true, false, cond, not, _&&_, and-true, and-false}
 use mathlib.Core.List.{List, [], _++_}
 use mathlib.Core.Option.{some}
 use Prim.Native.Nat.{ℕ, suc, _+_, _-_, _<_, _≤_, min}
-use native.Mathlib.Nat.{add-zero, sub-zero}
 use native.Mathlib.Omega.{arith}
 use lib.Dec.{eqb, leb}
-use lib.ListN.{length, take, drop, length-append, length-drop}
+use lib.ListN.{length, take, drop, length-append}
 use borrow.Author.Tests.{leb-true, leb-false, eqb-true, eqb-false, ne-eqb}
 use Rattle.runs.specs.Machine.{Out, stop, went}
+use Rattle.runs.specs.Refusals.{cycleLimit}
 use Rattle.runs.specs.TwoRunners.{still, within}
 use Rattle.runs.specs.OneByOne.{OneByOne, none}
 use Rattle.runs.proofs.Loop.{one-stops, one-fills}
 use Rattle.upd546.specs.declared.Core.{Core}
+use Rattle.upd546.specs.declared.Interrupt.{Interrupt}
 use Rattle.upd546.specs.declared.Timer.{Timer}
 use Rattle.upd546.specs.declared.Lines.{Lines}
 use Rattle.upd546.specs.declared.State.{State}
-use Rattle.upd546.specs.TheMachine.{markEi, markStm}
+use Rattle.upd546.specs.TheMachine.{byteAt, markEi, markStm}
 use Rattle.upd546.specs.Parts.{stateOf, withTimer, setOwed}
 use Rattle.upd546.specs.TheLineSchedule.{linesAt}
 use Rattle.upd546.specs.Timer.{ticksLeft}
-use Rattle.upd546.specs.OneMachineCycle.{taken, given, execute, onOwed, onAccepts, cycle}
-use Rattle.upd546.specs.TwoRunners.{atTtm, atJcpBack, jumpLength, upd546}
+use Rattle.upd546.specs.OneMachineCycle.{blocks, accepts, taken, given, execute, onOwed, onAccepts, cycle}
+use Rattle.upd546.specs.TwoRunners.{atTtm, atJcpBack, mayJump, jumpLength, upd546}
 use Rattle.laws.specs.Timer.{ticks}
 use Rattle.laws.specs.Burst.{Free, unticked, forward, broughtForward}
 use Rattle.laws.specs.Stops.{StopNumber}
 use Rattle.laws.specs.Valid.{Scalars, ValidStack, ValidPorts, ValidRam, Valid, ValidLines}
+use Rattle.laws.proofs.Lists.{and-left, and-right}
 use Rattle.laws.proofs.Lines.{lines-valid}
 use Rattle.laws.proofs.Cycle.{taken-keeps, unticked-valid}
 use Rattle.laws.proofs.Stops.{stop-number}
-use Rattle.laws.proofs.Tails.{put-next}
-use Rattle.laws.proofs.Jump.{cycle-executes}
+use Rattle.laws.proofs.Tails.{put-none, put-more, put-length}
+use Rattle.laws.proofs.Jump.{free-accepts, blocked-accepts, cycle-due, jump-length-none}
 use Rattle.laws.proofs.Burst.{tm-stays, ticks-stopped, forward-none, forward-on, forward-stm, execute-late, Begun, begun-is, reaches-later}
-use Rattle.jump.specs.Boundary.{Shows}
-use Rattle.jump.proofs.Lengths.{stopped, no-loop}
+use Rattle.jump.specs.Boundary.{watchCode}
+use Rattle.jump.proofs.Lengths.{no-ttm, both-one, stopped, no-loop}
 use Rattle.effect.specs.declared.Started.{Started}
 use Rattle.effect.specs.Answer.{Answer, startOf, answerOn}
 use Rattle.cycle.specs.Ready.{Ready}
-use Rattle.burst.specs.declared.Events.{Events}
-use Rattle.burst.specs.Turn.{Turn, Due, Horizon, Moves, Bursts, endedAt}
-use Rattle.burst.proofs.Moving.{Moved, unmoved, moved, neither, either, watch-moved}
+use Rattle.burst.specs.Turn.{Turn, Due, Horizon, Moved, Bursts, mayBeDue, nearestOf, keptBack, stretchOf, endedAt, appended}
+use Rattle.burst.proofs.Moving.{Next, next}
 
--- what stays the same in a burst from the state s on
-pub record Setting (skips : Bool) (rom sched table positions : List ℕ) (l : Lines) (next left : ℕ) (s : State) (first : Core) : Type 0 where
-  pub turn : Turn skips rom sched table positions l next left s
+-- what stays the same in a burst from the state s on, with the log as it is lent, empty from `at` on
+pub record Setting (skips : Bool) (rom sched table positions : List ℕ) (l : Lines) (limit : ℕ) (s : State) (log : List ℕ) (at begun : ℕ) (first : Core) : Type 0 where
+  pub turn : Turn skips rom sched table positions l limit s log at begun
   pub due : Due s
   pub first-is : first ≡ taken l (s .core)
 
 -- the lines leave the timer as it was
-pub first-register : {skips : Bool} {rom sched table positions : List ℕ} {l : Lines} {next left : ℕ} {s : State} → Turn skips rom sched table positions l next left s
-    → taken l (s .core) .timer .register < 64
+pub first-register : {skips : Bool} {rom sched table positions : List ℕ} {l : Lines} {limit : ℕ} {s : State} {log : List ℕ} {at begun : ℕ}
+    → Turn skips rom sched table positions l limit s log at begun → taken l (s .core) .timer .register < 64
 unfolding taken
 first-register k = k .valid .core .scalars .register
 
--- the machine stands at t, after `done` cycles that appended w; the next event is h cycles after s, and the timer of the core was
--- the machine's after `since` cycles
-pub record Riding (skips : Bool) (rom sched : List ℕ) (l : Lines) (next left : ℕ) (s : State) (log₀ : List ℕ)
-    (core : Core) (ram ports log : List ℕ) (at done begun h since : ℕ) : Type 0 where
+-- what the code has, between two instructions
+pub record Standing : Type 0 where
+  pub core : Core
+  pub ram : List ℕ
+  pub ports : List ℕ
+  pub log : List ℕ
+  pub at : ℕ
+  pub done : ℕ
+  pub begun : ℕ
+  pub horizon : ℕ
+  pub since : ℕ
+  pub watch : ℕ
+
+-- The machine stands at t, after d cycles that began b instructions and appended w. The next event is the horizon, and the timer of
+-- the core was the machine's before cycle `since`. The instruction at PC is due.
+pub record Riding (skips : Bool) (rom sched : List ℕ) (l : Lines) (limit : ℕ) (s : State) (log₀ : List ℕ) (at₀ begun₀ : ℕ) (p : Standing) : Type 0 where
   pub t : State
   pub w : List ℕ
-  pub steps : OneByOne upd546 rom sched skips (length log₀) left s t w done begun
-  pub ram-is : t .ram ≡ ram
-  pub ports-is : t .ports ≡ ports
-  pub cycle-is : t .cycle .0 ≡ s .cycle .0 + done
-  pub due-is : cycle rom sched t ≡ execute rom l t (withTimer core (ticks (done - since) (core .timer)))
-  pub valid : Valid (stateOf core ram ports (s .cycle .0 + done))
-  pub level : core .interrupt .level ≡ l .int
-  pub free : 1 < h → Free (core .interrupt)
-  pub no-jump : skips ≡ true → jumpLength rom sched t (left - done) ≡ 0
-  pub inside : done < h
-  pub in-run : h ≤ left
-  pub before-record : s .cycle .0 + h ≤ next
-  pub before-tick : 0 < core .timer .register → h ≤ since + ticksLeft (core .timer)
-  pub set : since ≤ done
-  pub few : begun ≤ done
-  pub place : at ≡ length w
-  pub fits : length w ≤ length log₀
-  pub log-is : log ≡ w ++ drop (length w) log₀
-  pub at-start : done ≡ 0 → (t ≡ s) × (w ≡ [])
-  pub state-is : (done ≡ 0 → ⊥) → t ≡ stateOf (forward (done - since) core) ram ports (s .cycle .0 + done)
+  pub d : ℕ
+  pub b : ℕ
+  pub steps : OneByOne upd546 rom sched skips (length log₀ - at₀) (limit - s .cycle .0) s t w d b
+  pub ram-is : t .ram ≡ p .ram
+  pub ports-is : t .ports ≡ p .ports
+  pub cycle-is : t .cycle .0 ≡ p .done
+  pub done-is : p .done ≡ s .cycle .0 + d
+  pub begun-is : p .begun ≡ begun₀ + b
+  pub few : b ≤ d
+  pub due-is : cycle rom sched t ≡ execute rom l t (withTimer (p .core) (ticks (p .done - p .since) (p .core .timer)))
+  pub valid : Valid (stateOf (p .core) (p .ram) (p .ports) (p .done))
+  pub level : p .core .interrupt .level ≡ l .int
+  pub no-jump : skips ≡ true → jumpLength rom sched t (limit - s .cycle .0 - d) ≡ 0
+  pub inside : p .done < p .horizon
+  pub in-limit : p .horizon ≤ limit
+  pub before-tick : 0 < p .core .timer .register → p .horizon ≤ p .since + ticksLeft (p .core .timer)
+  pub set : p .since ≤ p .done
+  pub watches : p .watch ≡ watchCode (skips && not (eqb (p .core .timer .register) 0))
+  pub place : p .at ≡ at₀ + length w
+  pub fits : at₀ + length w ≤ length log₀
+  pub log-is : p .log ≡ appended log₀ at₀ w
+  pub at-start : p .done ≡ s .cycle .0 → (t ≡ s) × (w ≡ [])
+  pub state-is : (p .done ≡ s .cycle .0 → ⊥) → t ≡ stateOf (forward (p .done - p .since) (p .core)) (p .ram) (p .ports) (p .done)
 
 -- what the code says of the instruction that is due at the state s
 pub record Answers (rom : List ℕ) (l : Lines) (s : State) (at : ℕ) (log : List ℕ) (r : Started) (ram ports log′ : List ℕ) : Type 0 where
@@ -94,13 +110,32 @@ forward-by a b c e = go (eqb (c .mark) markStm) refl
     go true q = let m = eqb-true (c .mark) markStm q in forward-stm a c m ∙ sym (forward-stm b c m)
     go false q = ap (λ (d : ℕ). forward d c) (e (eqb-false (c .mark) markStm q))
 
-module _ {skips : Bool} {rom sched table positions : List ℕ} {l : Lines} {next left : ℕ} {s : State} {first : Core}
-    (k : Setting skips rom sched table positions l next left s first) where
+-- what the code knows of `near`
+pub record Near (near h : ℕ) (i : Interrupt) : Type 0 where
+  pub event : 0 < near → near ≡ h
+  pub free : 0 < near → Free i
+
+pub near-is : {near h : ℕ} {i : Interrupt} → near ≡ nearestOf i h → Near near h i
+near-is {near} {h} {i} e = go (mayBeDue i) refl e
+  where
+    go : (x : Bool) → mayBeDue i ≡ x → near ≡ cond x 0 h → Near near h i
+    go true q z = record { event = λ v. absurd (omega (arith, v, z)); free = λ v. absurd (omega (arith, v, z)) }
+    go false q z = record { event = λ v. z; free = λ v. q }
+
+pub near-to : {near near′ h h′ : ℕ} {i : Interrupt} → near′ ≡ near → h′ ≡ h → Near near h i → Near near′ h′ i
+near-to e f n = rw (e, f) n
+
+-- a runner that jumps and whose timer runs watches for TTM
+watches-ttm : (skips : Bool) (register : ℕ) → skips ≡ true → (register ≡ 0 → ⊥) → watchCode (skips && not (eqb register 0)) ≡ 0x05
+watches-ttm skips register p n = rw (p, ne-eqb register 0 n)
+
+module _ {skips : Bool} {rom sched table positions : List ℕ} {l : Lines} {limit : ℕ} {s : State} {log₀ : List ℕ} {at₀ begun₀ : ℕ} {first : Core}
+    (k : Setting skips rom sched table positions l limit s log₀ at₀ begun₀ first) where
   lines-here : linesAt sched (s .cycle .0) ≡ l
   lines-here = k .turn .lines (s .cycle .0) (omega arith) (k .turn .ahead)
 
   pub l-valid : ValidLines l
-  l-valid = subst ValidLines lines-here (lines-valid rom sched (s .cycle .0) (k .turn .panel .sched-bytes) (k .turn .panel .not-refused))
+  l-valid = subst ValidLines lines-here (lines-valid rom sched (s .cycle .0) (k .turn .lent .panel .sched-bytes) (k .turn .lent .panel .not-refused))
 
   -- the first instruction
   first-due : cycle rom sched s ≡ execute rom l s first
@@ -116,114 +151,138 @@ module _ {skips : Bool} {rom sched table positions : List ℕ} {l : Lines} {next
   unfolding taken
   first-level = rw (k .first-is)
 
-  pub rides : (log : List ℕ) {h : ℕ} → Horizon (first .interrupt) (first .timer) next (s .cycle .0) left h
-      → Riding skips rom sched l next left s log first (s .ram) (s .ports) log 0 0 0 h 0
-  rides log v = record {
-    t = s;
-    w = [];
-    steps = none;
-    ram-is = refl;
-    ports-is = refl;
-    cycle-is = sym (add-zero (s .cycle .0));
-    due-is = first-due ∙ ap (execute rom l s) (sym (forward-none first));
-    valid = record {
-      core = rw (k .first-is) (taken-keeps l (s .core) l-valid (k .turn .valid .core));
-      ports = k .turn .valid .ports;
-      ram = k .turn .valid .ram;
-      cycle = omega (arith, k .turn .valid .cycle);
-    };
-    level = first-level;
-    free = v .free;
-    no-jump = λ e. rw (sub-zero left) (k .turn .no-jump e);
-    inside = omega (arith, v .some);
-    in-run = v .in-run;
-    before-record = v .before-record;
-    before-tick = λ p. omega (arith, v .before-tick p);
-    set = omega arith;
-    few = omega arith;
-    place = refl;
-    fits = omega arith;
-    log-is = refl;
-    at-start = λ z. (refl, refl);
-    state-is = λ n. absurd (n refl);
-  }
+  pub rides : {h watch : ℕ} → Horizon (first .timer) (s .cycle .0) limit h → watch ≡ watchCode (skips && not (eqb (first .timer .register) 0))
+      → Riding skips rom sched l limit s log₀ at₀ begun₀ (record {
+        core = first;
+        ram = s .ram;
+        ports = s .ports;
+        log = log₀;
+        at = at₀;
+        done = s .cycle .0;
+        begun = begun₀;
+        horizon = h;
+        since = s .cycle .0;
+        watch = watch;
+      })
+  rides v x =
+      let none-late : s .cycle .0 - s .cycle .0 ≡ 0 = omega arith in
+      let all-left : limit - s .cycle .0 - 0 ≡ limit - s .cycle .0 = omega arith in
+      record {
+        t = s;
+        w = [];
+        d = 0;
+        b = 0;
+        steps = none;
+        ram-is = refl;
+        ports-is = refl;
+        cycle-is = refl;
+        done-is = omega arith;
+        begun-is = omega arith;
+        few = omega arith;
+        due-is = first-due ∙ ap (execute rom l s) (sym (forward-none first)) ∙ ap (λ (y : ℕ). execute rom l s (withTimer first (ticks y (first .timer)))) (sym none-late);
+        valid = record {
+          core = rw (k .first-is) (taken-keeps l (s .core) l-valid (k .turn .valid .core));
+          ports = k .turn .valid .ports;
+          ram = k .turn .valid .ram;
+          cycle = k .turn .valid .cycle;
+        };
+        level = first-level;
+        no-jump = λ e. rw all-left (k .turn .no-jump e);
+        inside = v .some;
+        in-limit = v .in-limit;
+        before-tick = v .before-tick;
+        set = omega arith;
+        watches = x;
+        place = omega arith;
+        fits = omega (arith, k .turn .place);
+        log-is = sym (put-none log₀ at₀);
+        at-start = λ z. (refl, refl);
+        state-is = λ n. absurd (n refl);
+      }
 
   -- THE NEXT INSTRUCTION, of which the code says r
-  module _ {log₀ : List ℕ} {core : Core} {ram ports log : List ℕ} {at done begun h since : ℕ}
-      (c : Riding skips rom sched l next left s log₀ core ram ports log at done begun h since) where
+  module _ {p : Standing} (c : Riding skips rom sched l limit s log₀ at₀ begun₀ p) where
     -- the state that the code works on
     abbrev here : State
-    here = stateOf core ram ports (s .cycle .0 + done)
+    here = stateOf (p .core) (p .ram) (p .ports) (p .done)
 
     pub ready : Ready rom table l here
     ready = record {
-      rom-length = k .turn .rom-length;
-      rom-bytes = k .turn .panel .rom-bytes;
-      sizes = k .turn .instructions;
+      rom-length = k .turn .lent .rom-length;
+      rom-bytes = k .turn .lent .panel .rom-bytes;
+      sizes = k .turn .lent .instructions;
       lines = l-valid;
       valid = c .valid;
-      below = omega (arith, k .turn .limit, c .in-run, c .inside);
+      below = omega (arith, k .turn .in-limit, c .in-limit, c .inside);
     }
 
-    pub log-length : length log ≡ length log₀
-    log-length = ap length (c .log-is) ∙ length-append (c .w) (drop (length (c .w)) log₀) ∙ omega (arith, length-drop (length (c .w)) log₀, c .fits)
+    -- so that the counts fit
+    pub counts-small : (p .done < limit) × (limit ≤ cycleLimit) × (p .begun ≤ p .done)
+    counts-small = (omega (arith, c .inside, c .in-limit), k .turn .in-limit, omega (arith, c .begun-is, c .done-is, c .few, k .turn .few))
 
-    pub at-fits : at ≤ length log
+    pub log-length : length (p .log) ≡ length log₀
+    log-length = ap length (c .log-is) ∙ put-length log₀ (c .w) at₀ (c .fits)
+
+    pub at-fits : p .at ≤ length (p .log)
     at-fits = omega (arith, log-length, c .place, c .fits)
 
+    -- the room that is left, as the steps count it
+    room-same : length log₀ - p .at ≡ length log₀ - at₀ - length (c .w)
+    room-same = omega (arith, c .place)
+
     -- the machine's state and the code's differ in the core alone, which an instruction takes from elsewhere
-    same-outcome : unticked rom l (c .t) core ≡ unticked rom l here core
+    same-outcome : unticked rom l (c .t) (p .core) ≡ unticked rom l here (p .core)
     unfolding unticked given
     same-outcome = rw (c .ram-is, c .ports-is, c .cycle-is)
 
     -- how late the core's timer is
     abbrev late : ℕ
-    late = done - since
+    late = p .done - p .since
 
-    tm : ticks late (core .timer) .tm ≡ core .timer .tm
-    tm = tm-stays late (core .timer) (c .valid .core .scalars .register) (λ p. omega (arith, c .inside, c .set, c .before-tick p))
+    tm : ticks late (p .core .timer) .tm ≡ p .core .timer .tm
+    tm = tm-stays late (p .core .timer) (c .valid .core .scalars .register) (λ q. omega (arith, c .inside, c .set, c .before-tick q))
 
-    outcome : cycle rom sched (c .t) ≡ broughtForward (suc late) (unticked rom l here core)
-    outcome = c .due-is ∙ execute-late rom l (c .t) core late tm ∙ ap (broughtForward (suc late)) same-outcome
+    outcome : cycle rom sched (c .t) ≡ broughtForward (suc late) (unticked rom l here (p .core))
+    outcome = c .due-is ∙ execute-late rom l (c .t) (p .core) late tm ∙ ap (broughtForward (suc late)) same-outcome
 
-    module _ {r : Started} {ram′ ports′ log′ : List ℕ} (a : Answers rom l here at log r ram′ ports′ log′) where
+    module _ {r : Started} {ram′ ports′ log′ : List ℕ} (a : Answers rom l here (p .at) (p .log) r ram′ ports′ log′) where
       -- IT ISN'T BEGUN
       record Unbegun : Type 0 where
-        stops : within upd546 rom sched (length log₀ - at) 1 (c .t) ≡ still (c .t) (some (r .stop))
+        stops : within upd546 rom sched (length log₀ - p .at) 1 (c .t) ≡ still (c .t) (some (r .stop))
         known : (r .stop ≡ 3 → ⊥) → StopNumber (r .stop)
-        core-is : r .core ≡ core
-        ram-is : ram′ ≡ ram
-        ports-is : ports′ ≡ ports
-        log-is : log′ ≡ log
+        core-is : r .core ≡ p .core
+        ram-is : ram′ ≡ p .ram
+        ports-is : ports′ ≡ p .ports
+        log-is : log′ ≡ p .log
 
       unbegun : (r .stop ≡ 0 → ⊥) → Unbegun
       unfolding answerOn
-      unbegun g = go (unticked rom l here core) outcome (a .is)
+      unbegun g = go (unticked rom l here (p .core)) outcome (a .is)
         where
-          go : (o : Out State) → cycle rom sched (c .t) ≡ broughtForward (suc late) o → startOf r ram′ ports′ log′ ≡ answerOn at o here log → Unbegun
+          go : (o : Out State) → cycle rom sched (c .t) ≡ broughtForward (suc late) o → startOf r ram′ ports′ log′ ≡ answerOn (p .at) o here (p .log) → Unbegun
           go (stop i) q z =
               let same : r .stop ≡ i = ap (λ (y : Answer). y .stop) z in
               record {
-                stops = one-stops upd546 rom sched (length log₀ - at) (c .t) i q ∙ ap (λ (y : ℕ). still (c .t) (some y)) (sym same);
+                stops = one-stops upd546 rom sched (length log₀ - p .at) (c .t) i q ∙ ap (λ (y : ℕ). still (c .t) (some y)) (sym same);
                 known = λ d. subst StopNumber (sym same) (stop-number rom sched (c .t) i q);
                 core-is = ap (λ (y : Answer). y .core) z;
                 ram-is = ap (λ (y : Answer). y .ram) z;
                 ports-is = ap (λ (y : Answer). y .ports) z;
                 log-is = ap (λ (y : Answer). y .log) z;
               }
-          go (went u x e) q z = fit (leb (length x) (length log - at)) refl z
+          go (went u x e) q z = fit (leb (length x) (length (p .log) - p .at)) refl z
             where
-              fit : (v : Bool) → leb (length x) (length log - at) ≡ v
+              fit : (v : Bool) → leb (length x) (length (p .log) - p .at) ≡ v
                   → startOf r ram′ ports′ log′ ≡ cond v
-                  (record { stop = 0; core = u .core; ram = u .ram; ports = u .ports; log = take at log ++ x ++ drop (at + length x) log; at = at + length x })
-                  (record { stop = 3; core = core; ram = ram; ports = ports; log = log; at = at })
+                  (record { stop = 0; core = u .core; ram = u .ram; ports = u .ports; log = appended (p .log) (p .at) x; at = p .at + length x })
+                  (record { stop = 3; core = p .core; ram = p .ram; ports = p .ports; log = p .log; at = p .at })
                   → Unbegun
               fit true y z = absurd (g (ap (λ (y : Answer). y .stop) z))
               fit false y z =
                   let same : r .stop ≡ 3 = ap (λ (y : Answer). y .stop) z in
-                  let full = leb-false (length x) (length log - at) y in
+                  let full = leb-false (length x) (length (p .log) - p .at) y in
                   record {
-                    stops = one-fills upd546 rom sched (length log₀ - at) (c .t) _ x e q (omega (arith, full, log-length)) ∙ ap (λ (y : ℕ). still (c .t) (some y)) (sym same);
+                    stops = one-fills upd546 rom sched (length log₀ - p .at) (c .t) _ x e q (omega (arith, full, log-length)) ∙ ap (λ (y : ℕ). still (c .t) (some y)) (sym same);
                     known = λ d. absurd (d same);
                     core-is = ap (λ (y : Answer). y .core) z;
                     ram-is = ap (λ (y : Answer). y .ram) z;
@@ -232,32 +291,35 @@ module _ {skips : Bool} {rom sched table positions : List ℕ} {l : Lines} {next
                   }
 
       pub stops-here : (r .stop ≡ 0 → ⊥)
-          → Bursts skips rom sched next left s log₀ (record { stretch = record { core = r .core; cycles = done; begun = begun; bytes = at; stop = r .stop }; late = late })
-          ram′ ports′ log′
+          → Bursts skips rom sched limit s log₀ at₀ begun₀ (record { stretch = stretchOf (r .core) (p .done) (p .begun) (p .at) (r .stop); late = late }) ram′ ports′ log′
       stops-here g =
           let o = unbegun g in
           rw (o .core-is)
           (record {
             held = λ z.
                 let e = c .at-start z in
-                let none-written : at ≡ 0 = c .place ∙ ap length (e .1) in
-                let room : length log₀ - at ≡ length log₀ = omega (arith, none-written) in
+                let same-place : p .at ≡ at₀ = omega (arith, c .place, ap length (e .1)) in
                 record {
-                  stops = ap₂ (λ (y : ℕ) (t : State). within upd546 rom sched y 1 t) (sym room) (sym (e .0)) ∙ o .stops ∙ ap (λ (t : State). still t (some (r .stop))) (e .0);
+                  stops = ap₂ (λ (y : ℕ) (t : State). within upd546 rom sched (length log₀ - y) 1 t) (sym same-place) (sym (e .0)) ∙ o .stops
+                      ∙ ap (λ (t : State). still t (some (r .stop))) (e .0);
                   some-number = g;
                   known = o .known;
                   ram-is = o .ram-is ∙ sym (c .ram-is) ∙ ap (λ (t : State). t .ram) (e .0);
                   ports-is = o .ports-is ∙ sym (c .ports-is) ∙ ap (λ (t : State). t .ports) (e .0);
-                  log-is = o .log-is ∙ c .log-is ∙ ap (λ (y : List ℕ). y ++ drop (length y) log₀) (e .1);
+                  log-is = o .log-is ∙ c .log-is ∙ ap (appended log₀ at₀) (e .1) ∙ put-none log₀ at₀;
                 };
             went = λ n.
                 record {
+                  d = c .d;
+                  b = c .b;
                   w = c .w;
-                  some-cycles = omega arith;
-                  steps = rw (o .ram-is, o .ports-is) (subst (λ (t : State). OneByOne upd546 rom sched skips (length log₀) left s t (c .w) done begun) (c .state-is n) (c .steps));
+                  some-cycles = omega (arith, n, c .done-is);
+                  steps = rw (o .ram-is, o .ports-is)
+                      (subst (λ (t : State). OneByOne upd546 rom sched skips (length log₀ - at₀) (limit - s .cycle .0) s t (c .w) (c .d) (c .b)) (c .state-is n) (c .steps));
+                  cycle-is = c .done-is;
+                  begun-is = c .begun-is;
+                  at-is = c .place;
                   log-is = o .log-is ∙ c .log-is;
-                  bytes-is = c .place;
-                  no-record = omega (arith, c .inside, c .before-record);
                 };
             forwards = record {
               register = c .valid .core .scalars .register;
@@ -273,67 +335,66 @@ module _ {skips : Bool} {rom sched table positions : List ℕ} {l : Lines} {next
         u : State
         x : List ℕ
         e : ℕ
-        is : unticked rom l (c .t) core ≡ went u x e
-        fits : length (c .w ++ x) ≤ length log₀
+        is : unticked rom l (c .t) (p .core) ≡ went u x e
+        fits : at₀ + length (c .w ++ x) ≤ length log₀
         core-is : r .core ≡ u .core
         ram-is : ram′ ≡ u .ram
         ports-is : ports′ ≡ u .ports
-        log-is : log′ ≡ c .w ++ x ++ drop (length (c .w ++ x)) log₀
-        at-is : r .at ≡ length (c .w ++ x)
+        log-is : log′ ≡ appended log₀ at₀ (c .w ++ x)
+        at-is : r .at ≡ at₀ + length (c .w ++ x)
 
       gone : r .stop ≡ 0 → Gone
       unfolding answerOn
-      gone g = go (unticked rom l here core) same-outcome outcome (a .is)
+      gone g = go (unticked rom l here (p .core)) same-outcome outcome (a .is)
         where
-          go : (o : Out State) → unticked rom l (c .t) core ≡ o → cycle rom sched (c .t) ≡ broughtForward (suc late) o
-              → startOf r ram′ ports′ log′ ≡ answerOn at o here log → Gone
-          go (stop i) p q z = absurd (stop-number rom sched (c .t) i q .some (sym (ap (λ (y : Answer). y .stop) z) ∙ g))
-          go (went u x e) p q z = fit (leb (length x) (length log - at)) refl z
+          go : (o : Out State) → unticked rom l (c .t) (p .core) ≡ o → cycle rom sched (c .t) ≡ broughtForward (suc late) o
+              → startOf r ram′ ports′ log′ ≡ answerOn (p .at) o here (p .log) → Gone
+          go (stop i) v q z = absurd (stop-number rom sched (c .t) i q .some (sym (ap (λ (y : Answer). y .stop) z) ∙ g))
+          go (went u x e) v q z = fit (leb (length x) (length (p .log) - p .at)) refl z
             where
-              fit : (v : Bool) → leb (length x) (length log - at) ≡ v
-                  → startOf r ram′ ports′ log′ ≡ cond v
-                  (record { stop = 0; core = u .core; ram = u .ram; ports = u .ports; log = take at log ++ x ++ drop (at + length x) log; at = at + length x })
-                  (record { stop = 3; core = core; ram = ram; ports = ports; log = log; at = at })
+              fit : (f : Bool) → leb (length x) (length (p .log) - p .at) ≡ f
+                  → startOf r ram′ ports′ log′ ≡ cond f
+                  (record { stop = 0; core = u .core; ram = u .ram; ports = u .ports; log = appended (p .log) (p .at) x; at = p .at + length x })
+                  (record { stop = 3; core = p .core; ram = p .ram; ports = p .ports; log = p .log; at = p .at })
                   → Gone
               fit false y z = let three : _≡_ {A = ℕ} 0 3 = sym g ∙ ap (λ (y : Answer). y .stop) z in absurd (omega arith)
               fit true y z =
-                  let room = leb-true (length x) (length log - at) y in
-                  let long : at + length x ≡ length (c .w ++ x) = ap (λ (i : ℕ). i + length x) (c .place) ∙ sym (length-append (c .w) x) in
+                  let room = leb-true (length x) (length (p .log) - p .at) y in
+                  let long = length-append (c .w) x in
+                  let put = ap (λ (y : Answer). y .log) z in
                   record {
                     u = u;
                     x = x;
                     e = e;
-                    is = p;
-                    fits = omega (arith, room, log-length, c .place, c .fits, length-append (c .w) x);
+                    is = v;
+                    fits = omega (arith, room, log-length, c .place, c .fits, long);
                     core-is = ap (λ (y : Answer). y .core) z;
                     ram-is = ap (λ (y : Answer). y .ram) z;
                     ports-is = ap (λ (y : Answer). y .ports) z;
-                    log-is = put-next log₀ log (c .w) x at (sym (c .place)) (c .log-is ∙ ap (λ (i : ℕ). c .w ++ drop i log₀) (sym (c .place))) (ap (λ (y : Answer). y .log) z)
-                        ∙ ap (λ (i : ℕ). c .w ++ x ++ drop i log₀) long;
-                    at-is = ap (λ (y : Answer). y .at) z ∙ long;
+                    log-is = put-more log₀ (c .w) x at₀ (k .turn .place) (c .log-is) (put ∙ ap (λ (i : ℕ). take i (p .log) ++ x ++ drop (i + length x) (p .log)) (c .place));
+                    at-is = ap (λ (y : Answer). y .at) z ∙ omega (arith, c .place, long);
                   }
 
       module _ (g : r .stop ≡ 0) where
-        begun-here : Begun (c .t) (gone g .u) core (gone g .e)
-        begun-here = begun-is rom l (c .t) core (gone g .u) (gone g .x) (gone g .e) (gone g .is)
+        begun-here : Begun (c .t) (gone g .u) (p .core) (gone g .e)
+        begun-here = begun-is rom l (c .t) (p .core) (gone g .u) (gone g .x) (gone g .e) (gone g .is)
 
         after-valid : Valid (gone g .u)
         after-valid =
-            unticked-valid here (c .valid) (ready .below) rom l (k .turn .panel .rom-bytes) l-valid core (c .valid .core) (gone g .u) (gone g .x) (gone g .e) (sym same-outcome ∙ gone g .is)
+            unticked-valid here (c .valid) (ready .below) rom l (k .turn .lent .panel .rom-bytes) l-valid (p .core) (c .valid .core) (gone g .u) (gone g .x) (gone g .e)
+            (sym same-outcome ∙ gone g .is)
 
         pub owed-small : r .core .owed ≤ 3
         owed-small = omega (arith, ap (λ (y : Core). y .owed) (gone g .core-is), after-valid .core .scalars .owed)
 
         pub go-length : length log′ ≡ length log₀
-        go-length =
-            let o = gone g in
-            ap length (o .log-is) ∙ length-append (c .w ++ o .x) (drop (length (c .w ++ o .x)) log₀) ∙ omega (arith, length-drop (length (c .w ++ o .x)) log₀, o .fits)
+        go-length = ap length (gone g .log-is) ∙ put-length log₀ (c .w ++ gone g .x) at₀ (gone g .fits)
 
         -- where it ends, with what it owes
         abbrev over : ℕ
-        over = done + 1 + r .core .owed
+        over = p .done + 1 + r .core .owed
 
-        timer-same : (r .core .mark ≡ markStm → ⊥) → r .core .timer ≡ core .timer
+        timer-same : (r .core .mark ≡ markStm → ⊥) → r .core .timer ≡ p .core .timer
         timer-same n =
             let v = gone g .core-is in
             ap (λ (y : Core). y .timer) v ∙ begun-here .timer (λ m. n (ap (λ (y : Core). y .mark) v ∙ m))
@@ -342,88 +403,73 @@ module _ {skips : Bool} {rom sched table positions : List ℕ} {l : Lines} {next
         register-small = subst (λ (y : Core). y .timer .register < 64) (sym (gone g .core-is)) (after-valid .core .scalars .register)
 
         -- after STM the timer runs
-        pub runs : r .core .mark ≡ markStm → 0 < r .core .timer .register
+        runs : r .core .mark ≡ markStm → 0 < r .core .timer .register
         runs m =
             let v = gone g .core-is in
             subst (λ (y : Core). 0 < y .timer .register) (sym v) (begun-here .runs (sym (ap (λ (y : Core). y .mark) v) ∙ m))
 
-        -- THE NEXT EVENT AFTER IT
+        -- no instruction but EI makes INT and INTE both 1
+        free-still : (r .core .mark ≡ markEi → ⊥) → Free (p .core .interrupt) → Free (r .core .interrupt)
+        free-still n f =
+            let v = gone g .core-is in
+            subst (λ (y : Core). Free (y .interrupt)) (sym v) (begun-here .free (λ z. n (ap (λ (y : Core). y .mark) v ∙ z)) f)
 
-        -- neither EI nor STM
-        pub stays-after : {h′ since′ : ℕ} → (eqb (r .core .mark) markEi || eqb (r .core .mark) markStm) ≡ false → h′ ≡ h → since′ ≡ since
-            → Moved next (s .cycle .0) left (r .core) over h since h′ since′
-        stays-after v a b =
-            let n = neither (r .core .mark) v in
-            rw (a, b) (unmoved next (s .cycle .0) left (r .core) done over h since (omega arith) (c .inside) (c .set) (c .in-run) (c .before-record) (n .0) (n .1))
+        module _ {h′ since′ watch′ : ℕ} (moved : Moved (setOwed 0 (r .core)) over limit skips (p .horizon) (p .since) (p .watch) h′ since′ watch′) where
+          m : Next skips limit (setOwed 0 (r .core)) over (p .horizon) (p .since) (p .watch) h′ since′ watch′
+          m = next (p .done) (omega arith) (c .inside) (c .set) (c .in-limit) runs moved
 
-        -- EI or STM
-        pub moved-after : {h′ since′ quiet : ℕ} {e : Events} → quiet ≡ min left (next - s .cycle .0)
-            → Moves (r .core .mark) (r .core .interrupt .int) (r .core .timer) over h since quiet e
-            → (eqb (r .core .mark) markEi || eqb (r .core .mark) markStm) ≡ true → h′ ≡ e .horizon → since′ ≡ e .since
-            → Moved next (s .cycle .0) left (r .core) over h since h′ since′
-        moved-after {e = e} z v w a b =
-            rw (a, b) (moved next (s .cycle .0) left (r .core) done over h since (omega arith) (c .inside) (c .set) (c .in-run) (c .before-record) e
-            (rw z at v) (either (r .core .mark) w))
-
-        -- whether the timer is watched
-        pub watches-on : {watch watch′ : Bool} → watch ≡ (skips && not (eqb (core .timer .register) 0)) → watch′ ≡ (watch || (skips && eqb (r .core .mark) markStm))
-            → watch′ ≡ (skips && not (eqb (r .core .timer .register) 0))
-        watches-on v w =
-            w
-            ∙ ap (λ (y : Bool). y || (skips && eqb (r .core .mark) markStm)) v
-            ∙ watch-moved skips (r .core .mark) (core .timer .register) (r .core .timer .register) runs (λ n. ap (λ (y : Timer). y .register) (timer-same n))
-
-        pub watches-still : {watch watch′ : Bool} → watch ≡ (skips && not (eqb (core .timer .register) 0)) → watch′ ≡ watch
-            → (eqb (r .core .mark) markEi || eqb (r .core .mark) markStm) ≡ false → watch′ ≡ (skips && not (eqb (r .core .timer .register) 0))
-        watches-still v w z = let t = timer-same (neither (r .core .mark) z .1) in rw t (w ∙ v)
-
-        module _ {h′ since′ : ℕ} (m : Moved next (s .cycle .0) left (r .core) over h since h′ since′) where
           pub since-small : (since′ ≤ over) × (since′ ≤ h′)
           since-small = (omega (arith, m .set), omega (arith, m .set))
 
           pub event-near : over ≤ h′ + 3
           event-near = omega (arith, m .not-before, c .inside, owed-small)
 
-          -- the machine so many cycles later, up to the event
-          reached : (cycles : ℕ) → done < cycles → cycles ≤ over → cycles ≤ h′
-              → OneByOne upd546 rom sched skips (length log₀) left s (stateOf (forward (cycles - since′) (setOwed (over - cycles) (r .core))) ram′ ports′ (s .cycle .0 + cycles)) (c .w ++ gone g .x) cycles (begun + 1)
-          reached cycles p q v =
+          -- the machine before a later cycle, up to the event
+          reached : (n : ℕ) → p .done < n → n ≤ over → n ≤ h′
+              → OneByOne upd546 rom sched skips (length log₀ - at₀) (limit - s .cycle .0) s
+              (stateOf (forward (n - since′) (setOwed (over - n) (r .core))) ram′ ports′ n) (c .w ++ gone g .x) (n - s .cycle .0) (c .b + 1)
+          reached n q v y =
               let o = gone g in
               let b = begun-here in
-              let j = cycles - suc done in
+              let j = n - suc (p .done) in
               let owed-is = ap (λ (y : Core). y .owed) (o .core-is) in
-              let e₁ : suc done + j ≡ cycles = omega arith in
-              let e₂ : o .u .core .owed - j ≡ over - cycles = omega (arith, owed-is) in
-              let e₃ : o .u .cycle .0 + j ≡ s .cycle .0 + cycles = omega (arith, b .rises, c .cycle-is) in
+              let e₁ : suc (c .d) + j ≡ n - s .cycle .0 = omega (arith, c .done-is) in
+              let e₂ : o .u .core .owed - j ≡ over - n = omega (arith, owed-is) in
+              let e₃ : o .u .cycle .0 + j ≡ n = omega (arith, b .rises, c .cycle-is) in
               let level : (i : ℕ) → i < j → linesAt sched (o .u .cycle .0 + i) .int ≡ o .u .core .interrupt .level =
-              λ i z. ap (λ (y : Lines). y .int) (k .turn .lines (o .u .cycle .0 + i) (omega (arith, b .rises, c .cycle-is)) (omega (arith, b .rises, c .cycle-is, m .before-record)))
+              λ i z. ap (λ (y : Lines). y .int)
+              (k .turn .lines (o .u .cycle .0 + i) (omega (arith, b .rises, c .cycle-is, c .done-is)) (omega (arith, b .rises, c .cycle-is, m .in-limit)))
               ∙ sym (b .level ∙ c .level) in
-              let y = reaches-later rom sched l skips (length log₀) left s (c .t) (c .w) done begun (c .steps) core late (c .due-is) tm (c .no-jump) (o .u) (o .x) (o .e) (o .is) (o .fits)
-              (omega (arith, c .inside, c .in-run)) j (omega (arith, owed-is)) (omega (arith, m .in-run)) level in
-              let f = forward-by (suc late + j) (cycles - since′) (setOwed (over - cycles) (r .core)) (λ n. omega (arith, c .set, m .same n .0)) in
+              let all = reaches-later rom sched l skips (length log₀ - at₀) (limit - s .cycle .0) s (c .t) (c .w) (c .d) (c .b) (c .steps) (p .core) late (c .due-is) tm (c .no-jump)
+              (o .u) (o .x) (o .e) (o .is) (omega (arith, o .fits)) (omega (arith, c .inside, c .in-limit, c .done-is)) j (omega (arith, owed-is))
+              (omega (arith, m .in-limit, c .done-is)) level in
+              let f = forward-by (suc late + j) (n - since′) (setOwed (over - n) (r .core)) (λ i. omega (arith, c .set, m .same i .0)) in
               let to : stateOf (forward (suc late + j) (setOwed (o .u .core .owed - j) (o .u .core))) (o .u .ram) (o .u .ports) (o .u .cycle .0 + j)
-              ≡ stateOf (forward (cycles - since′) (setOwed (over - cycles) (r .core))) ram′ ports′ (s .cycle .0 + cycles)
+              ≡ stateOf (forward (n - since′) (setOwed (over - n) (r .core))) ram′ ports′ n
               = (λ i. stateOf (forward (suc late + j) (setOwed (e₂ i) (sym (o .core-is) i))) (sym (o .ram-is) i) (sym (o .ports-is) i) (e₃ i))
-              ∙ ap (λ (y : Core). stateOf y ram′ ports′ (s .cycle .0 + cycles)) f in
-              let z = subst (λ (t : State). OneByOne upd546 rom sched skips (length log₀) left s t (c .w ++ o .x) (suc done + j) (begun + o .e)) to y in
+              ∙ ap (λ (y : Core). stateOf y ram′ ports′ n) f in
+              let z = subst (λ (t : State). OneByOne upd546 rom sched skips (length log₀ - at₀) (limit - s .cycle .0) s t (c .w ++ o .x) (suc (c .d) + j) (c .b + o .e)) to all in
               rw (e₁, b .one) at z
 
-          pub ends : Bursts skips rom sched next left s log₀ (endedAt (setOwed 0 (r .core)) over (begun + 1) (r .at) h′ since′) ram′ ports′ log′
+          pub ends : Bursts skips rom sched limit s log₀ at₀ begun₀ (endedAt (setOwed 0 (r .core)) over (p .begun + 1) (r .at) h′ since′) ram′ ports′ log′
           ends =
               let o = gone g in
-              let some : done < min over h′ = omega (arith, c .inside, m .not-before) in
+              let some : p .done < min over h′ = omega (arith, c .inside, m .not-before) in
               let e : over - min over h′ ≡ over - h′ = omega arith in
               let all = reached (min over h′) some (omega arith) (omega arith) in
               record {
-                held = λ z. absurd (omega (arith, some));
+                held = λ z. absurd (omega (arith, z, some, c .done-is));
                 went = λ n.
                     record {
+                      d = min over h′ - s .cycle .0;
+                      b = c .b + 1;
                       w = c .w ++ o .x;
-                      some-cycles = omega (arith, some);
+                      some-cycles = omega (arith, some, c .done-is);
                       steps = rw e at all;
+                      cycle-is = omega (arith, some, c .done-is);
+                      begun-is = omega (arith, c .begun-is);
+                      at-is = o .at-is;
                       log-is = o .log-is;
-                      bytes-is = o .at-is;
-                      no-record = omega (arith, m .before-record);
                     };
                 forwards = record {
                   register = register-small;
@@ -431,32 +477,25 @@ module _ {skips : Bool} {rom sched table positions : List ℕ} {l : Lines} {next
                 };
               }
 
-          -- the burst goes on: the event is ahead, and the runner doesn't jump
+          -- THE BURST GOES ON: the event is ahead, no interrupt is accepted, and the runner doesn't jump
           module _ (ahead : over < h′) where
-            abbrev on : State
-            on = stateOf (withTimer (setOwed 0 (r .core)) (ticks (over - since′) (r .core .timer))) ram′ ports′ (s .cycle .0 + over)
+            abbrev pub on : Core
+            on = withTimer (setOwed 0 (r .core)) (ticks (over - since′) (r .core .timer))
 
-            free-still : Free (r .core .interrupt)
-            free-still = go (eqb (r .core .mark) markEi) refl
-              where
-                go : (x : Bool) → eqb (r .core .mark) markEi ≡ x → Free (r .core .interrupt)
-                go true q = rw (ne-eqb (r .core .interrupt .int) 1 (m .ei (eqb-true (r .core .mark) markEi q) ahead))
-                go false q =
-                    let v = gone g .core-is in
-                    let not-ei = eqb-false (r .core .mark) markEi q in
-                    subst (λ (y : Core). Free (y .interrupt)) (sym v) (begun-here .free (λ z. not-ei (ap (λ (y : Core). y .mark) v ∙ z)) (c .free (omega (arith, m .ahead ahead))))
+            abbrev there : State
+            there = stateOf on ram′ ports′ over
 
             level-still : r .core .interrupt .level ≡ l .int
             level-still = ap (λ (y : Core). y .interrupt .level) (gone g .core-is) ∙ begun-here .level ∙ c .level
 
-            lines-still : linesAt sched (s .cycle .0 + over) ≡ l
-            lines-still = k .turn .lines _ (omega arith) (omega (arith, ahead, m .before-record))
+            lines-still : linesAt sched over ≡ l
+            lines-still = k .turn .lines _ (omega (arith, c .done-is)) (omega (arith, ahead, m .in-limit))
 
             -- after STM the timer isn't late
-            on-core : forward (over - since′) (setOwed 0 (r .core)) ≡ on .core
+            on-core : forward (over - since′) (setOwed 0 (r .core)) ≡ on
             on-core = go (eqb (r .core .mark) markStm) refl
               where
-                go : (x : Bool) → eqb (r .core .mark) markStm ≡ x → forward (over - since′) (setOwed 0 (r .core)) ≡ on .core
+                go : (x : Bool) → eqb (r .core .mark) markStm ≡ x → forward (over - since′) (setOwed 0 (r .core)) ≡ on
                 go true q =
                     let stm = eqb-true (r .core .mark) markStm q in
                     let none : 0 ≡ over - since′ = omega (arith, m .stm stm ahead .0) in
@@ -466,17 +505,29 @@ module _ {skips : Bool} {rom sched table positions : List ℕ} {l : Lines} {next
                 go false q = forward-on (over - since′) (setOwed 0 (r .core)) (eqb-false (r .core .mark) markStm q)
 
             before-tick-still : 0 < r .core .timer .register → h′ ≤ since′ + ticksLeft (r .core .timer)
-            before-tick-still p = go (eqb (r .core .mark) markStm) refl
+            before-tick-still q = go (eqb (r .core .mark) markStm) refl
               where
                 go : (x : Bool) → eqb (r .core .mark) markStm ≡ x → h′ ≤ since′ + ticksLeft (r .core .timer)
-                go true q = let y = m .stm (eqb-true (r .core .mark) markStm q) ahead in omega (arith, y .0, y .1)
-                go false q =
-                    let not-stm = eqb-false (r .core .mark) markStm q in
+                go true v = let y = m .stm (eqb-true (r .core .mark) markStm v) ahead in omega (arith, y .0, y .1)
+                go false v =
+                    let not-stm = eqb-false (r .core .mark) markStm v in
                     let t = timer-same not-stm in
                     let y = m .same not-stm in
-                    rw t (omega (arith, y .0, y .1, c .before-tick (rw t at p)))
+                    rw t (omega (arith, y .0, y .1, c .before-tick (rw t at q)))
 
-            valid-still : Valid (stateOf (setOwed 0 (r .core)) ram′ ports′ (s .cycle .0 + over))
+            watches-still : watch′ ≡ watchCode (skips && not (eqb (r .core .timer .register) 0))
+            watches-still = go (eqb (r .core .mark) markStm) refl
+              where
+                go : (x : Bool) → eqb (r .core .mark) markStm ≡ x → watch′ ≡ watchCode (skips && not (eqb (r .core .timer .register) 0))
+                go true v =
+                    let stm = eqb-true (r .core .mark) markStm v in
+                    let on : eqb (r .core .timer .register) 0 ≡ false = ne-eqb (r .core .timer .register) 0 (λ z. omega (arith, z, runs stm)) in
+                    m .stm stm ahead .2 ∙ ap watchCode (sym (ap (λ (y : Bool). skips && not y) on ∙ and-true skips))
+                go false v =
+                    let not-stm = eqb-false (r .core .mark) markStm v in
+                    m .same not-stm .2 ∙ c .watches ∙ ap (λ (y : Timer). watchCode (skips && not (eqb (y .register) 0))) (sym (timer-same not-stm))
+
+            valid-still : Valid (stateOf (setOwed 0 (r .core)) ram′ ports′ over)
             valid-still =
                 let o = gone g in
                 let v = after-valid in
@@ -485,57 +536,96 @@ module _ {skips : Bool} {rom sched table positions : List ℕ} {l : Lines} {next
                   core = record { scalars = omega (arith, scalars); stack = subst (λ (y : Core). ValidStack (y .flow .stack)) (sym (o .core-is)) (v .core .stack) };
                   ports = subst ValidPorts (sym (o .ports-is)) (v .ports);
                   ram = subst ValidRam (sym (o .ram-is)) (v .ram);
-                  cycle = omega (arith, ahead, m .in-run, k .turn .limit);
+                  cycle = omega (arith, ahead, m .in-limit, k .turn .in-limit);
                 }
 
-            pub rides-on : (skips ≡ true → jumpLength rom sched on (left - over) ≡ 0)
-                → Riding skips rom sched l next left s log₀ (setOwed 0 (r .core)) ram′ ports′ log′ (r .at) over (begun + 1) h′ since′
-            rides-on no-jump =
+            -- where the code then stands
+            abbrev pub after : Standing
+            after = record {
+              core = setOwed 0 (r .core);
+              ram = ram′;
+              ports = ports′;
+              log = log′;
+              at = r .at;
+              done = over;
+              begun = p .begun + 1;
+              horizon = h′;
+              since = since′;
+              watch = watch′;
+            }
+
+            rides-on : accepts on ≡ false → (skips ≡ true → (left : ℕ) → jumpLength rom sched there left ≡ 0) → Riding skips rom sched l limit s log₀ at₀ begun₀ after
+            rides-on not-accepted no-jump =
                 let o = gone g in
                 let e : over - over ≡ 0 = omega arith in
                 let all = reached over (omega arith) (omega arith) (omega (arith, ahead)) in
-                let on-is : stateOf (forward (over - since′) (setOwed 0 (r .core))) ram′ ports′ (s .cycle .0 + over) ≡ on =
-                ap (λ (y : Core). stateOf y ram′ ports′ (s .cycle .0 + over)) on-core in
+                let on-is : stateOf (forward (over - since′) (setOwed 0 (r .core))) ram′ ports′ over ≡ there = ap (λ (y : Core). stateOf y ram′ ports′ over) on-core in
                 record {
-                  t = on;
+                  t = there;
                   w = c .w ++ o .x;
-                  steps = subst (λ (y : State). OneByOne upd546 rom sched skips (length log₀) left s y (c .w ++ o .x) over (begun + 1)) on-is (rw e at all);
+                  d = over - s .cycle .0;
+                  b = c .b + 1;
+                  steps = subst (λ (y : State). OneByOne upd546 rom sched skips (length log₀ - at₀) (limit - s .cycle .0) s y (c .w ++ o .x) (over - s .cycle .0) (c .b + 1)) on-is (rw e at all);
                   ram-is = refl;
                   ports-is = refl;
                   cycle-is = refl;
-                  due-is = cycle-executes rom sched on refl free-still (ap (λ (y : Lines). y .int) lines-still ∙ sym level-still)
-                      ∙ ap (λ (y : Lines). execute rom y on (on .core)) lines-still;
+                  done-is = omega (arith, c .done-is);
+                  begun-is = omega (arith, c .begun-is);
+                  few = omega (arith, c .few, c .done-is);
+                  due-is = cycle-due rom sched there refl not-accepted (ap (λ (y : Lines). y .int) lines-still ∙ sym level-still)
+                      ∙ ap (λ (y : Lines). execute rom y there on) lines-still;
                   valid = valid-still;
                   level = level-still;
-                  free = λ p. free-still;
-                  no-jump = no-jump;
+                  no-jump = λ q. no-jump q (limit - s .cycle .0 - (over - s .cycle .0));
                   inside = ahead;
-                  in-run = m .in-run;
-                  before-record = m .before-record;
+                  in-limit = m .in-limit;
                   before-tick = before-tick-still;
                   set = since-small .0;
-                  few = omega (arith, c .few);
+                  watches = watches-still;
                   place = o .at-is;
                   fits = o .fits;
                   log-is = o .log-is;
-                  at-start = λ z. absurd (omega arith);
+                  at-start = λ z. absurd (omega (arith, z, c .done-is));
                   state-is = λ n. sym on-is;
                 }
 
-            -- it doesn't where the timer stands, nor where no loop waits
-            shows : Shows on (on .core .flow .pc) 0 (on .core .interrupt) (on .core .timer) (on .cycle .0)
-            shows = record { pc-is = refl; owed-is = refl; interrupt-is = refl; timer-is = refl; cycle-is = refl }
+            -- INT and INTE aren't both 1, and no loop waits on the timer: the code at PC isn't the one that is watched for
+            pub rides-freely : Free (r .core .interrupt) → (byteAt rom (r .core .flow .pc) ≡ watch′ → ⊥) → Riding skips rom sched l limit s log₀ at₀ begun₀ after
+            rides-freely f n = rides-on (free-accepts on f) (λ q left. jump-length-none rom sched there left (go q (eqb (r .core .timer .register) 0) refl))
+              where
+                go : skips ≡ true → (x : Bool) → eqb (r .core .timer .register) 0 ≡ x → mayJump rom sched there ≡ false
+                go q true v =
+                    let z = eqb-true (r .core .timer .register) 0 v in
+                    stopped rom sched there (ap (λ (y : Timer). y .register) (ticks-stopped (over - since′) (r .core .timer) z) ∙ z)
+                go q false v =
+                    let watched = watches-still ∙ watches-ttm skips (r .core .timer .register) q (eqb-false (r .core .timer .register) 0 v) in
+                    no-loop rom sched there (rw (no-ttm rom (r .core .flow .pc) (λ z. n (z ∙ sym watched))))
 
-            pub stands-still : r .core .timer .register ≡ 0 → jumpLength rom sched on (left - over) ≡ 0
-            stands-still z =
-                sym (stopped rom sched _ _ _ _ _ (left - over) (ap (λ (y : Timer). y .register) (ticks-stopped (over - since′) (r .core .timer) z) ∙ z) .length-is on shows)
+            -- or the address after PC holds no JCP back
+            pub rides-past : Free (r .core .interrupt) → atJcpBack rom (r .core .flow .pc) ≡ false → Riding skips rom sched l limit s log₀ at₀ begun₀ after
+            rides-past f z =
+                rides-on (free-accepts on f)
+                (λ q left. jump-length-none rom sched there left (no-loop rom sched there (rw z (and-false (atTtm rom (r .core .flow .pc))))))
 
-            pub not-waiting : (atTtm rom (r .core .flow .pc) && atJcpBack rom (r .core .flow .pc)) ≡ false → jumpLength rom sched on (left - over) ≡ 0
-            not-waiting z = sym (no-loop rom sched _ _ _ _ _ (left - over) z .length-is on shows)
+            -- the mark keeps an interrupt back
+            pub rides-kept : keptBack (r .core .interrupt) (r .core .mark) ≡ true → Riding skips rom sched l limit s log₀ at₀ begun₀ after
+            rides-kept z =
+                rides-on (blocked-accepts on (and-right (mayBeDue (r .core .interrupt)) (blocks (r .core .mark)) z))
+                (λ q left. jump-length-none rom sched there left (both-one rom sched there (and-left (mayBeDue (r .core .interrupt)) (blocks (r .core .mark)) z)))
 
--- the loop's invariant, for whichever core it was before the lines were taken
-pub record Rides (skips : Bool) (rom sched table positions : List ℕ) (l : Lines) (next left n : ℕ) (ram₀ ports₀ log₀ : List ℕ) (first : Core)
-    (core : Core) (ram ports log : List ℕ) (at done begun h since : ℕ) (watch : Bool) : Type 0 where
-  pub riding : (b : Core) → Setting skips rom sched table positions l next left (stateOf b ram₀ ports₀ n) first
-      → Riding skips rom sched l next left (stateOf b ram₀ ports₀ n) log₀ core ram ports log at done begun h since
-  pub watches : watch ≡ (skips && not (eqb (core .timer .register) 0))
+        pub near-still : {near : ℕ} → Near near (p .horizon) (p .core .interrupt) → (r .core .mark ≡ markEi → ⊥) → Near near (p .horizon) (r .core .interrupt)
+        near-still v n = record { event = v .event; free = λ q. free-still n (v .free q) }
+
+-- THE LOOPS' INVARIANTS
+
+-- around the instructions: the loop stands at p, whichever core it was before the lines were taken
+pub record Rides (skips : Bool) (rom sched table positions : List ℕ) (l : Lines) (limit n : ℕ) (ram₀ ports₀ log₀ : List ℕ) (at₀ begun₀ : ℕ) (first : Core) (p : Standing) : Type 0 where
+  pub riding : (b : Core) → Setting skips rom sched table positions l limit (stateOf b ram₀ ports₀ n) log₀ at₀ begun₀ first
+      → Riding skips rom sched l limit (stateOf b ram₀ ports₀ n) log₀ at₀ begun₀ p
+
+-- from instruction to instruction: from q, where the loop around it stood, to p
+pub record Follows (skips : Bool) (rom sched table positions : List ℕ) (l : Lines) (limit at₀ begun₀ : ℕ) (q p : Standing) (near : ℕ) : Type 0 where
+  pub riding : {s : State} {log₀ : List ℕ} {first : Core} → Setting skips rom sched table positions l limit s log₀ at₀ begun₀ first
+      → Riding skips rom sched l limit s log₀ at₀ begun₀ q → Riding skips rom sched l limit s log₀ at₀ begun₀ p
+  pub later : q .done ≤ p .done
+  pub near-event : Near near (p .horizon) (p .core .interrupt)

@@ -1,8 +1,8 @@
 -- A turn of one cycle: an acceptance, an owed cycle. Assumes nothing.
-use mathlib.Core.Path.{_≡_, _∙_, refl, ap}
+use mathlib.Core.Path.{_≡_, _∙_, refl, sym, ap}
 use mathlib.Core.Bool.{Bool, true, false}
 use mathlib.Core.List.{List, []}
-use Prim.Native.Nat.{ℕ, zero, suc, _+_}
+use Prim.Native.Nat.{ℕ, zero, suc, _+_, _-_}
 use native.Mathlib.Nat.{sub-zero}
 use native.Mathlib.Omega.{arith}
 use Rattle.runs.specs.Machine.{went}
@@ -10,47 +10,52 @@ use Rattle.runs.specs.OneByOne.{none, also}
 use Rattle.upd546.specs.declared.Core.{Core}
 use Rattle.upd546.specs.declared.Lines.{Lines}
 use Rattle.upd546.specs.declared.State.{State}
-use Rattle.upd546.specs.Parts.{stateOf}
 use Rattle.upd546.specs.TheLineSchedule.{linesAt}
 use Rattle.upd546.specs.OneMachineCycle.{accepts, accepted, taken, paid, ticked, quiet, onOwed, onAccepts, cycle}
-use Rattle.burst.specs.Turn.{Turn, Turned, oneCycle}
+use Rattle.laws.proofs.Tails.{put-none}
+use Rattle.upd546.specs.Parts.{stateOf}
+use Rattle.burst.specs.Turn.{Turn, Turned, stretchOf}
 
-module _ {skips : Bool} {rom sched table positions : List ℕ} {l : Lines} {next left : ℕ} {s : State} (k : Turn skips rom sched table positions l next left s) where
+module _ {skips : Bool} {rom sched table positions : List ℕ} {l : Lines} {limit : ℕ} {s : State} {log : List ℕ} {at begun : ℕ}
+    (k : Turn skips rom sched table positions l limit s log at begun) where
   lines-here : linesAt sched (s .cycle .0) ≡ l
   lines-here = k .lines (s .cycle .0) (omega arith) (k .ahead)
 
-  single : (log : List ℕ) (core : Core) → cycle rom sched s ≡ went (stateOf core (s .ram) (s .ports) (s .cycle .0 + 1)) [] 0
-      → Turned skips rom sched next left s log (oneCycle core) (s .ram) (s .ports) log
-  single log core q = record {
+  single : (core : Core) → cycle rom sched s ≡ went (stateOf core (s .ram) (s .ports) (s .cycle .0 + 1)) [] 0
+      → Turned skips rom sched limit s log at begun (stretchOf core (s .cycle .0 + 1) begun at 0) (s .ram) (s .ports) log
+  single core q = record {
     held = λ n. absurd (n refl);
     went = λ z. record {
+      d = 1;
+      b = 0;
       w = [];
       some-cycles = omega arith;
-      steps = also [] 0 none q (omega arith) (k .some-left) (λ e. rw (sub-zero left) (k .no-jump e));
-      log-is = refl;
-      bytes-is = refl;
-      no-record = omega (arith, k .ahead);
+      steps = also [] 0 none q (omega arith) (omega (arith, k .ahead)) (λ e. rw (sub-zero (limit - s .cycle .0)) (k .no-jump e));
+      cycle-is = refl;
+      begun-is = omega arith;
+      at-is = omega arith;
+      log-is = sym (put-none log at);
     };
   }
 
-  pub accepts-turn : (log : List ℕ) → accepts (s .core) ≡ true → {core : Core} → core ≡ ticked (taken l (accepted (s .core)))
-      → Turned skips rom sched next left s log (oneCycle core) (s .ram) (s .ports) log
+  pub accepts-turn : accepts (s .core) ≡ true → {core : Core} → core ≡ ticked (taken l (accepted (s .core)))
+      → Turned skips rom sched limit s log at begun (stretchOf core (s .cycle .0 + 1) begun at 0) (s .ram) (s .ports) log
   unfolding cycle
-  accepts-turn log a e =
+  accepts-turn a e =
       rw e
-      (single log (ticked (taken l (accepted (s .core))))
+      (single (ticked (taken l (accepted (s .core))))
       (ap (λ (b : Bool). onAccepts b rom (linesAt sched (s .cycle .0)) s) a ∙ ap (λ (x : Lines). quiet s (taken x (accepted (s .core)))) lines-here))
 
   owes : (o : ℕ) → (o ≡ 0 → ⊥) → (x : Lines) → onOwed o rom x s (taken x (s .core)) ≡ quiet s (paid (taken x (s .core)))
   owes zero n x = absurd (n refl)
   owes (suc o) n x = refl
 
-  pub owed-turn : (log : List ℕ) → accepts (s .core) ≡ false → (s .core .owed ≡ 0 → ⊥) → {core : Core} → core ≡ ticked (paid (taken l (s .core)))
-      → Turned skips rom sched next left s log (oneCycle core) (s .ram) (s .ports) log
+  pub owed-turn : accepts (s .core) ≡ false → (s .core .owed ≡ 0 → ⊥) → {core : Core} → core ≡ ticked (paid (taken l (s .core)))
+      → Turned skips rom sched limit s log at begun (stretchOf core (s .cycle .0 + 1) begun at 0) (s .ram) (s .ports) log
   unfolding cycle
-  owed-turn log a n e =
+  owed-turn a n e =
       rw e
-      (single log (ticked (paid (taken l (s .core))))
+      (single (ticked (paid (taken l (s .core))))
       (ap (λ (b : Bool). onAccepts b rom (linesAt sched (s .cycle .0)) s) a
       ∙ owes (s .core .owed) n (linesAt sched (s .cycle .0))
       ∙ ap (λ (x : Lines). quiet s (paid (taken x (s .core)))) lines-here))

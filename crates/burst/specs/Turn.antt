@@ -1,11 +1,11 @@
 -- A turn of the loop: what it asks, and what it comes to. Assumes nothing: these are definitions.
 use mathlib.Core.Path.{_≡_}
-use mathlib.Core.Bool.{Bool, true, false, cond}
+use mathlib.Core.Bool.{Bool, true, false, cond, _&&_}
 use mathlib.Core.List.{List, _++_}
 use mathlib.Core.Option.{some}
 use Prim.Native.Nat.{ℕ, _+_, _-_, _<_, _≤_, min}
 use lib.Dec.{eqb}
-use lib.ListN.{length, drop}
+use lib.ListN.{length, take, drop}
 use Rattle.runs.specs.Refusals.{cycleLimit}
 use Rattle.runs.specs.TwoRunners.{still, within}
 use Rattle.runs.specs.OneByOne.{OneByOne}
@@ -15,78 +15,110 @@ use Rattle.upd546.specs.declared.Interrupt.{Interrupt}
 use Rattle.upd546.specs.declared.Lines.{Lines}
 use Rattle.upd546.specs.declared.State.{State}
 use Rattle.upd546.specs.declared.Timer.{Timer}
-use Rattle.upd546.specs.TheMachine.{romLength, markEi, markStm}
-use Rattle.upd546.specs.Parts.{stateOf, setOwed}
+use Rattle.upd546.specs.TheMachine.{romLength, markStm}
+use Rattle.upd546.specs.Parts.{setOwed}
 use Rattle.upd546.specs.TheLineSchedule.{linesAt}
 use Rattle.upd546.specs.Timer.{ticksLeft}
-use Rattle.upd546.specs.OneMachineCycle.{accepts}
+use Rattle.upd546.specs.OneMachineCycle.{blocks, accepts}
 use Rattle.upd546.specs.TwoRunners.{jumpLength, upd546}
-use Rattle.laws.specs.Burst.{Free, forward}
+use Rattle.laws.specs.Burst.{forward}
 use Rattle.laws.specs.Stops.{StopNumber}
 use Rattle.laws.specs.Valid.{Valid}
 use Rattle.tables.specs.Tables.{instructionTable, positionTable}
+use Rattle.upd546.specs.Parts.{stateOf}
+use Rattle.jump.specs.Boundary.{watchCode}
 use Rattle.burst.specs.declared.Stretch.{Stretch}
 use Rattle.burst.specs.declared.Late.{Late}
 use Rattle.burst.specs.declared.Events.{Events}
 
--- at the boundary before the state's cycle: `left` cycles are left, the lines are l up to the cycle `next`, and the runner doesn't
--- jump here
-pub record Turn (skips : Bool) (rom sched table positions : List ℕ) (l : Lines) (next left : ℕ) (s : State) : Type 0 where
+-- WHAT IS ASKED
+
+-- what a run is lent: a ROM and a schedule that aren't refused, and the tables
+pub record Lent (rom sched table positions : List ℕ) : Type 0 where
   pub panel : Panel upd546 rom sched
   pub rom-length : length rom ≡ romLength
   pub instructions : table ≡ instructionTable
   pub position-table : positions ≡ positionTable
-  pub lines : (n : ℕ) → s .cycle .0 ≤ n → n < next → linesAt sched n ≡ l
-  pub ahead : s .cycle .0 < next
+
+-- at the boundary before the state's cycle: the lines are l up to the limit, and the runner doesn't jump here, were the limit the
+-- end of the run. The log is empty from `at` on, and so many instructions were begun.
+pub record Turn (skips : Bool) (rom sched table positions : List ℕ) (l : Lines) (limit : ℕ) (s : State) (log : List ℕ) (at begun : ℕ) : Type 0 where
+  pub lent : Lent rom sched table positions
+  pub lines : (n : ℕ) → s .cycle .0 ≤ n → n < limit → linesAt sched n ≡ l
+  pub ahead : s .cycle .0 < limit
+  pub in-limit : limit ≤ cycleLimit
   pub valid : Valid s
-  pub some-left : 0 < left
-  pub limit : s .cycle .0 + left ≤ cycleLimit
-  pub no-jump : skips ≡ true → jumpLength rom sched s left ≡ 0
+  pub no-jump : skips ≡ true → jumpLength rom sched s (limit - s .cycle .0) ≡ 0
+  pub place : at ≤ length log
+  pub few : begun ≤ s .cycle .0
 
 -- an instruction is due there
 pub record Due (s : State) : Type 0 where
   pub not-accepted : accepts (s .core) ≡ false
   pub none-owed : s .core .owed ≡ 0
 
--- h cycles from cycle n on are up to the next event, at most: the end of the run, the next record, the timer's last tick; where an
--- interrupt may be due, the next boundary
-pub record Horizon (interrupt : Interrupt) (timer : Timer) (next n left h : ℕ) : Type 0 where
-  pub some : 1 ≤ h
-  pub in-run : h ≤ left
-  pub before-record : n + h ≤ next
-  pub before-tick : 0 < timer .register → h ≤ ticksLeft timer
-  pub free : 1 < h → Free interrupt
+-- THE NEXT EVENT
 
--- what EI or STM, ending after `done` cycles, makes of the next event, h cycles after the start of the burst, and of `since`, the
--- cycles after which the timer was set. An event that has come stays. After EI with INT 1 an interrupt may be due. STM sets the
--- timer; `quiet` cycles are up to the next record and the end of the run.
-pub record Moves (mark int : ℕ) (timer : Timer) (done h since quiet : ℕ) (e : Events) : Type 0 where
-  pub come : h ≤ done → (e .horizon ≡ h) × (e .since ≡ since)
-  pub ei : done < h → mark ≡ markEi → (e .horizon ≡ cond (eqb int 1) done h) × (e .since ≡ since)
-  pub stm : done < h → (mark ≡ markEi → ⊥) → (e .horizon ≡ min quiet (done + ticksLeft timer)) × (e .since ≡ done)
+-- h is no later than the next event after the boundary before cycle n: the limit, the timer's last tick
+pub record Horizon (timer : Timer) (n limit h : ℕ) : Type 0 where
+  pub some : n < h
+  pub in-limit : h ≤ limit
+  pub before-tick : 0 < timer .register → h ≤ n + ticksLeft timer
+
+-- an interrupt is due, unless the mark keeps it back
+abbrev pub mayBeDue : Interrupt → Bool
+mayBeDue i = eqb (i .int) 1 && eqb (i .inte) 1
+
+abbrev pub keptBack : Interrupt → (mark : ℕ) → Bool
+keptBack i mark = mayBeDue i && blocks mark
+
+-- the cycle from which on instructions aren't begun one after the other
+abbrev pub nearestOf : Interrupt → (h : ℕ) → ℕ
+nearestOf i h = cond (mayBeDue i) 0 h
+
+-- what an instruction that ends before cycle `done` with this core makes of the next event h, of `since`, the cycle in which the timer
+-- was last set, and of the code that is watched for: STM sets the timer. An event that has come stays.
+pub record Moved (core : Core) (done limit : ℕ) (skips : Bool) (h since watch h′ since′ watch′ : ℕ) : Type 0 where
+  pub stays : (core .mark ≡ markStm → done < h → ⊥) → (h′ ≡ h) × (since′ ≡ since) × (watch′ ≡ watch)
+  pub sets : core .mark ≡ markStm → done < h → Horizon (core .timer) done limit h′ × (since′ ≡ done) × (watch′ ≡ watchCode skips)
+
+-- and of all events, where it is EI or STM
+pub record Moves (core : Core) (done limit : ℕ) (skips : Bool) (h since watch : ℕ) (e : Events) : Type 0 where
+  pub moved : Moved core done limit skips h since watch (e .horizon) (e .since) (e .watch)
+  pub near-is : e .near ≡ nearestOf (core .interrupt) (e .horizon)
+
+-- WHAT IT COMES TO
 
 -- no cycle is begun: its number, and nothing has changed
-pub record Held (rom sched : List ℕ) (s : State) (log : List ℕ) (number : ℕ) (ram ports log′ : List ℕ) : Type 0 where
-  pub stops : within upd546 rom sched (length log) 1 s ≡ still s (some number)
+pub record Held (rom sched : List ℕ) (s : State) (log : List ℕ) (at number : ℕ) (ram ports log′ : List ℕ) : Type 0 where
+  pub stops : within upd546 rom sched (length log - at) 1 s ≡ still s (some number)
   pub some-number : number ≡ 0 → ⊥
   pub known : (number ≡ 3 → ⊥) → StopNumber number
   pub ram-is : ram ≡ s .ram
   pub ports-is : ports ≡ s .ports
   pub log-is : log′ ≡ log
 
--- so many cycles, one by one, lead to this core, RAM and latches, and append to the log; no record comes before their last
-pub record Went (skips : Bool) (rom sched : List ℕ) (next left : ℕ) (s : State) (log : List ℕ) (core : Core) (cycles begun bytes : ℕ) (ram ports log′ : List ℕ) : Type 0 where
+-- the log with w at its place
+abbrev pub appended : List ℕ → (at : ℕ) → List ℕ → List ℕ
+appended log at w = take at log ++ w ++ drop (at + length w) log
+
+-- d cycles, one by one, lead to this core, RAM and latches before cycle n, append w to the log and begin b instructions
+pub record Went (skips : Bool) (rom sched : List ℕ) (limit : ℕ) (s : State) (log : List ℕ) (at begun : ℕ)
+    (core : Core) (n begun′ at′ : ℕ) (ram ports log′ : List ℕ) : Type 0 where
+  pub d : ℕ
+  pub b : ℕ
   pub w : List ℕ
-  pub some-cycles : 1 ≤ cycles
-  pub steps : OneByOne upd546 rom sched skips (length log) left s (stateOf core ram ports (s .cycle .0 + cycles)) w cycles begun
-  pub log-is : log′ ≡ w ++ drop (length w) log
-  pub bytes-is : bytes ≡ length w
-  pub no-record : s .cycle .0 + cycles ≤ next
+  pub some-cycles : 1 ≤ d
+  pub steps : OneByOne upd546 rom sched skips (length log - at) (limit - s .cycle .0) s (stateOf core ram ports n) w d b
+  pub cycle-is : n ≡ s .cycle .0 + d
+  pub begun-is : begun′ ≡ begun + b
+  pub at-is : at′ ≡ at + length w
+  pub log-is : log′ ≡ appended log at w
 
 -- what a turn comes to
-pub record Turned (skips : Bool) (rom sched : List ℕ) (next left : ℕ) (s : State) (log : List ℕ) (r : Stretch) (ram ports log′ : List ℕ) : Type 0 where
-  pub held : (r .stop ≡ 0 → ⊥) → Held rom sched s log (r .stop) ram ports log′
-  pub went : r .stop ≡ 0 → Went skips rom sched next left s log (r .core) (r .cycles) (r .begun) (r .bytes) ram ports log′
+pub record Turned (skips : Bool) (rom sched : List ℕ) (limit : ℕ) (s : State) (log : List ℕ) (at begun : ℕ) (r : Stretch) (ram ports log′ : List ℕ) : Type 0 where
+  pub held : (r .stop ≡ 0 → ⊥) → Held rom sched s log at (r .stop) ram ports log′
+  pub went : r .stop ≡ 0 → Went skips rom sched limit s log at begun (r .core) (r .cycle) (r .begun) (r .at) ram ports log′
 
 -- a timer that may be brought forward by so many cycles
 pub record Forwards (core : Core) (cycles : ℕ) : Type 0 where
@@ -94,18 +126,16 @@ pub record Forwards (core : Core) (cycles : ℕ) : Type 0 where
   pub ticks-left : (core .mark ≡ markStm → ⊥) → 0 < core .timer .register → cycles ≤ ticksLeft (core .timer)
 
 -- what a burst comes to: the same, with the timer behind
-pub record Bursts (skips : Bool) (rom sched : List ℕ) (next left : ℕ) (s : State) (log : List ℕ) (r : Late) (ram ports log′ : List ℕ) : Type 0 where
-  pub held : r .stretch .cycles ≡ 0 → Held rom sched s log (r .stretch .stop) ram ports log′
-  pub went : (r .stretch .cycles ≡ 0 → ⊥)
-      → Went skips rom sched next left s log (forward (r .late) (r .stretch .core)) (r .stretch .cycles) (r .stretch .begun) (r .stretch .bytes) ram ports log′
+pub record Bursts (skips : Bool) (rom sched : List ℕ) (limit : ℕ) (s : State) (log : List ℕ) (at begun : ℕ) (r : Late) (ram ports log′ : List ℕ) : Type 0 where
+  pub held : r .stretch .cycle ≡ s .cycle .0 → Held rom sched s log at (r .stretch .stop) ram ports log′
+  pub went : (r .stretch .cycle ≡ s .cycle .0 → ⊥)
+      → Went skips rom sched limit s log at begun (forward (r .late) (r .stretch .core)) (r .stretch .cycle) (r .stretch .begun) (r .stretch .at) ram ports log′
   pub forwards : Forwards (r .stretch .core) (r .late)
 
--- where a burst ends whose last instruction ends after `done` cycles: at the event, with the rest owed; the timer was set after
--- `since` cycles
-abbrev pub endedAt : Core → (done begun bytes h since : ℕ) → Late
-endedAt c done begun bytes h since =
-    record { stretch = record { core = setOwed (done - h) c; cycles = min done h; begun = begun; bytes = bytes; stop = 0 }; late = min done h - since }
+abbrev pub stretchOf : Core → (n begun at stop : ℕ) → Stretch
+stretchOf c n begun at stop = record { core = c; cycle = n; begun = begun; at = at; stop = stop }
 
--- one cycle that begins no instruction
-abbrev pub oneCycle : Core → Stretch
-oneCycle c = record { core = c; cycles = 1; begun = 0; bytes = 0; stop = 0 }
+-- where a burst ends whose last instruction ends before cycle `done`: at the event h, with the rest owed; the timer was set in cycle
+-- `since`
+abbrev pub endedAt : Core → (done begun at h since : ℕ) → Late
+endedAt c done begun at h since = record { stretch = stretchOf (setOwed (done - h) c) (min done h) begun at 0; late = min done h - since }

@@ -16,8 +16,8 @@ ghost use Rattle.upd546.specs.Parts.{stateOf};
 ghost use Rattle.effect.specs.Answer.{answerOn, startOf};
 ghost use Rattle.cycle.specs.Ready.{Ready};
 
-// The instruction at PC, with the lines taken, begun in cycle `start + done`, with the log empty from `at` on. The log is lent
-// whole and the cycle comes in two parts, so that instructions that write no port needn't work out either.
+// The instruction at PC, with the lines taken, begun in cycle `number`, with the log empty from `at` on. The log is lent whole, so
+// that instructions that write no port needn't work out its rest.
 pub fn execute(
     rom: &[u8],
     table: &InstructionTable,
@@ -27,11 +27,10 @@ pub fn execute(
     log: &mut [u8],
     at: usize,
     lines: Lines,
-    start: u64,
-    done: u64,
+    number: u64,
 ) -> Started
-    requires { ⌜ Ready (now rom) (now table) lines (stateOf c (now ram) (now ports) (start + done)) × (at ≤ length (now log)) ⌝ }
-    ensures { λ r. ⌜ startOf r (now (ram .exit)) (now (ports .exit)) (now (log .exit)) ≡ answerOn at (unticked (now (rom .entry)) lines (stateOf c (now (ram .entry)) (now (ports .entry)) (start + done)) c) (stateOf c (now (ram .entry)) (now (ports .entry)) (start + done)) (now (log .entry)) ⌝ }
+    requires { ⌜ Ready (now rom) (now table) lines (stateOf c (now ram) (now ports) number) × (at ≤ length (now log)) ⌝ }
+    ensures { λ r. ⌜ startOf r (now (ram .exit)) (now (ports .exit)) (now (log .exit)) ≡ answerOn at (unticked (now (rom .entry)) lines (stateOf c (now (ram .entry)) (now (ports .entry)) number) c) (stateOf c (now (ram .entry)) (now (ports .entry)) number) (now (log .entry)) ⌝ }
 {
     let f = fetch::fetch_at(rom, table, c.flow.pc);
     if f.stop != 0 {
@@ -44,5 +43,5 @@ pub fn execute(
         second: f.second,
         lines,
     };
-    effect::outcome(rom, table, g, f.cycles, ram, ports, log, at, start, done)
+    effect::outcome(rom, table, g, f.cycles, ram, ports, log, at, number)
 }

@@ -38,7 +38,7 @@ pub fn byte_at(rom: &[u8], a: u16) -> u8
 }
 
 // The byte at an address that the ROM has.
-fn byte_in(rom: &[u8], a: u16) -> u8
+pub fn byte_in(rom: &[u8], a: u16) -> u8
     requires { ⌜ (length (now rom) ≡ romLength) × (a < romLength) ⌝ }
     ensures { λ r. ⌜ r ≡ byteAt (now (rom .entry)) a ⌝ }
 {

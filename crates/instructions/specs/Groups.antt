@@ -1,10 +1,12 @@
 -- The instructions of a group, by what they leave. Assumes nothing: these are definitions.
 use Prim.Native.Nat.{ℕ}
-use mathlib.Core.Bool.{Bool}
+use mathlib.Core.Bool.{Bool, true, false}
 use mathlib.Core.List.{List}
 use Rattle.upd546.specs.Parts.{withFlow, withTimer, setMark, setAcc, setCarry, setSaved, setDph, setDpl, setInt, setInte}
 use Rattle.upd546.specs.Instructions as chip
 use Rattle.portlog.specs.Appending.{writesOf}
+use Rattle.decode.specs.declared.Jump.{Jump}
+use Rattle.decode.specs.declared.Jump.the-variants as jumps
 use Rattle.upd546.specs.Instructions.{Effect, leaves, skips, stores, writes, next}
 use Rattle.instructions.specs.declared.Inputs.{Inputs}
 use Rattle.instructions.specs.declared.Accumulated.{Accumulated}
@@ -53,6 +55,16 @@ flagEffect g r = skips (r .skip) (stores (r .word) (leaves g (next g)))
 
 abbrev pub jumpEffect : chip.Given → Jumped → Effect
 jumpEffect g r = skips (r .skip) (leaves g (withFlow (next g) (r .flow)))
+
+-- JPA, JMP and JCP leave the stack alone
+abbrev pub staysOf : Jump → Bool
+staysOf jumps.Jpa = true
+staysOf jumps.Rt = false
+staysOf jumps.Rts = false
+staysOf jumps.Jmp = true
+staysOf jumps.Cal = false
+staysOf jumps.Czp = false
+staysOf jumps.Jcp = true
 
 abbrev pub controlEffect : chip.Given → Controlled → Effect
 controlEffect g r =

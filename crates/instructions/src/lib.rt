@@ -38,7 +38,7 @@ ghost use Rattle.upd546.specs.Ports.{readPort, outputs, bitOutputs};
 ghost use Rattle.decode.specs.Named.{namedTest, namedAcc, namedSum, namedMove, namedPointer, namedWorking, namedFlag, namedJump, namedControl, namedPort};
 ghost use Rattle.portlog.specs.Appending.{writesOf};
 ghost use Rattle.laws.specs.Valid.{Scalars, ValidPorts};
-ghost use Rattle.instructions.specs.Groups.{givenOf, testEffect, accEffect, sumEffect, moveEffect, pointerEffect, workingEffect, flagEffect, jumpEffect, controlEffect, portEffect};
+ghost use Rattle.instructions.specs.Groups.{givenOf, staysOf, testEffect, accEffect, sumEffect, moveEffect, pointerEffect, workingEffect, flagEffect, jumpEffect, controlEffect, portEffect};
 
 // What an instruction is given besides the RAM and the latches.
 pub struct Inputs {
@@ -431,6 +431,21 @@ fn jump_left(pc: u16, stack: [u16; STACK_DEPTH], skip: bool) -> Jumped
     Jumped {
         flow: Flow { pc, stack },
         skip,
+    }
+}
+
+// Whether an instruction leaves the stack alone.
+pub fn stays(op: Jump) -> bool
+    ensures { λ r. ⌜ r ≡ staysOf op ⌝ }
+{
+    match op {
+        Jump::Jpa => true,
+        Jump::Rt => false,
+        Jump::Rts => false,
+        Jump::Jmp => true,
+        Jump::Cal => false,
+        Jump::Czp => false,
+        Jump::Jcp => true,
     }
 }
 

@@ -1,61 +1,52 @@
 -- Which test of a jump fails, and how long the jump is where all pass. Assumes nothing.
-use mathlib.Core.Path.{_≡_, _∙_, refl, sym, ap, subst}
-use mathlib.Core.Bool.{Bool, true, false, true≢false, _&&_, and-true, and-false}
+use mathlib.Core.Path.{_≡_, _∙_, refl, sym, ap}
+use mathlib.Core.Bool.{Bool, true, false, _&&_, and-true, and-false}
 use mathlib.Core.List.{List, [], _∷_}
 use Prim.Native.Nat.{ℕ, zero, suc, _+_, _-_, _%_, _<_, _≤_, min}
-use native.Mathlib.Omega.{arith}
 use lib.Dec.{eqb}
 use lib.ListN.{getD}
 use borrow.Author.Tests.{lt-ltb, le-leb, lt-leb, eq-eqb, ne-eqb}
-use Rattle.runs.specs.Refusals.{cycleLimit}
 use Rattle.upd546.specs.declared.Interrupt.{Interrupt}
 use Rattle.upd546.specs.declared.Timer.{Timer}
-use Rattle.upd546.specs.declared.Lines.{Lines}
 use Rattle.upd546.specs.declared.State.{State}
-use Rattle.upd546.specs.TheMachine.{lastAddress, byteAt, follows, pageOf}
+use Rattle.upd546.specs.TheMachine.{lastAddress, inRom, byteAt, follows, pageOf}
 use Rattle.upd546.specs.Sequences.{allOf}
-use Rattle.upd546.specs.TheLineSchedule.{linesAt, scheduleNumber, noRecord}
+use Rattle.upd546.specs.TheLineSchedule.{linesAt}
 use Rattle.upd546.specs.Timer.{ticksLeft}
-use Rattle.upd546.specs.TwoRunners.{atTtm, atJcpBack, mayJump, jumpLength}
+use Rattle.upd546.specs.TwoRunners.{atTtm, atJcpBack, mayJump}
 use Rattle.laws.proofs.Lists.{and-left, and-right}
-use Rattle.laws.proofs.Jump.{jump-within, jump-between, jump-length-even, jump-length-none}
-use Rattle.schedule.specs.declared.Cursor.{Cursor}
-use Rattle.schedule.specs.Cursor.{Stands}
-use Rattle.schedule.proofs.Standing.{no-record, some-record, stays}
-use Rattle.jump.specs.Boundary.{Boundary, Shows, JumpsBy}
+use Rattle.laws.proofs.Jump.{jump-length-none, jump-length-steady}
+use Rattle.jump.specs.Boundary.{Shows, Steady, jumpBy, JumpsBy}
 
 -- THE BYTES AT PC AND AFTER IT
 
 module _ (rom : List ℕ) (pc : ℕ) where
-  pub past-rom : lastAddress < pc → false ≡ (atTtm rom pc && atJcpBack rom pc)
+  pub past-rom : lastAddress < pc → atTtm rom pc ≡ false
   unfolding atTtm allOf
   past-rom h = rw (lt-leb pc lastAddress h)
 
-  module _ (h : pc ≤ lastAddress) where
-    pub no-ttm : (byteAt rom pc ≡ 0x05 → ⊥) → false ≡ (atTtm rom pc && atJcpBack rom pc)
-    unfolding atTtm allOf
-    no-ttm b = rw (le-leb pc lastAddress h, ne-eqb (byteAt rom pc) 0x05 b)
+  pub no-ttm : (byteAt rom pc ≡ 0x05 → ⊥) → atTtm rom pc ≡ false
+  unfolding atTtm allOf
+  no-ttm b = rw (ne-eqb (byteAt rom pc) 0x05 b) (and-false (inRom pc))
 
-    module _ (b : byteAt rom pc ≡ 0x05) where
-      is-ttm : atTtm rom pc ≡ true
-      unfolding atTtm allOf
-      is-ttm = rw (le-leb pc lastAddress h, b)
+  pub is-ttm : pc ≤ lastAddress → byteAt rom pc ≡ 0x05 → atTtm rom pc ≡ true
+  unfolding atTtm allOf
+  is-ttm h b = rw (le-leb pc lastAddress h, b)
 
-      pub next-past-rom : lastAddress < follows pc → false ≡ (atTtm rom pc && atJcpBack rom pc)
-      unfolding atJcpBack allOf
-      next-past-rom g = rw (is-ttm, lt-leb (follows pc) lastAddress g)
+  pub next-past-rom : lastAddress < follows pc → false ≡ atJcpBack rom pc
+  unfolding atJcpBack allOf
+  next-past-rom g = rw (lt-leb (follows pc) lastAddress g)
 
-      module _ (g : follows pc ≤ lastAddress) where
-        pub no-jcp : byteAt rom (follows pc) < 0xC0 → false ≡ (atTtm rom pc && atJcpBack rom pc)
-        unfolding atJcpBack allOf
-        no-jcp k = rw (is-ttm, le-leb (follows pc) lastAddress g, lt-leb 0xC0 (byteAt rom (follows pc)) k)
+  module _ (g : follows pc ≤ lastAddress) where
+    pub no-jcp : byteAt rom (follows pc) < 0xC0 → false ≡ atJcpBack rom pc
+    unfolding atJcpBack allOf
+    no-jcp k = rw (le-leb (follows pc) lastAddress g, lt-leb 0xC0 (byteAt rom (follows pc)) k)
 
-        pub jcp-back : 0xC0 ≤ byteAt rom (follows pc)
-            → eqb (pageOf (follows pc) + byteAt rom (follows pc) % 64) pc ≡ (atTtm rom pc && atJcpBack rom pc)
-        unfolding atJcpBack allOf
-        jcp-back k =
-            rw (is-ttm, le-leb (follows pc) lastAddress g, le-leb 0xC0 (byteAt rom (follows pc)) k)
-            (sym (and-true (eqb (pageOf (follows pc) + byteAt rom (follows pc) % 64) pc)))
+    pub is-jcp-back : 0xC0 ≤ byteAt rom (follows pc) → eqb (pageOf (follows pc) + byteAt rom (follows pc) % 64) pc ≡ atJcpBack rom pc
+    unfolding atJcpBack allOf
+    is-jcp-back k =
+        rw (le-leb (follows pc) lastAddress g, le-leb 0xC0 (byteAt rom (follows pc)) k)
+        (sym (and-true (eqb (pageOf (follows pc) + byteAt rom (follows pc) % 64) pc)))
 
 -- THE TESTS
 
@@ -66,87 +57,79 @@ fails [] i e = e
 fails (t ∷ ts) zero e = rw e
 fails (t ∷ ts) (suc i) e = rw (fails ts i e) (and-false t)
 
-module _ (rom sched : List ℕ) (pc owed : ℕ) (interrupt : Interrupt) (timer : Timer) (n left : ℕ) where
-  abbrev Jumps : ℕ → Type 0
-  Jumps r = JumpsBy rom sched pc owed interrupt timer n left r
-
-  no-jump : ((s : State) → Shows s pc owed interrupt timer n → mayJump rom sched s ≡ false) → Jumps 0
-  no-jump h = record { length-is = λ s w. sym (jump-length-none rom sched s left (h s w)) }
-
-  pub owes : (owed ≡ 0 → ⊥) → Jumps 0
+-- a state that may not jump, by what it shows
+module _ (rom sched : List ℕ) (s : State) where
+  pub both-one : (eqb (s .core .interrupt .int) 1 && eqb (s .core .interrupt .inte) 1) ≡ true → mayJump rom sched s ≡ false
   unfolding mayJump
-  owes h = no-jump (λ s w. fails _ 0 (rw (w .owed-is) (ne-eqb owed 0 h)))
+  both-one t = fails _ 3 (rw t)
 
-  pub tm-set : (timer .tm ≡ 0 → ⊥) → Jumps 0
+  pub stopped : s .core .timer .register ≡ 0 → mayJump rom sched s ≡ false
   unfolding mayJump
-  tm-set h = no-jump (λ s w. fails _ 1 (rw (w .timer-is) (ne-eqb (timer .tm) 0 h)))
+  stopped z = fails _ 2 (rw z)
 
-  pub stopped : timer .register ≡ 0 → Jumps 0
+  pub no-loop : (atTtm rom (s .core .flow .pc) && atJcpBack rom (s .core .flow .pc)) ≡ false → mayJump rom sched s ≡ false
   unfolding mayJump
-  stopped z = no-jump (λ s w. fails _ 2 (rw (w .timer-is, z)))
-
-  pub both-one : (eqb (interrupt .int) 1 && eqb (interrupt .inte) 1) ≡ true → Jumps 0
-  unfolding mayJump
-  both-one t = no-jump (λ s w. fails _ 3 (rw (w .interrupt-is, t)))
-
-  pub no-loop : (atTtm rom pc && atJcpBack rom pc) ≡ false → Jumps 0
-  unfolding mayJump
-  no-loop t = go (atTtm rom pc) refl t
+  no-loop t = go (atTtm rom (s .core .flow .pc)) refl t
     where
-      go : (b : Bool) → atTtm rom pc ≡ b → (b && atJcpBack rom pc) ≡ false → JumpsBy rom sched pc owed interrupt timer n left 0
-      go true p t = no-jump (λ s w. fails _ 5 (rw (w .pc-is, t)))
-      go false p t = no-jump (λ s w. fails _ 4 (rw (w .pc-is, p)))
+      go : (b : Bool) → atTtm rom (s .core .flow .pc) ≡ b → (b && atJcpBack rom (s .core .flow .pc)) ≡ false → mayJump rom sched s ≡ false
+      go true p t = fails _ 5 t
+      go false p t = fails _ 4 p
 
-  module _ (cursor : Cursor) (k : Stands sched n cursor) where
-    line-is : cursor .lines .int ≡ linesAt sched n .int
-    line-is = ap (λ (l : Lines). l .int) (k .lines)
+  owes : (s .core .owed ≡ 0 → ⊥) → mayJump rom sched s ≡ false
+  unfolding mayJump
+  owes h = fails _ 0 (ne-eqb (s .core .owed) 0 h)
 
-    pub other-level : (cursor .lines .int ≡ interrupt .level → ⊥) → Jumps 0
-    unfolding mayJump
-    other-level h =
-        no-jump
-        (λ s w. fails _ 6 (rw (w .interrupt-is, w .cycle-is) (ne-eqb (linesAt sched n .int) (interrupt .level) (λ z. h (line-is ∙ z)))))
+  tm-set : (s .core .timer .tm ≡ 0 → ⊥) → mayJump rom sched s ≡ false
+  unfolding mayJump
+  tm-set h = fails _ 1 (ne-eqb (s .core .timer .tm) 0 h)
 
-    -- all of them pass
-    pub passes : owed ≡ 0 → timer .tm ≡ 0 → 0 < timer .register → (eqb (interrupt .int) 1 && eqb (interrupt .inte) 1) ≡ false
-        → (atTtm rom pc && atJcpBack rom pc) ≡ true → cursor .lines .int ≡ interrupt .level
-        → (s : State) → Shows s pc owed interrupt timer n → mayJump rom sched s ≡ true
-    unfolding mayJump allOf
-    passes o z r i t l s w =
-        let a = and-left (atTtm rom pc) (atJcpBack rom pc) t in
-        let b = and-right (atTtm rom pc) (atJcpBack rom pc) t in
-        let f = eq-eqb (linesAt sched n .int) (interrupt .level) (sym line-is ∙ l) in
-        rw (w .owed-is, w .timer-is, w .interrupt-is, w .pc-is, w .cycle-is, o, z, lt-ltb 0 (timer .register) r, i, a, b, f)
+  other-level : (linesAt sched (s .cycle .0) .int ≡ s .core .interrupt .level → ⊥) → mayJump rom sched s ≡ false
+  unfolding mayJump
+  other-level h = fails _ 6 (ne-eqb (linesAt sched (s .cycle .0) .int) (s .core .interrupt .level) h)
 
--- THE LENGTH
+-- THE LENGTH, of every state and schedule that shows this
 
-module _ (rom sched positions : List ℕ) (pc owed : ℕ) (interrupt : Interrupt) (timer : Timer) (cursor : Cursor) (n left : ℕ)
-    (b : Boundary rom sched positions timer cursor n left) where
-  -- up to the next record there is none, and past it there is one
-  none-before : (j : ℕ) → j ≤ cursor .next - n → noRecord sched (n + 1) (n + j) ≡ true
-  none-before j h = no-record sched (b .schedule) n (n + j) cursor (b .stands) (omega (arith, b .stands .reached))
+none-by : (skips : Bool) (rom sched : List ℕ) (s : State) (left : ℕ) → mayJump rom sched s ≡ false → 0 ≡ jumpBy skips rom sched s left
+none-by false rom sched s left e = refl
+none-by true rom sched s left e = sym (jump-length-none rom sched s left e)
 
-  one-after : (j : ℕ) → cursor .next - n < j → j ≤ left → noRecord sched (n + 1) (n + j) ≡ false
-  one-after j h l = some-record sched (b .schedule) n (n + j) cursor (b .stands) (omega arith) (omega (arith, b .limit))
+module _ {skips : Bool} {rom : List ℕ} {pc owed : ℕ} {interrupt : Interrupt} {timer : Timer} {level left : ℕ} where
+  no-jump : ((sched : List ℕ) (s : State) → Shows s pc owed interrupt timer → Steady sched (s .cycle .0) level left → mayJump rom sched s ≡ false) → JumpsBy skips rom pc owed interrupt timer level left 0
+  no-jump h = record { length-is = λ sched s w k. none-by skips rom sched s left (h sched s w k) }
 
-  pub jumps : ((s : State) → Shows s pc owed interrupt timer n → mayJump rom sched s ≡ true)
-      → (k r : ℕ) → k ≡ min (min (ticksLeft timer) left) (cursor .next - n) → r ≡ k - k % 2 → JumpsBy rom sched pc owed interrupt timer n left r
-  jumps may k r e f = record { length-is = λ s w. f ∙ sym (even s w) }
+  pub never-skips : skips ≡ false → JumpsBy skips rom pc owed interrupt timer level left 0
+  never-skips e = record { length-is = λ sched s w k. rw e }
+
+  pub owed-none : (owed ≡ 0 → ⊥) → JumpsBy skips rom pc owed interrupt timer level left 0
+  owed-none h = no-jump (λ sched s w k. owes rom sched s (λ z. h (sym (w .owed-is) ∙ z)))
+
+  pub tm-none : (timer .tm ≡ 0 → ⊥) → JumpsBy skips rom pc owed interrupt timer level left 0
+  tm-none h = no-jump (λ sched s w k. tm-set rom sched s (λ z. h (ap (λ (t : Timer). t .tm) (sym (w .timer-is)) ∙ z)))
+
+  pub stopped-none : timer .register ≡ 0 → JumpsBy skips rom pc owed interrupt timer level left 0
+  stopped-none z = no-jump (λ sched s w k. stopped rom sched s (ap (λ (t : Timer). t .register) (w .timer-is) ∙ z))
+
+  pub both-none : (eqb (interrupt .int) 1 && eqb (interrupt .inte) 1) ≡ true → JumpsBy skips rom pc owed interrupt timer level left 0
+  both-none t = no-jump (λ sched s w k. both-one rom sched s (rw (w .interrupt-is) t))
+
+  pub loop-none : (atTtm rom pc && atJcpBack rom pc) ≡ false → JumpsBy skips rom pc owed interrupt timer level left 0
+  loop-none t = no-jump (λ sched s w k. no-loop rom sched s (rw (w .pc-is) t))
+
+  pub level-none : (level ≡ interrupt .level → ⊥) → JumpsBy skips rom pc owed interrupt timer level left 0
+  level-none h = no-jump (λ sched s w k. other-level rom sched s (λ z. h (sym (k .level-is) ∙ z ∙ ap (λ (i : Interrupt). i .level) (w .interrupt-is))))
+
+  -- all of them pass
+  pub jumps : skips ≡ true → owed ≡ 0 → timer .tm ≡ 0 → 0 < timer .register → (eqb (interrupt .int) 1 && eqb (interrupt .inte) 1) ≡ false
+      → (atTtm rom pc && atJcpBack rom pc) ≡ true → level ≡ interrupt .level
+      → (k r : ℕ) → k ≡ min (ticksLeft timer) left → r ≡ k - k % 2 → JumpsBy skips rom pc owed interrupt timer level left r
+  unfolding mayJump allOf
+  jumps j o z g i t l k r e f =
+      rw j
+      (record { length-is = λ sched s w y. f ∙ sym (jump-length-steady rom sched s left (passes sched s w y) (y .no-record) k (rw (w .timer-is) e)) })
     where
-      even : (s : State) → Shows s pc owed interrupt timer n → jumpLength rom sched s left ≡ k - k % 2
-      even s w =
-          jump-length-even rom sched s left (cursor .next - n) (may s w)
-          (λ j h. rw (w .cycle-is) (none-before j h)) (λ j h l. rw (w .cycle-is) (one-after j h l)) k (rw (w .timer-is) e)
-
--- AFTER A JUMP
-
--- The cursor stands at the jump's last cycle as it is, so that one move takes it past the jump.
-pub stands-last : (rom sched : List ℕ) (s : State) (left j : ℕ) (cursor : Cursor) → scheduleNumber sched ≡ 0
-    → Stands sched (s .cycle .0) cursor → s .cycle .0 + left ≤ cycleLimit → jumpLength rom sched s left ≡ j → (j ≡ 0 → ⊥)
-    → Stands sched (s .cycle .0 + j - 1) cursor
-stands-last rom sched s left j cursor a k h e more =
-    let n = s .cycle .0 in
-    let l : j ≤ left = subst (λ (x : ℕ). x ≤ left) e (jump-within rom sched s left) in
-    let none = jump-between rom sched s left j e more in
-    let u : cursor .next < n + j → ⊥ = λ q. true≢false (sym none ∙ some-record sched a n (n + j) cursor k q (omega arith)) in
-    stays sched a n (n + j - 1) cursor k (omega arith) (omega arith)
+      passes : (sched : List ℕ) (s : State) → Shows s pc owed interrupt timer → Steady sched (s .cycle .0) level left → mayJump rom sched s ≡ true
+      passes sched s w y =
+          let a = and-left (atTtm rom pc) (atJcpBack rom pc) t in
+          let b = and-right (atTtm rom pc) (atJcpBack rom pc) t in
+          let v = eq-eqb (linesAt sched (s .cycle .0) .int) (interrupt .level) (y .level-is ∙ l) in
+          rw (w .owed-is, w .timer-is, w .interrupt-is, w .pc-is, o, z, lt-ltb 0 (timer .register) g, i, a, b, v)

@@ -1,7 +1,7 @@
 -- What a jump of the timer-skipping runner says is what so many plain cycles come to, and how long a jump is.
 -- Assumes nothing.
 use mathlib.Core.Path.{_≡_, _∙_, refl, sym, ap, subst}
-use mathlib.Core.Bool.{Bool, true, false, true≢false, _&&_}
+use mathlib.Core.Bool.{Bool, true, false, true≢false, _&&_, and-false}
 use mathlib.Core.List.{List, [], _∷_}
 use mathlib.Core.Option.{none}
 use Prim.Native.Nat.{ℕ, zero, suc, _+_, _-_, _*_, _/_, _%_, _<_, _≤_, min}
@@ -28,7 +28,7 @@ use Rattle.upd546.specs.TheLineSchedule.{recordCount, recordCycle, linesAt, non
 use Rattle.upd546.specs.Timer.{tick, ticksLeft}
 use Rattle.laws.specs.Timer.{timerLeft}
 use Rattle.upd546.specs.Instructions.{instruction, codes, jcp, none as noInstruction}
-use Rattle.upd546.specs.OneMachineCycle.{accepts, taken, ticked, given, instructionStop, passedOver, begun, execute, cycle}
+use Rattle.upd546.specs.OneMachineCycle.{blocks, accepts, taken, ticked, given, instructionStop, passedOver, begun, execute, cycle}
 use Rattle.upd546.specs.StateImage.{stateNumber}
 use Rattle.upd546.specs.TwoRunners.{atTtm, atJcpBack, mayJump, jumpable, largest, onJump, jumpLength, upd546}
 use Rattle.laws.specs.Jump.{coreAfterJump, stateAfterJump}
@@ -53,6 +53,18 @@ pub taken-same : (l : Lines) (c : Core) → l .int ≡ c .interrupt .level → t
 unfolding taken
 taken-same l c e = rw (e, le-ltb (c .interrupt .level) (c .interrupt .level) (omega arith))
 
+-- no interrupt is accepted where INT and INTE aren't both 1, nor where the mark keeps it back
+pub free-accepts : (c : Core) → (eqb (c .interrupt .int) 1 && eqb (c .interrupt .inte) 1) ≡ false → accepts c ≡ false
+unfolding accepts
+free-accepts c f = no-accept (eqb (c .owed) 0) _ _ _ f
+
+pub blocked-accepts : (c : Core) → blocks (c .mark) ≡ true → accepts c ≡ false
+unfolding accepts allOf
+blocked-accepts c b = rw b (last-false (eqb (c .owed) 0) (eqb (c .interrupt .inte) 1) (eqb (c .interrupt .int) 1))
+  where
+    last-false : (x y z : Bool) → allOf (x ∷ y ∷ z ∷ false ∷ []) ≡ false
+    last-false x y z = simp (and-false)
+
 -- C0 to FF
 is-jcp : (code : ℕ) → 0xC0 ≤ code → instruction code ≡ jcp
 unfolding instruction
@@ -65,12 +77,16 @@ abbrev inLoop : State → ℕ → Timer → ℕ → State
 inLoop s pc t n = withParts s (setPc pc (setMark markOther (setOwed 0 (withTimer (s .core) t)))) (s .ram) (s .ports) n
 
 module _ (rom sched : List ℕ) (s : State) where
-  pub cycle-executes : s .core .owed ≡ 0 → (eqb (s .core .interrupt .int) 1 && eqb (s .core .interrupt .inte) 1) ≡ false
+  -- an instruction is due where nothing is owed and no interrupt is accepted
+  pub cycle-due : s .core .owed ≡ 0 → accepts (s .core) ≡ false → linesAt sched (s .cycle .0) .int ≡ s .core .interrupt .level
+      → cycle rom sched s ≡ execute rom (linesAt sched (s .cycle .0)) s (s .core)
+  unfolding cycle
+  cycle-due o a l = rw (a, taken-same (linesAt sched (s .cycle .0)) (s .core) l, o)
+
+  cycle-executes : s .core .owed ≡ 0 → (eqb (s .core .interrupt .int) 1 && eqb (s .core .interrupt .inte) 1) ≡ false
       → linesAt sched (s .cycle .0) .int ≡ s .core .interrupt .level
       → cycle rom sched s ≡ execute rom (linesAt sched (s .cycle .0)) s (s .core)
-  unfolding cycle accepts
-  cycle-executes o f l =
-      rw (no-accept (eqb (s .core .owed) 0) _ _ _ f, taken-same (linesAt sched (s .cycle .0)) (s .core) l, o)
+  cycle-executes o f l = cycle-due o (free-accepts (s .core) f) l
 
   -- TTM with TM 0
   execute-ttm : (l : Lines) → s .core .timer .tm ≡ 0 → inRom (s .core .flow .pc) ≡ true → byteAt rom (s .core .flow .pc) ≡ 0x05
@@ -378,7 +394,7 @@ largest-even sched n m (suc k) p q =
         rw (e, largest) (omega arith)
 
 -- the length where it may jump
-pub jump-length-even : (rom sched : List ℕ) (s : State) (left m : ℕ) → mayJump rom sched s ≡ true
+jump-length-even : (rom sched : List ℕ) (s : State) (left m : ℕ) → mayJump rom sched s ≡ true
     → ((j : ℕ) → j ≤ m → noRecord sched (s .cycle .0 + 1) (s .cycle .0 + j) ≡ true)
     → ((j : ℕ) → m < j → j ≤ left → noRecord sched (s .cycle .0 + 1) (s .cycle .0 + j) ≡ false)
     → (k : ℕ) → k ≡ min (min (ticksLeft (s .core .timer)) left) m → jumpLength rom sched s left ≡ k - k % 2
@@ -390,6 +406,32 @@ jump-length-even rom sched s left m e p q k f =
 pub jump-length-none : (rom sched : List ℕ) (s : State) (left : ℕ) → mayJump rom sched s ≡ false → jumpLength rom sched s left ≡ 0
 unfolding jumpLength
 jump-length-none rom sched s left e = rw e
+
+-- the length where it may jump and no record comes before the cycles that are left are over
+pub jump-length-steady : (rom sched : List ℕ) (s : State) (left : ℕ) → mayJump rom sched s ≡ true
+    → noRecord sched (s .cycle .0 + 1) (s .cycle .0 + left) ≡ true
+    → (k : ℕ) → k ≡ min (ticksLeft (s .core .timer)) left → jumpLength rom sched s left ≡ k - k % 2
+unfolding noRecord
+jump-length-steady rom sched s left e v k f =
+    let n = s .cycle .0 in
+    jump-length-even rom sched s left left e (λ j h. none-fewer sched (n + 1) (n + left) (n + j) (recordCount sched) (omega arith) v) (λ j h l. absurd (omega arith)) k
+    (omega (arith, f))
+
+-- THE CUT: as a jump ends before the next record, m cycles on, it is as long where no more cycles are left than those
+pub jump-length-cut : (rom sched : List ℕ) (s : State) (left m : ℕ)
+    → ((j : ℕ) → j ≤ m → noRecord sched (s .cycle .0 + 1) (s .cycle .0 + j) ≡ true)
+    → ((j : ℕ) → m < j → j ≤ left → noRecord sched (s .cycle .0 + 1) (s .cycle .0 + j) ≡ false)
+    → jumpLength rom sched s left ≡ jumpLength rom sched s (min left m)
+jump-length-cut rom sched s left m p q = go (mayJump rom sched s) refl
+  where
+    k : ℕ
+    k = min (min (ticksLeft (s .core .timer)) left) m
+
+    go : (b : Bool) → mayJump rom sched s ≡ b → jumpLength rom sched s left ≡ jumpLength rom sched s (min left m)
+    go true e =
+        jump-length-even rom sched s left m e p q k refl
+        ∙ sym (jump-length-even rom sched s (min left m) m e p (λ j h l. absurd (omega arith)) k (omega arith))
+    go false e = jump-length-none rom sched s left e ∙ sym (jump-length-none rom sched s (min left m) e)
 
 -- a jump leads from an accepted state to an accepted state
 pub jump-keeps : (rom sched : List ℕ) (s : State) (left j : ℕ) → Panel upd546 rom sched → Valid s → s .cycle .0 + j ≤ cycleLimit

@@ -12,7 +12,7 @@ use upd546::Timer;
 ghost use mathlib.Core.Path.{_≡_};
 ghost use Rattle.upd546.specs.TheMachine.{follows as followsOf};
 ghost use Rattle.upd546.specs.Timer.{stepRegister, tick as tickOf};
-ghost use Rattle.upd546.specs.OneMachineCycle.{accepts as acceptsOf, accepted as acceptedOf, taken as takenOf, paid as paidOf, ticked as tickedOf};
+ghost use Rattle.upd546.specs.OneMachineCycle.{blocks as blocksOf, accepts as acceptsOf, accepted as acceptedOf, taken as takenOf, paid as paidOf, ticked as tickedOf};
 
 // Where an accepted interrupt goes.
 const INTERRUPT_ADDRESS: u16 = 0x03C;
@@ -102,12 +102,19 @@ pub fn paid(c: Core) -> Core
     d
 }
 
+// Whether a mark keeps an interrupt back.
+pub fn blocks(mark: u8) -> bool
+    ensures { λ r. ⌜ r ≡ blocksOf mark ⌝ }
+{
+    (mark == MARK_EI) | (mark == MARK_LDI) | (mark == MARK_LI)
+}
+
 // Step a: whether an interrupt is accepted.
 pub fn accepts(c: Core) -> bool
     ensures { λ r. ⌜ r ≡ acceptsOf c ⌝ }
 {
-    let blocks = (c.mark == MARK_EI) | (c.mark == MARK_LDI) | (c.mark == MARK_LI);
-    (c.owed == 0) & (c.interrupt.inte == 1) & (c.interrupt.int == 1) & !blocks
+    let kept = blocks(c.mark);
+    (c.owed == 0) & (c.interrupt.inte == 1) & (c.interrupt.int == 1) & !kept
 }
 
 pub fn accepted(c: Core) -> Core

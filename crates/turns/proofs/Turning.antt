@@ -1,15 +1,11 @@
--- Where the loop of a run stands, and where a turn takes it. Assumes nothing.
+-- Where the loop of a run stands, and where a jump and a turn take it. Assumes nothing.
 use mathlib.Core.Path.{_≡_, _∙_, refl, sym, ap, ap₂, subst}
-use mathlib.Core.Bool.{Bool, true, false, false≢true}
-use mathlib.Core.List.{List, [], _++_, append-assoc, append-nil}
+use mathlib.Core.Bool.{Bool, true, false}
+use mathlib.Core.List.{List, [], _++_, append-nil}
 use mathlib.Core.Option.{Option, none, some}
-use Prim.Native.Nat.{ℕ, zero, suc, _+_, _-_, _*_, _<_, _≤_}
-use native.Mathlib.Nat.{sub-zero}
+use Prim.Native.Nat.{ℕ, zero, suc, _+_, _-_, _*_, _<_, _≤_, min}
 use native.Mathlib.Omega.{arith}
-use lib.ListN.{length, take, drop, length-append, length-drop, take-append-drop}
-use lib.Seq.{drop-drop, take-at, drop-at}
-use borrow.Rule.Slice.PartMut.{midOf, putMid}
-use Rattle.runs.specs.Machine.{stop, went}
+use lib.ListN.{length, drop, length-append, length-drop}
 use Rattle.runs.specs.TwoRunners.{endWith, strideOf, runNumber, within, told, plain, skipping}
 use Rattle.runs.specs.Refusals.{cycleLimit}
 use Rattle.runs.specs.TwoRunners.{Stepped}
@@ -17,80 +13,117 @@ use Rattle.runs.specs.Laws.{Bytes, Panel}
 use Rattle.runs.specs.OneByOne.{OneByOne, none as no-cycle, also}
 use Rattle.runs.proofs.Loop.{sofar, onwards, spanOf, Halfway, loop-starts, loop-ends, loop-stops, loop-goes, loop-goes-singly}
 use Rattle.upd546.specs.declared.Core.{Core}
+use Rattle.upd546.specs.declared.Lines.{Lines}
 use Rattle.upd546.specs.declared.State.{State}
-use Rattle.upd546.specs.Parts.{stateOf}
-use Rattle.upd546.specs.TheLineSchedule.{scheduleNumber}
-use Rattle.upd546.specs.OneMachineCycle.{cycle}
+use Rattle.upd546.specs.TheLineSchedule.{linesAt, scheduleNumber, noRecord}
 use Rattle.upd546.specs.TwoRunners.{jumpLength, upd546}
 use Rattle.laws.specs.Jump.{coreAfterJump, stateAfterJump}
-use Rattle.tables.specs.Tables.{instructionTable, positionTable, registerTable}
 use Rattle.laws.specs.Valid.{Valid}
+use Rattle.laws.specs.Stops.{StopNumber}
 use Rattle.laws.proofs.Sound.{accepted-valid}
 use Rattle.laws.proofs.Cycle.{cycle-keeps}
 use Rattle.laws.proofs.Stops.{begins-one}
-use Rattle.laws.specs.Stops.{StopNumber}
-use Rattle.laws.proofs.Jump.{jump-within, jump-runs, jump-ticks, jump-in-room, jump-keeps}
+use Rattle.laws.proofs.Tails.{put-next}
+use Rattle.laws.proofs.Jump.{jump-within, jump-runs, jump-ticks, jump-in-room, jump-keeps, jump-length-cut}
+use Rattle.tables.specs.Tables.{instructionTable, positionTable, registerTable}
 use Rattle.schedule.specs.declared.Cursor.{Cursor}
 use Rattle.schedule.specs.Cursor.{Stands}
-use Rattle.schedule.proofs.Standing.{next-record, next-some, stays}
-use Rattle.laws.proofs.Tails.{mid-tail, put-tail}
+use Rattle.schedule.proofs.Standing.{next-record, next-some, stays, no-record, some-record}
+use Rattle.jump.specs.Boundary.{Boundary, JumpsBy, Jumpable, jumpBy}
+use Rattle.upd546.specs.Parts.{stateOf}
 use Rattle.burst.specs.declared.Stretch.{Stretch}
 use Rattle.burst.specs.Turn.{Turn, Turned}
-use Rattle.jump.specs.Boundary.{Boundary, Jumpable}
-use Rattle.jump.proofs.Lengths.{stands-last}
-use Rattle.turns.specs.Either.{runBy, jumpBy}
+use Rattle.turns.specs.Either.{runBy}
 use Rattle.turns.proofs.Taken.{Taken, run-taken}
 
 -- the whole run, of the runner that `skips` chooses
 abbrev whole : Bool → List ℕ → List ℕ → List ℕ → ℕ → State → Stepped State
 whole skips rom sched log₀ n s = onwards upd546 rom sched skips n (length log₀) n s
 
--- Where the loop stands, after `done` cycles of the run from s, at the state t. `w` is what has been written.
-pub record At (skips : Bool) (rom sched log₀ : List ℕ) (n : ℕ) (s : State) (log : List ℕ) (t : State) (cursor : Cursor) (at done begun spared : ℕ) : Type 0 where
+-- what the code has, between two turns
+pub record Place : Type 0 where
+  pub core : Core
+  pub ram : List ℕ
+  pub ports : List ℕ
+  pub log : List ℕ
+  pub at : ℕ
+  pub number : ℕ
+  pub begun : ℕ
+  pub spared : ℕ
+
+abbrev pub stateAt : Place → State
+stateAt p = stateOf (p .core) (p .ram) (p .ports) (p .number)
+
+-- Where the loop stands, in a run of n cycles from s on. `w` is what has been written.
+pub record At (skips : Bool) (rom sched log₀ : List ℕ) (n : ℕ) (s : State) (p : Place) : Type 0 where
   pub w : List ℕ
-  pub number : runNumber upd546 rom sched s n ≡ 0
+  pub not-refused : runNumber upd546 rom sched s n ≡ 0
   pub rom-bytes : Bytes rom
   pub sched-bytes : Bytes sched
-  pub rises : t .cycle .0 ≡ s .cycle .0 + done
-  pub valid : Valid t
-  pub stands : Stands sched (t .cycle .0) cursor
-  pub not-past : done ≤ n
-  pub few : begun ≤ done
-  pub less : spared ≤ done
-  pub place : at ≡ length w
+  pub valid : Valid (stateAt p)
+  pub from : s .cycle .0 ≤ p .number
+  pub not-past : p .number ≤ s .cycle .0 + n
+  pub few : p .begun ≤ p .number - s .cycle .0
+  pub less : p .spared ≤ p .number - s .cycle .0
+  pub place : p .at ≡ length w
   pub room : length w ≤ length log₀
-  pub size : length log ≡ length log₀
-  pub log-is : log ≡ w ++ drop (length w) log₀
-  pub half : Halfway upd546 rom sched skips (whole skips rom sched log₀ n s) (length log₀) t w done begun (done - spared) (n - done)
+  pub log-is : p .log ≡ w ++ drop (length w) log₀
+  pub half : Halfway upd546 rom sched skips (whole skips rom sched log₀ n s) (length log₀) (stateAt p) w (p .number - s .cycle .0) (p .begun)
+      (p .number - s .cycle .0 - p .spared) (s .cycle .0 + n - p .number)
 
--- What a step from there comes to, of `span` cycles: once the cursor has moved, the loop stands at its end.
-pub record Forward (skips : Bool) (rom sched log₀ : List ℕ) (n : ℕ) (s t : State) (cursor : Cursor) (done : ℕ) (log : List ℕ) (core : Core) (ram ports : List ℕ)
-    (at begun spared span : ℕ) : Type 0 where
-  pub some-cycles : 1 ≤ span
-  pub within-run : span ≤ n - done
-  pub stands : Stands sched (t .cycle .0 + (span - 1)) cursor
-  pub on : (next : Cursor) → Stands sched (t .cycle .0 + (span - 1) + 1) next
-      → At skips rom sched log₀ n s log (stateOf core ram ports (s .cycle .0 + (done + span))) next at (done + span) begun spared
+-- THE CYCLES TO THE LIMIT: from cycle `from` on the lines are l, and a run that ended at the limit would jump as one that ends at `end`
+pub record Window (rom sched : List ℕ) (l : Lines) (from end limit : ℕ) : Type 0 where
+  pub lines : (i : ℕ) → from ≤ i → i < limit → linesAt sched i ≡ l
+  pub no-record : (i : ℕ) → from ≤ i → i < limit → noRecord sched (i + 1) (i + (limit - i)) ≡ true
+  pub cut : (t : State) → from ≤ t .cycle .0 → t .cycle .0 < limit → jumpLength rom sched t (end - t .cycle .0) ≡ jumpLength rom sched t (limit - t .cycle .0)
+  pub ahead : from ≤ limit
+  pub in-run : limit ≤ end
+  pub in-limit : end ≤ cycleLimit
 
-pub starts : (skips : Bool) (rom sched log : List ℕ) (n : ℕ) (s : State) (cursor : Cursor) → runNumber upd546 rom sched s n ≡ 0
-    → Bytes rom → Bytes sched → Stands sched (s .cycle .0) cursor → At skips rom sched log n s log s cursor 0 0 0 0
-starts skips rom sched log n s cursor e br bs k = record {
-  w = [];
-  number = e;
-  rom-bytes = br;
-  sched-bytes = bs;
-  rises = omega arith;
-  valid = accepted-valid s (run-taken rom sched s n e .state);
-  stands = k;
-  not-past = omega arith;
-  few = omega arith;
-  less = omega arith;
-  place = refl;
-  room = omega arith;
-  size = refl;
-  log-is = refl;
-  half = rw (sub-zero n) (loop-starts upd546 rom sched skips (length log) n s);
-}
+-- and the loop stands within them
+pub record Ahead (rom sched : List ℕ) (l : Lines) (from end limit number : ℕ) : Type 0 where
+  pub window : Window rom sched l from end limit
+  pub since : from ≤ number
+  pub more : number < limit
+
+-- up to the next record, or to the end of the run
+module _ (rom sched : List ℕ) (accepted : scheduleNumber sched ≡ 0) (cursor : Cursor) (from end : ℕ) (more : from < end) (small : end ≤ cycleLimit)
+    (k : Stands sched from cursor) where
+  record-ahead : from < cursor .next
+  record-ahead =
+      let u : cursor .next ≤ from → ⊥ = λ q.
+      let i = next-some sched (cursor .index) (omega (arith, k .next)) in
+      omega (arith, k .counted .ahead i, next-record sched (cursor .index) i, k .next) in
+      omega arith
+
+  pub limit-ahead : {limit : ℕ} → limit ≡ min end (cursor .next) → from < limit
+  limit-ahead e = omega (arith, e, record-ahead)
+
+  pub up-to-record : {limit : ℕ} → limit ≡ min end (cursor .next) → Window rom sched (cursor .lines) from end limit
+  up-to-record {limit} e = record {
+    lines = λ i p q. sym (stays sched accepted from i cursor k p (omega (arith, e)) .lines);
+    no-record = λ i p q. no-record sched accepted i (i + (limit - i)) cursor (there i p q) (omega (arith, e));
+    cut = λ t p q.
+        let c = t .cycle .0 in
+        let least : min (end - c) (cursor .next - c) ≡ limit - c = omega (arith, e) in
+        jump-length-cut rom sched t (end - c) (cursor .next - c) (λ j h. no-record sched accepted c (c + j) cursor (there c p q) (omega (arith, e, h, q)))
+        (λ j h m. some-record sched accepted c (c + j) cursor (there c p q) (omega (arith, h)) (omega (arith, m)))
+        ∙ ap (jumpLength rom sched t) least;
+    ahead = omega (arith, limit-ahead e);
+    in-run = omega (arith, e);
+    in-limit = small;
+  }
+    where
+      there : (i : ℕ) → from ≤ i → i < limit → Stands sched i cursor
+      there i p q = stays sched accepted from i cursor k p (omega (arith, e))
+
+-- the cursor stands at the last cycle before the limit as it is, so that one move takes it on
+pub stands-last : (sched : List ℕ) (accepted : scheduleNumber sched ≡ 0) (cursor : Cursor) (from limit n : ℕ) → limit ≤ cursor .next → from < n → n ≤ limit
+    → Stands sched from cursor → Stands sched (n - 1) cursor
+stands-last sched accepted cursor from limit n e p q k = stays sched accepted from (n - 1) cursor k (omega arith) (omega arith)
+
+pub stands-on : {sched : List ℕ} {cursor : Cursor} {n : ℕ} → 1 ≤ n → Stands sched (n - 1 + 1) cursor → Stands sched n cursor
+stands-on {sched} {cursor} {n} h k = let e : n - 1 + 1 ≡ n = omega arith in subst (λ (i : ℕ). Stands sched i cursor) e k
 
 -- CYCLES ONE BY ONE keep what a cycle keeps
 record Kept (s t : State) (d b m : ℕ) : Type 0 where
@@ -108,33 +141,14 @@ singly-keeps rom sched skips room m s p v h _ _ _ _ (also {t} {u} {y} {d} {a} x 
     let one = begins-one rom sched t u x e q in
     record { valid = c .valid; rises = omega (arith, c .rises, k .rises); few = omega (arith, k .few, one); within-run = omega arith }
 
--- counts after a jump of j cycles
-steps-after : (done spared j : ℕ) → spared ≤ done → (j ≡ 0 → ⊥) → done - spared + 1 ≡ done + j - (spared + (j - 1))
-steps-after done spared j h m = omega arith
-
-left-after : (n done j : ℕ) → done < n → suc (n - (done + 1)) - j ≡ n - (done + j)
-left-after n done j h = omega arith
-
-some-one : (j : ℕ) → (j ≡ 0 → ⊥) → 1 ≤ j
-some-one j m = omega arith
-
-limit-after : (c s n done j : ℕ) → c ≡ s + done → done ≤ n → s + n ≤ cycleLimit → j ≤ n - done → c + j ≤ cycleLimit
-limit-after c s n done j e h l w = omega arith
-
-less-after : (done spared j : ℕ) → spared ≤ done → spared + (j - 1) ≤ done + j
-less-after done spared j h = omega arith
-
-few-after : (done begun j : ℕ) → begun ≤ done → begun + j ≤ done + j
-few-after done begun j h = omega arith
-
-end-after : (n done j : ℕ) → done ≤ n → j ≤ n - done → done + j ≤ n
-end-after n done j h l = omega arith
-
-last-next : (c j : ℕ) → (j ≡ 0 → ⊥) → c + (j - 1) + 1 ≡ c + j
-last-next c j m = omega arith
-
-last-before : (c j : ℕ) → (j ≡ 0 → ⊥) → c + j - 1 ≡ c + (j - 1)
-last-before c j m = omega arith
+-- and are cycles of a longer run, where it jumps as the shorter one does
+longer : (rom sched : List ℕ) (skips : Bool) (room m m′ : ℕ) (s : State) → Panel upd546 rom sched → Valid s → s .cycle .0 + m ≤ cycleLimit → m ≤ m′
+    → ((t : State) (d : ℕ) → t .cycle .0 ≡ s .cycle .0 + d → d < m → jumpLength rom sched t (m - d) ≡ 0 → jumpLength rom sched t (m′ - d) ≡ 0)
+    → (t : State) (w : List ℕ) (d b : ℕ) → OneByOne upd546 rom sched skips room m s t w d b → OneByOne upd546 rom sched skips room m′ s t w d b
+longer rom sched skips room m m′ s p v h g c _ _ _ _ no-cycle = no-cycle
+longer rom sched skips room m m′ s p v h g c _ _ _ _ (also {t} {u} {y} {d} {a} x e o q f l z) =
+    let k = singly-keeps rom sched skips room m s p v h t y d a o in
+    also x e (longer rom sched skips room m m′ s p v h g c t y d a o) q f (omega (arith, l, g)) (λ i. c t d (k .rises) l (z i))
 
 -- what either runner answers, of the whole run
 run-by : (skips : Bool) (rom sched log : List ℕ) (n : ℕ) (s : State)
@@ -143,291 +157,325 @@ unfolding plain skipping
 run-by false rom sched log n s = refl
 run-by true rom sched log n s = refl
 
-module _ {skips : Bool} {rom sched log₀ : List ℕ} {n : ℕ} {s : State} {log : List ℕ} {t : State} {cursor : Cursor} {at done begun spared : ℕ}
-    (h : At skips rom sched log₀ n s log t cursor at done begun spared) where
+differ : false ≡ true → ⊥
+differ e = let z : _≡_ {A = ℕ} 0 1 = cc in omega arith
+
+-- steps after a jump of j cycles, and after d cycles one by one
+steps-after : (done spared j : ℕ) → spared ≤ done → 1 ≤ j → done - spared + 1 ≡ done + j - (spared + (j - 1))
+steps-after done spared j h m = omega arith
+
+steps-more : (done spared d : ℕ) → spared ≤ done → done - spared + d ≡ done + d - spared
+steps-more done spared d h = omega arith
+
+less-after : (done spared j : ℕ) → spared ≤ done → spared + (j - 1) ≤ done + j
+less-after done spared j h = omega arith
+
+-- and the cycles left
+left-after : (end number j : ℕ) → number < end → suc (end - number - 1) - j ≡ end - (number + j)
+left-after end number j h = omega arith
+
+left-more : (end number d : ℕ) → end - number - d ≡ end - (number + d)
+left-more end number d = omega arith
+
+-- THE START
+pub starts : (skips : Bool) (rom sched log : List ℕ) (n : ℕ) (s : State) → runNumber upd546 rom sched s n ≡ 0 → Bytes rom → Bytes sched
+    → At skips rom sched log n s (record { core = s .core; ram = s .ram; ports = s .ports; log = log; at = 0; number = s .cycle .0; begun = 0; spared = 0 })
+starts skips rom sched log n s e br bs =
+    let none-done : s .cycle .0 - s .cycle .0 ≡ 0 = omega arith in
+    let no-step : s .cycle .0 - s .cycle .0 - 0 ≡ 0 = omega arith in
+    let all-left : s .cycle .0 + n - s .cycle .0 ≡ n = omega arith in
+    record {
+      w = [];
+      not-refused = e;
+      rom-bytes = br;
+      sched-bytes = bs;
+      valid = accepted-valid s (run-taken rom sched s n e .state);
+      from = omega arith;
+      not-past = omega arith;
+      few = omega arith;
+      less = omega arith;
+      place = refl;
+      room = omega arith;
+      log-is = refl;
+      half = half-at (s .cycle .0 - s .cycle .0) (s .cycle .0 - s .cycle .0 - 0) (s .cycle .0 + n - s .cycle .0) none-done no-step all-left;
+    }
+  where
+    half-at : (c k m : ℕ) → c ≡ 0 → k ≡ 0 → m ≡ n → Halfway upd546 rom sched skips (whole skips rom sched log n s) (length log) s [] c 0 k m
+    half-at c k m x y z = rw (x, y, z) (loop-starts upd546 rom sched skips (length log) n s)
+
+module _ {skips : Bool} {rom sched log₀ : List ℕ} {n : ℕ} {s : State} {p : Place} (h : At skips rom sched log₀ n s p) where
   taken : Taken rom sched s n
-  taken = run-taken rom sched s n (h .number)
+  taken = run-taken rom sched s n (h .not-refused)
+
+  panel : Panel upd546 rom sched
+  panel = record { rom-bytes = h .rom-bytes; sched-bytes = h .sched-bytes; not-refused = taken .panel }
 
   -- the run ends within the cycle limit
-  pub limit : s .cycle .0 + n ≤ cycleLimit
-  limit = taken .limit
+  pub limit-kept : s .cycle .0 + n ≤ cycleLimit
+  limit-kept = taken .limit
 
   pub schedule-taken : scheduleNumber sched ≡ 0
   schedule-taken = taken .schedule
 
-  -- what is answered, where the run came to so much
-  tells : (o : Option ℕ) → whole skips rom sched log₀ n s ≡ record { ran = sofar t (h .w) done begun o; steps = done - spared }
-      → record { end = endWith o; state = t; cycles = done; clocks = 4 * done; begun = begun; written = at; steps = done - spared; log = log }
-      ≡ runBy skips rom sched s log₀ n
-  tells o e = rw (run-by skips rom sched log₀ n s, h .number, e, h .place, h .log-is)
+  pub log-length : length (p .log) ≡ length log₀
+  log-length = ap length (h .log-is) ∙ length-append (h .w) (drop (length (h .w)) log₀) ∙ omega (arith, length-drop (length (h .w)) log₀, h .room)
 
-  pub finishes : n ≤ done
-      → record { end = endWith none; state = t; cycles = done; clocks = 4 * done; begun = begun; written = at; steps = done - spared; log = log }
+  -- the cycles done, and the steps
+  abbrev done : ℕ
+  done = p .number - s .cycle .0
+
+  -- what is answered, where the run came to so much
+  tells : (o : Option ℕ) → whole skips rom sched log₀ n s ≡ record { ran = sofar (stateAt p) (h .w) done (p .begun) o; steps = done - p .spared }
+      → record { end = endWith o; state = stateAt p; cycles = done; clocks = 4 * done; begun = p .begun; written = p .at; steps = done - p .spared; log = p .log }
+      ≡ runBy skips rom sched s log₀ n
+  tells o e = rw (run-by skips rom sched log₀ n s, h .not-refused, e, h .place, h .log-is)
+
+  pub finishes : s .cycle .0 + n ≤ p .number
+      → record { end = endWith none; state = stateAt p; cycles = done; clocks = 4 * done; begun = p .begun; written = p .at; steps = done - p .spared; log = p .log }
       ≡ runBy skips rom sched s log₀ n
   finishes g =
-      let z : n - done ≡ 0 = omega (arith, h .not-past) in
-      tells none (loop-ends upd546 rom sched skips _ (length log₀) t (h .w) done begun (done - spared) (rw z at (h .half)))
+      let z : s .cycle .0 + n - p .number ≡ 0 = omega (arith, h .not-past) in
+      tells none (loop-ends upd546 rom sched skips _ (length log₀) (stateAt p) (h .w) done (p .begun) (done - p .spared) (rw z at (h .half)))
 
-  -- the part of the log that is still empty
-  lent-is : midOf at (length log - at) log ≡ drop (length (h .w)) log₀
-  lent-is = mid-tail at log ∙ ap (drop at) (h .log-is) ∙ drop-at (h .w) _ at (sym (h .place))
+  -- what a jump's length is asked for
+  pub boundary : (positions : List ℕ) → positions ≡ positionTable → Boundary rom positions (p .core .timer)
+  boundary positions e = record { rom-length = taken .rom-length; table = e; register = h .valid .core .scalars .register }
 
-  lent-length : length (midOf at (length log - at) log) ≡ length log₀ - length (h .w)
-  lent-length = ap length lent-is ∙ length-drop (length (h .w)) log₀
+  -- THE NEXT STEPS, before the limit of a window
+  module _ {l : Lines} {from limit : ℕ} (a : Ahead rom sched l from (s .cycle .0 + n) limit (p .number)) where
+    abbrev v : Window rom sched l from (s .cycle .0 + n) limit
+    v = a .window
 
-  -- handed back as it was
-  lent-back : putMid at (length log - at) log (midOf at (length log - at) log) ≡ log
-  lent-back = put-tail at log _ ∙ ap (λ (z : List ℕ). take at log ++ z) (mid-tail at log) ∙ take-append-drop at log
+    since : from ≤ p .number
+    since = a .since
 
-  module _ (more : done < n) where
-    below : t .cycle .0 < cycleLimit
-    below = omega (arith, h .rises, limit)
+    more : p .number < limit
+    more = a .more
 
-    -- the next record is ahead
-    record-ahead : t .cycle .0 < cursor .next
-    record-ahead =
-        let k = h .stands in
-        let u : cursor .next ≤ t .cycle .0 → ⊥ = λ q.
-        let i = next-some sched (cursor .index) (omega (arith, k .next, below)) in
-        omega (arith, k .counted .ahead i, next-record sched (cursor .index) i, k .next) in
-        omega arith
+    abbrev left : ℕ
+    left = s .cycle .0 + n - p .number
 
-    panel : Panel upd546 rom sched
-    panel = record { rom-bytes = h .rom-bytes; sched-bytes = h .sched-bytes; not-refused = taken .panel }
+    one-more : left ≡ suc (left - 1)
+    one-more = omega (arith, v .in-run)
 
-    no-jump-here : (b : Bool) → 0 ≡ jumpBy b rom sched t (n - done) → b ≡ true → jumpLength rom sched t (n - done) ≡ 0
-    no-jump-here false e q = absurd (false≢true q)
-    no-jump-here true e q = sym e
-
-    pub turn-asks : (table positions : List ℕ) → table ≡ instructionTable → positions ≡ positionTable → 0 ≡ jumpBy skips rom sched t (n - done)
-        → Turn skips rom sched table positions (cursor .lines) (cursor .next) (n - done) t
-    turn-asks table positions e f z = record {
-      panel = panel;
-      rom-length = taken .rom-length;
-      instructions = e;
-      position-table = f;
-      lines = λ i p q. sym (stays sched (taken .schedule) (t .cycle .0) i cursor (h .stands) p q .lines);
-      ahead = record-ahead;
-      valid = h .valid;
-      some-left = omega arith;
-      limit = omega (arith, h .rises, limit);
-      no-jump = no-jump-here skips z;
-    }
-
-    one-more : n - done ≡ suc (n - (done + 1))
-    one-more = omega arith
-
-    on : Halfway upd546 rom sched skips (whole skips rom sched log₀ n s) (length log₀) t (h .w) done begun (done - spared) (suc (n - (done + 1)))
+    on : Halfway upd546 rom sched skips (whole skips rom sched log₀ n s) (length log₀) (stateAt p) (h .w) done (p .begun) (done - p .spared) (suc (left - 1))
     on = rw one-more at (h .half)
 
-    -- what the jump's length is asked for
-    pub boundary : (positions : List ℕ) → positions ≡ positionTable → Boundary rom sched positions (t .core .timer) cursor (t .cycle .0) (n - done)
-    boundary positions e = record {
-      rom-length = taken .rom-length;
-      schedule = taken .schedule;
-      table = e;
-      register = h .valid .core .scalars .register;
-      stands = h .stands;
-      limit = omega (arith, h .rises, limit);
+    -- the runner jumps as if the limit were the end
+    jumps-alike : (b : Bool) → jumpBy b rom sched (stateAt p) left ≡ jumpBy b rom sched (stateAt p) (limit - p .number)
+    jumps-alike false = refl
+    jumps-alike true = v .cut (stateAt p) since more
+
+    pub length-is : {r : ℕ} → JumpsBy skips rom (p .core .flow .pc) (p .core .owed) (p .core .interrupt) (p .core .timer) (l .int) (limit - p .number) r
+        → r ≡ jumpBy skips rom sched (stateAt p) (limit - p .number)
+    length-is k =
+        k .length-is sched (stateAt p) (record { pc-is = refl; owed-is = refl; interrupt-is = refl; timer-is = refl })
+        (record { level-is = ap (λ (x : Lines). x .int) (v .lines (p .number) since more); no-record = v .no-record (p .number) since more })
+
+    -- A JUMP of j cycles
+    module _ {j : ℕ} (ahead : j ≡ jumpBy skips rom sched (stateAt p) (limit - p .number)) (some-ahead : j ≡ 0 → ⊥) where
+      is-length : (b : Bool) → j ≡ jumpBy b rom sched (stateAt p) (limit - p .number) → jumpLength rom sched (stateAt p) (limit - p .number) ≡ j
+      is-length false e = absurd (some-ahead e)
+      is-length true e = sym e
+
+      jump-is : jumpLength rom sched (stateAt p) (limit - p .number) ≡ j
+      jump-is = is-length skips ahead
+
+      stride-same : (i : ℕ) → (i ≡ 0 → ⊥) → strideOf i ≡ i
+      stride-same zero m = absurd (m refl)
+      stride-same (suc i) m = refl
+
+      jump-span : (b : Bool) → j ≡ jumpBy b rom sched (stateAt p) left → j ≡ spanOf upd546 rom sched b (stateAt p) (suc (left - 1))
+      jump-span false e = absurd (some-ahead e)
+      jump-span true e = sym (stride-same j some-ahead) ∙ ap strideOf (rw one-more at e)
+
+      pub jumpable : (positions registers : List ℕ) → positions ≡ positionTable → registers ≡ registerTable → Jumpable positions registers (p .core) j
+      jumpable positions registers e f = record {
+        position-table = e;
+        register-table = f;
+        runs = jump-runs rom sched (stateAt p) (limit - p .number) j jump-is some-ahead;
+        register = h .valid .core .scalars .register;
+        ticks = jump-ticks rom sched (stateAt p) (limit - p .number) j jump-is some-ahead;
+      }
+
+      -- it doesn't lead past the limit, so the counts fit
+      pub jump-small : (p .number + j ≤ limit) × (limit ≤ cycleLimit) × (p .begun ≤ p .number) × (p .spared ≤ p .number) × (1 ≤ j)
+      jump-small =
+          let most : j ≤ limit - p .number = subst (λ (i : ℕ). i ≤ limit - p .number) jump-is (jump-within rom sched (stateAt p) (limit - p .number)) in
+          (omega (arith, most, more), omega (arith, v .in-run, v .in-limit), omega (arith, h .few), omega (arith, h .less), omega (arith, some-ahead))
+
+      pub jumps-on : {core : Core} → core ≡ coreAfterJump j (p .core)
+          → At skips rom sched log₀ n s (record {
+            core = core;
+            ram = p .ram;
+            ports = p .ports;
+            log = p .log;
+            at = p .at;
+            number = p .number + j;
+            begun = p .begun + j;
+            spared = p .spared + (j - 1);
+          })
+      jumps-on q =
+          let z = jump-small in
+          let c : done + j ≡ p .number + j - s .cycle .0 = omega (arith, h .from) in
+          let k = steps-after done (p .spared) j (h .less) (z .4) ∙ ap (λ (i : ℕ). i - (p .spared + (j - 1))) c in
+          let m = left-after (s .cycle .0 + n) (p .number) j (omega (arith, more, v .in-run)) in
+          let half = loop-goes upd546 rom sched skips _ (length log₀) (stateAt p) (h .w) done (p .begun) (done - p .spared) (left - 1) on (stateAfterJump j (stateAt p)) [] j j
+          (jump-span skips (ahead ∙ sym (jumps-alike skips))) (z .4) (jump-in-room rom sched (stateAt p) (limit - p .number) j jump-is some-ahead (h .valid) (length log₀ - length (h .w))) in
+          rw q
+          (record {
+            w = h .w;
+            not-refused = h .not-refused;
+            rom-bytes = h .rom-bytes;
+            sched-bytes = h .sched-bytes;
+            valid = jump-keeps rom sched (stateAt p) (limit - p .number) j panel (h .valid) (omega (arith, z .0, z .1)) jump-is some-ahead;
+            from = omega (arith, h .from);
+            not-past = omega (arith, z .0, v .in-run);
+            few = subst (λ (i : ℕ). p .begun + j ≤ i) c (omega (arith, h .few));
+            less = subst (λ (i : ℕ). p .spared + (j - 1) ≤ i) c (less-after done (p .spared) j (h .less));
+            place = h .place;
+            room = h .room;
+            log-is = h .log-is;
+            half = rw (append-nil, c, k, m) at half;
+          })
+
+    -- A TURN
+    none-ahead : (b : Bool) → 0 ≡ jumpBy b rom sched (stateAt p) (limit - p .number) → b ≡ true → jumpLength rom sched (stateAt p) (limit - p .number) ≡ 0
+    none-ahead false e q = absurd (differ q)
+    none-ahead true e q = sym e
+
+    pub turn-asks : (table positions : List ℕ) → table ≡ instructionTable → positions ≡ positionTable → 0 ≡ jumpBy skips rom sched (stateAt p) (limit - p .number)
+        → Turn skips rom sched table positions l limit (stateAt p) (p .log) (p .at) (p .begun)
+    turn-asks table positions e f z = record {
+      lent = record { panel = panel; rom-length = taken .rom-length; instructions = e; position-table = f };
+      lines = λ i a b. v .lines i (omega (arith, since, a)) b;
+      ahead = more;
+      in-limit = omega (arith, v .in-run, v .in-limit);
+      valid = h .valid;
+      no-jump = none-ahead skips z;
+      place = omega (arith, h .place, h .room, log-length);
+      few = omega (arith, h .few);
     }
 
-  -- THE NEXT STEP is a jump of j cycles
-  pub record Jumps (j : ℕ) : Type 0 where
-    pub more : done < n
-    pub ahead : j ≡ jumpBy skips rom sched t (n - done)
-    pub some-ahead : j ≡ 0 → ⊥
+    room-same : length (p .log) - p .at ≡ length log₀ - length (h .w)
+    room-same = omega (arith, log-length, h .place)
 
-  -- THE NEXT STEPS are a turn, which answers r and leaves RAM, latches and the part of the log that it was lent
-  pub record Turns (r : Stretch) (ram ports part : List ℕ) : Type 0 where
-    pub more : done < n
-    pub none-ahead : 0 ≡ jumpBy skips rom sched t (n - done)
-    pub answers : Turned skips rom sched (cursor .next) (n - done) t (midOf at (length log - at) log) r ram ports part
+    module _ {r : Stretch} {ram ports log′ : List ℕ} (no-jump : 0 ≡ jumpBy skips rom sched (stateAt p) (limit - p .number))
+        (k : Turned skips rom sched limit (stateAt p) (p .log) (p .at) (p .begun) r ram ports log′) where
+      one-cycle-span : (b : Bool) → 0 ≡ jumpBy b rom sched (stateAt p) left → spanOf upd546 rom sched b (stateAt p) (suc (left - 1)) ≡ 1
+      one-cycle-span false e = refl
+      one-cycle-span true e = ap strideOf (sym (rw one-more at e))
 
-module _ {skips : Bool} {rom sched log₀ : List ℕ} {n : ℕ} {s : State} {log : List ℕ} {t : State} {cursor : Cursor} {at done begun spared : ℕ}
-    {h : At skips rom sched log₀ n s log t cursor at done begun spared} {j : ℕ} (k : Jumps h j) where
-  is-length : (b : Bool) → j ≡ jumpBy b rom sched t (n - done) → jumpLength rom sched t (n - done) ≡ j
-  is-length false e = absurd (k .some-ahead e)
-  is-length true e = sym e
+      -- that is begun not at all
+      module _ (g : r .stop ≡ 0 → ⊥) where
+        stop-is : whole skips rom sched log₀ n s ≡ record { ran = sofar (stateAt p) (h .w) done (p .begun) (some (r .stop)); steps = done - p .spared }
+        stop-is =
+            loop-stops upd546 rom sched skips _ (length log₀) (stateAt p) (h .w) done (p .begun) (done - p .spared) (left - 1) on (r .stop)
+            (ap₂ (λ (room j : ℕ). within upd546 rom sched room j (stateAt p)) (sym room-same) (one-cycle-span skips (no-jump ∙ sym (jumps-alike skips))) ∙ k .held g .stops)
 
-  length-is : jumpLength rom sched t (n - done) ≡ j
-  length-is = is-length skips (k .ahead)
+        -- the answer of a run that stops here
+        pub stops : {state : State} → state ≡ stateOf (p .core) ram ports (p .number)
+            → record { end = endWith (some (r .stop)); state = state; cycles = done; clocks = 4 * done; begun = p .begun; written = p .at; steps = done - p .spared; log = log′ }
+            ≡ runBy skips rom sched s log₀ n
+        stops q =
+            let o = k .held g in
+            let same = q ∙ ap₂ (λ (x y : List ℕ). stateOf (p .core) x y (p .number)) (o .ram-is) (o .ports-is) in
+            rw (same, o .log-is) (tells (some (r .stop)) stop-is)
 
-  stride-same : (i : ℕ) → (i ≡ 0 → ⊥) → strideOf i ≡ i
-  stride-same zero m = absurd (m refl)
-  stride-same (suc i) m = refl
+        -- the log is as long as it was
+        pub stop-length : length log′ ≡ length log₀
+        stop-length = ap length (k .held g .log-is) ∙ log-length
 
-  jump-span : (b : Bool) → j ≡ jumpBy b rom sched t (n - done) → j ≡ spanOf upd546 rom sched b t (suc (n - (done + 1)))
-  jump-span false e = absurd (k .some-ahead e)
-  jump-span true e = sym (stride-same j (k .some-ahead)) ∙ ap strideOf (rw (one-more h (k .more)) at e)
+        pub stop-known : (r .stop ≡ 3 → ⊥) → StopNumber (r .stop)
+        stop-known = k .held g .known
 
-  pub jumpable : (positions registers : List ℕ) → positions ≡ positionTable → registers ≡ registerTable → Jumpable positions registers (t .core) j
-  jumpable positions registers e f = record {
-    position-table = e;
-    register-table = f;
-    runs = jump-runs rom sched t (n - done) j length-is (k .some-ahead);
-    register = h .valid .core .scalars .register;
-    ticks = jump-ticks rom sched t (n - done) j length-is (k .some-ahead);
-  }
+      module _ (g : r .stop ≡ 0) where
+        -- the cycles of the turn, and what they append
+        x : List ℕ
+        x = k .went g .w
 
-  -- no jump leads past the last cycle, so the counts fit
-  pub within-run : j ≤ n - done
-  within-run = subst (λ (i : ℕ). i ≤ n - done) length-is (jump-within rom sched t (n - done))
+        here : State
+        here = stateOf (r .core) ram ports (r .cycle)
 
-  pub stands-before : Stands sched (t .cycle .0 + (j - 1)) cursor
-  stands-before =
-      let more = k .more in
-      subst (λ (c : ℕ). Stands sched c cursor) (last-before (t .cycle .0) j (k .some-ahead))
-      (stands-last rom sched t (n - done) j cursor (taken h .schedule) (h .stands) (omega (arith, h .rises, limit h)) length-is (k .some-ahead))
+        kept : Kept (stateAt p) here (k .went g .d) (k .went g .b) (limit - p .number)
+        unfolding here
+        kept =
+            singly-keeps rom sched skips (length (p .log) - p .at) (limit - p .number) (stateAt p) panel (h .valid) (omega (arith, more, v .in-run, v .in-limit)) here _
+            (k .went g .d) (k .went g .b) (k .went g .steps)
 
-  pub jumps-on : (next : Cursor) → Stands sched (t .cycle .0 + (j - 1) + 1) next
-      → {t′ : State} → t′ ≡ stateOf (coreAfterJump j (t .core)) (t .ram) (t .ports) (s .cycle .0 + (done + j))
-      → At skips rom sched log₀ n s log t′ next at (done + j) (begun + j) (spared + (j - 1))
-  jumps-on next stands q =
-      let panel : Panel upd546 rom sched = record { rom-bytes = h .rom-bytes; sched-bytes = h .sched-bytes; not-refused = taken h .panel } in
-      let up : t .cycle .0 + j ≡ s .cycle .0 + (done + j) = omega (arith, h .rises) in
-      let to-is = q ∙ ap (λ (c : ℕ). stateOf (coreAfterJump j (t .core)) (t .ram) (t .ports) c) (sym up) in
-      let steps = steps-after done spared j (h .less) (k .some-ahead) in
-      let left = left-after n done j (k .more) in
-      let half = loop-goes upd546 rom sched skips _ (length log₀) t (h .w) done begun (done - spared) (n - (done + 1)) (on h (k .more)) (stateAfterJump j t) [] j j
-      (jump-span skips (k .ahead)) (some-one j (k .some-ahead)) (jump-in-room rom sched t (n - done) j length-is (k .some-ahead) (h .valid) (length log₀ - length (h .w))) in
-      rw to-is
-      (record {
-        w = h .w;
-        number = h .number;
-        rom-bytes = h .rom-bytes;
-        sched-bytes = h .sched-bytes;
-        rises = up;
-        valid = jump-keeps rom sched t (n - done) j panel (h .valid)
-            (limit-after (t .cycle .0) (s .cycle .0) n done j (h .rises) (h .not-past) (limit h) within-run) length-is (k .some-ahead);
-        stands = subst (λ (c : ℕ). Stands sched c next) (last-next (t .cycle .0) j (k .some-ahead)) stands;
-        not-past = end-after n done j (h .not-past) within-run;
-        few = few-after done begun j (h .few);
-        less = less-after done spared j (h .less);
-        place = h .place;
-        room = h .room;
-        size = h .size;
-        log-is = h .log-is;
-        half = rw (append-nil, steps, left) at half;
-      })
+        steps : OneByOne upd546 rom sched skips (length log₀ - length (h .w)) left (stateAt p) here x (k .went g .d) (k .went g .b)
+        unfolding here x
+        steps =
+            let all = longer rom sched skips (length (p .log) - p .at) (limit - p .number) left (stateAt p) panel (h .valid) (omega (arith, more, v .in-run, v .in-limit))
+            (omega (arith, v .in-run)) cut-at here (k .went g .w) (k .went g .d) (k .went g .b) (k .went g .steps) in
+            rw room-same at all
+          where
+            cut-at : (t : State) (d : ℕ) → t .cycle .0 ≡ p .number + d → d < limit - p .number → jumpLength rom sched t (limit - p .number - d) ≡ 0
+                → jumpLength rom sched t (left - d) ≡ 0
+            cut-at t d e q z =
+                let a : left - d ≡ s .cycle .0 + n - t .cycle .0 = omega (arith, e) in
+                let b : limit - t .cycle .0 ≡ limit - p .number - d = omega (arith, e) in
+                ap (jumpLength rom sched t) a ∙ v .cut t (omega (arith, e, since)) (omega (arith, e, q)) ∙ ap (jumpLength rom sched t) b ∙ z
 
-  pub jumps-forward : {log′ ram′ ports′ : List ℕ} {core′ : Core} {at′ begun′ spared′ span : ℕ} → log′ ≡ log
-      → core′ ≡ coreAfterJump j (t .core) → ram′ ≡ t .ram → ports′ ≡ t .ports → at′ ≡ at → begun′ ≡ begun + j → spared′ ≡ spared + (j - 1) → span ≡ j
-      → Forward skips rom sched log₀ n s t cursor done log′ core′ ram′ ports′ at′ begun′ spared′ span
-  jumps-forward e₁ e₂ e₃ e₄ e₅ e₆ e₇ e₈ =
-      rw (e₁, e₂, e₃, e₄, e₅, e₆, e₇, e₈)
-      (record { some-cycles = some-one j (k .some-ahead); within-run = within-run; stands = stands-before; on = λ next stands. jumps-on next stands refl })
+        fits-room : length x ≤ length log₀ - length (h .w)
+        fits-room = room-kept steps
+          where
+            room-kept : {t : State} {w : List ℕ} {d b : ℕ} → OneByOne upd546 rom sched skips (length log₀ - length (h .w)) left (stateAt p) t w d b → length w ≤ length log₀ - length (h .w)
+            room-kept no-cycle = omega arith
+            room-kept (also x e o q f l z) = f
 
-module _ {skips : Bool} {rom sched log₀ : List ℕ} {n : ℕ} {s : State} {log : List ℕ} {t : State} {cursor : Cursor} {at done begun spared : ℕ}
-    {h : At skips rom sched log₀ n s log t cursor at done begun spared} {r : Stretch} {ram ports part : List ℕ} (k : Turns h r ram ports part) where
-  one-cycle-span : (b : Bool) → 0 ≡ jumpBy b rom sched t (n - done) → spanOf upd546 rom sched b t (suc (n - (done + 1))) ≡ 1
-  one-cycle-span false e = refl
-  one-cycle-span true e = ap strideOf (sym (rw (one-more h (k .more)) at e))
+        -- it leads on, and not past the limit
+        pub turn-small : (p .number < r .cycle) × (r .cycle ≤ limit)
+        turn-small =
+            let o = k .went g in
+            (omega (arith, o .cycle-is, o .some-cycles), omega (arith, o .cycle-is, kept .within-run, more))
 
-  -- what is known of a turn that is begun not at all
-  module _ (g : r .stop ≡ 0 → ⊥) where
-    stop-is : whole skips rom sched log₀ n s ≡ record { ran = sofar t (h .w) done begun (some (r .stop)); steps = done - spared }
-    stop-is =
-        loop-stops upd546 rom sched skips _ (length log₀) t (h .w) done begun (done - spared) (n - (done + 1)) (on h (k .more)) (r .stop)
-        (ap₂ (λ (room j : ℕ). within upd546 rom sched room j t) (sym (lent-length h)) (one-cycle-span skips (k .none-ahead)) ∙ k .answers .held g .stops)
-
-    -- the answer of a run that stops here
-    pub stops : {state : State} → state ≡ stateOf (t .core) ram ports (t .cycle .0)
-        → record {
-          end = endWith (some (r .stop));
-          state = state;
-          cycles = done;
-          clocks = 4 * done;
-          begun = begun;
-          written = at;
-          steps = done - spared;
-          log = putMid at (length log - at) log part;
-        }
-        ≡ runBy skips rom sched s log₀ n
-    stops q =
-        let o = k .answers .held g in
-        let same = q ∙ ap₂ (λ (x y : List ℕ). stateOf (t .core) x y (t .cycle .0)) (o .ram-is) (o .ports-is) in
-        rw (same, o .log-is, lent-back h) (tells h (some (r .stop)) stop-is)
-
-    -- the log is as long as it was
-    pub stop-length : length (putMid at (length log - at) log part) ≡ length log₀
-    stop-length = ap (λ (l : List ℕ). length (putMid at (length log - at) log l)) (k .answers .held g .log-is) ∙ ap length (lent-back h) ∙ h .size
-
-    pub stop-known : (r .stop ≡ 3 → ⊥) → StopNumber (r .stop)
-    stop-known = k .answers .held g .known
-
-  module _ (g : r .stop ≡ 0) where
-    -- the cycles of the turn, and what they append
-    x : List ℕ
-    x = k .answers .went g .w
-
-    steps : OneByOne upd546 rom sched skips (length log₀ - length (h .w)) (n - done) t (stateOf (r .core) ram ports (t .cycle .0 + r .cycles)) x (r .cycles) (r .begun)
-    unfolding x
-    steps = rw (lent-length h) at (k .answers .went g .steps)
-
-    kept : Kept t (stateOf (r .core) ram ports (t .cycle .0 + r .cycles)) (r .cycles) (r .begun) (n - done)
-    kept =
-        singly-keeps rom sched skips (length log₀ - length (h .w)) (n - done) t (panel h (k .more)) (h .valid) (omega (arith, h .rises, limit h, h .not-past))
-        (stateOf (r .core) ram ports (t .cycle .0 + r .cycles)) x (r .cycles) (r .begun) steps
-
-    fits-room : length x ≤ length log₀ - length (h .w)
-    fits-room = room-kept steps
-      where
-        room-kept : {t′ : State} {w : List ℕ} {d b : ℕ} → OneByOne upd546 rom sched skips (length log₀ - length (h .w)) (n - done) t t′ w d b → length w ≤ length log₀ - length (h .w)
-        room-kept no-cycle = omega arith
-        room-kept (also x e o q f l z) = f
-
-    -- no more is begun than there are cycles, and no more is written than the log holds
-    pub counts : (r .begun ≤ n - done) × (at + r .bytes ≤ length log₀)
-    unfolding x
-    counts = (omega (arith, kept .few, kept .within-run), omega (arith, k .answers .went g .bytes-is, fits-room, h .place, h .room))
-
-    pub goes-on : (next : Cursor) → Stands sched (t .cycle .0 + r .cycles) next → {t′ : State} → t′ ≡ stateOf (r .core) ram ports (s .cycle .0 + (done + r .cycles))
-        → At skips rom sched log₀ n s (putMid at (length log - at) log part) t′ next (at + r .bytes) (done + r .cycles) (begun + r .begun) spared
-    unfolding x
-    goes-on next stands q =
-        let o = k .answers .went g in
-        let up : t .cycle .0 + r .cycles ≡ s .cycle .0 + (done + r .cycles) = omega (arith, h .rises) in
-        let to-is = q ∙ ap (λ (c : ℕ). stateOf (r .core) ram ports c) (sym up) in
-        let front : take at log ≡ h .w = ap (take at) (h .log-is) ∙ take-at (h .w) _ at (sym (h .place)) in
-        let long : length (h .w) + length x ≡ length (h .w ++ x) = sym (length-append (h .w) x) in
-        let log-now : putMid at (length log - at) log part ≡ (h .w ++ x) ++ drop (length (h .w ++ x)) log₀ =
-        put-tail at log part
-        ∙ ap₂ _++_ front (o .log-is ∙ ap (λ (z : List ℕ). x ++ drop (length x) z) (lent-is h))
-        ∙ ap (λ (z : List ℕ). h .w ++ (x ++ z)) (drop-drop (length x) (length (h .w)) log₀ ∙ ap (λ (i : ℕ). drop i log₀) long)
-        ∙ sym (append-assoc (h .w) x (drop (length (h .w ++ x)) log₀)) in
-        let fits : length (h .w ++ x) ≤ length log₀ = omega (arith, long, fits-room, h .room) in
-        let counted : done - spared + r .cycles ≡ done + r .cycles - spared = omega (arith, h .less) in
-        let left : n - done - r .cycles ≡ n - (done + r .cycles) = omega arith in
-        let half = loop-goes-singly upd546 rom sched skips _ (length log₀) t (h .w) done begun (done - spared) (n - done) (h .half) steps in
-        rw to-is
-        (record {
-          w = h .w ++ x;
-          number = h .number;
-          rom-bytes = h .rom-bytes;
-          sched-bytes = h .sched-bytes;
-          rises = up;
-          valid = kept .valid;
-          stands = stands;
-          not-past = omega (arith, kept .within-run, h .not-past);
-          few = omega (arith, h .few, kept .few);
-          place = ap₂ _+_ (h .place) (o .bytes-is) ∙ long;
-          room = fits;
-          size = ap length log-now ∙ length-append (h .w ++ x) (drop (length (h .w ++ x)) log₀) ∙ omega (arith, length-drop (length (h .w ++ x)) log₀, fits);
-          log-is = log-now;
-          less = omega (arith, h .less);
-          half = rw (counted, left) at half;
+        pub goes-on : At skips rom sched log₀ n s (record {
+          core = r .core;
+          ram = ram;
+          ports = ports;
+          log = log′;
+          at = r .at;
+          number = r .cycle;
+          begun = r .begun;
+          spared = p .spared;
         })
+        unfolding x here
+        goes-on =
+            let o = k .went g in
+            let z = turn-small in
+            let long : length (h .w) + length (o .w) ≡ length (h .w ++ o .w) = sym (length-append (h .w) (o .w)) in
+            let at-log : p .log ≡ h .w ++ drop (p .at) log₀ = h .log-is ∙ ap (λ (i : ℕ). h .w ++ drop i log₀) (sym (h .place)) in
+            let end-is : p .at + length (o .w) ≡ length (h .w ++ o .w) = omega (arith, h .place, long) in
+            let c : done + o .d ≡ r .cycle - s .cycle .0 = omega (arith, o .cycle-is, h .from) in
+            let y = steps-more done (p .spared) (o .d) (h .less) ∙ ap (λ (i : ℕ). i - p .spared) c in
+            let m = left-more (s .cycle .0 + n) (p .number) (o .d) ∙ ap (λ (i : ℕ). s .cycle .0 + n - i) (sym (o .cycle-is)) in
+            let half = loop-goes-singly upd546 rom sched skips _ (length log₀) (stateAt p) (h .w) done (p .begun) (done - p .spared) left (h .half) steps in
+            record {
+              w = h .w ++ o .w;
+              not-refused = h .not-refused;
+              rom-bytes = h .rom-bytes;
+              sched-bytes = h .sched-bytes;
+              valid = kept .valid;
+              from = omega (arith, h .from, z .0);
+              not-past = omega (arith, z .1, v .in-run);
+              few = omega (arith, h .few, kept .few, o .begun-is, c);
+              less = omega (arith, h .less, z .0);
+              place = o .at-is ∙ end-is;
+              room = omega (arith, long, fits-room, h .room);
+              log-is = put-next log₀ (p .log) (h .w) (o .w) (p .at) (sym (h .place)) at-log (o .log-is) ∙ ap (λ (i : ℕ). h .w ++ o .w ++ drop i log₀) end-is;
+              half = rw (c, y, m, sym (o .begun-is)) at half;
+            }
 
-    pub turn-forward : {log′ ram′ ports′ : List ℕ} {core′ : Core} {at′ begun′ spared′ span : ℕ} → log′ ≡ putMid at (length log - at) log part
-        → core′ ≡ r .core → ram′ ≡ ram → ports′ ≡ ports → at′ ≡ at + r .bytes → begun′ ≡ begun + r .begun → spared′ ≡ spared → span ≡ r .cycles
-        → Forward skips rom sched log₀ n s t cursor done log′ core′ ram′ ports′ at′ begun′ spared′ span
-    turn-forward e₁ e₂ e₃ e₄ e₅ e₆ e₇ e₈ =
-        let o = k .answers .went g in
-        let here : t .cycle .0 + (r .cycles - 1) + 1 ≡ t .cycle .0 + r .cycles = omega (arith, o .some-cycles) in
-        rw (e₁, e₂, e₃, e₄, e₅, e₆, e₇, e₈)
-        (record {
-          some-cycles = o .some-cycles;
-          within-run = kept .within-run;
-          stands = stays sched (schedule-taken h) (t .cycle .0) (t .cycle .0 + (r .cycles - 1)) cursor (h .stands) (omega arith) (omega (arith, o .some-cycles, o .no-record));
-          on = λ next stands. goes-on next (subst (λ (c : ℕ). Stands sched c next) here stands) refl;
-        })
+-- THE LOOPS' INVARIANTS
+
+-- by records: the loop stands at p, and the cursor at its cycle
+pub record ByRecords (skips : Bool) (rom sched log₀ : List ℕ) (n : ℕ) (s : State) (cursor : Cursor) (p : Place) : Type 0 where
+  pub at : At skips rom sched log₀ n s p
+  pub stands : Stands sched (p .number) cursor
+
+-- up to the limit: from q, where the loop by records stood, to p
+pub record ToLimit (skips : Bool) (rom sched : List ℕ) (n start limit : ℕ) (q p : Place) : Type 0 where
+  pub at : {core : Core} {ram ports log₀ : List ℕ} → At skips rom sched log₀ n (stateOf core ram ports start) q → At skips rom sched log₀ n (stateOf core ram ports start) p
+  pub later : q .number ≤ p .number
+  pub within-limit : p .number ≤ limit

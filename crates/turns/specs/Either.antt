@@ -4,28 +4,16 @@ use mathlib.Core.Bool.{Bool, true, false}
 use mathlib.Core.List.{List}
 use Prim.Native.Nat.{ℕ}
 use Rattle.runs.specs.TwoRunners.{RunAnswer, runNumber, plain, skipping}
-use Rattle.upd546.specs.declared.Interrupt.{Interrupt}
-use Rattle.upd546.specs.declared.Timer.{Timer}
 use Rattle.upd546.specs.declared.State.{State}
-use Rattle.upd546.specs.TwoRunners.{jumpLength, upd546}
+use Rattle.upd546.specs.TwoRunners.{upd546}
 use Rattle.tables.specs.Tables.{instructionTable, positionTable, registerTable}
 use Rattle.schedule.specs.declared.Cursor.{Cursor}
 use Rattle.schedule.specs.Cursor.{Stands}
-use Rattle.jump.specs.Boundary.{Shows}
 
 -- the timer-skipping runner where `skips` is true, else the plain one
 abbrev pub runBy : Bool → List ℕ → List ℕ → State → List ℕ → ℕ → RunAnswer State
 runBy false rom sched s log n = plain upd546 rom sched s log n
 runBy true rom sched s log n = skipping upd546 rom sched s log n
-
--- the cycles that its next step jumps
-abbrev pub jumpBy : Bool → List ℕ → List ℕ → State → ℕ → ℕ
-jumpBy false rom sched s left = 0
-jumpBy true rom sched s left = jumpLength rom sched s left
-
--- r is that number for every state that shows this
-pub record Ahead (skips : Bool) (rom sched : List ℕ) (pc owed : ℕ) (interrupt : Interrupt) (timer : Timer) (n left r : ℕ) : Type 0 where
-  pub ahead-is : (s : State) → Shows s pc owed interrupt timer n → r ≡ jumpBy skips rom sched s left
 
 -- what the loop starts with: a run that isn't refused, the tables, and a cursor that stands at the state's cycle
 pub record Set (rom sched table positions registers : List ℕ) (s : State) (first : Cursor) (n : ℕ) : Type 0 where

@@ -10,12 +10,10 @@ use tables::InstructionTable;
 use tables::PositionTable;
 use tables::RegisterTable;
 use upd546::Core;
-use upd546::Interrupt;
 use upd546::LATCHES;
 use upd546::RAM_WORDS;
 use upd546::RunAnswer;
 use upd546::State;
-use upd546::Timer;
 ghost use mathlib.Core.Path.{_≡_};
 ghost use Prim.Native.Nat.{_-_, _*_, _≤_};
 ghost use Rattle.runs.specs.Numbers.{stopNumber};
@@ -23,9 +21,8 @@ ghost use Rattle.runs.specs.Refusals.{cycleLimit};
 ghost use Rattle.runs.specs.Reports.{clocksPerCycle, clocksOf};
 ghost use Rattle.upd546.specs.TwoRunners.{answerOf};
 ghost use Rattle.upd546.specs.Parts.{stateOf};
-ghost use Rattle.jump.specs.Boundary.{Boundary};
 ghost use Rattle.laws.specs.Stops.{StopNumber};
-ghost use Rattle.turns.specs.Either.{Ahead, Set, runBy};
+ghost use Rattle.turns.specs.Either.{Set, runBy};
 
 // The stop of a number.
 fn stop_of(k: u8) -> Stop
@@ -81,40 +78,6 @@ fn answer(
     }
 }
 
-// The cycles that the next step jumps, or 0: the plain runner never jumps.
-fn jump_ahead(
-    rom: &[u8],
-    sched: &[u8],
-    positions: &PositionTable,
-    pc: u16,
-    owed: u8,
-    interrupt: Interrupt,
-    timer: Timer,
-    cursor: Cursor,
-    number: u64,
-    left: u64,
-    skips: bool,
-) -> u64
-    requires { ⌜ Boundary (now rom) (now sched) (now positions) timer cursor number left ⌝ }
-    ensures { λ r. ⌜ Ahead skips (now (rom .entry)) (now (sched .entry)) pc owed interrupt timer number left r ⌝ }
-{
-    if skips {
-        return jump::jump_length(
-            rom,
-            sched,
-            positions,
-            pc,
-            owed,
-            interrupt,
-            timer,
-            cursor,
-            number,
-            left,
-        );
-    }
-    0
-}
-
 // The loop of both runners, from the state s on with its cursor and the tables. `spared` counts the cycles that took no step of
 // their own.
 pub fn run_loop(
@@ -133,79 +96,66 @@ pub fn run_loop(
     ensures { λ r. ⌜ answerOf r (now (log .exit)) ≡ runBy skips (now (rom .entry)) (now (sched .entry)) s (now (log .entry)) n ⌝ }
 {
     let start = s.cycle.0;
+    let end = start + n;
     let mut core = s.core;
     let mut ram = s.ram;
     let mut ports = s.ports;
     let mut cursor = first;
     let mut at: usize = 0;
-    let mut done: u64 = 0;
+    let mut number = start;
     let mut begun: u64 = 0;
     let mut spared: u64 = 0;
-    while done < n {
-        let number = start + done;
-        let j = jump_ahead(
-            rom,
-            sched,
-            positions,
-            core.flow.pc,
-            core.owed,
-            core.interrupt,
-            core.timer,
-            cursor,
-            number,
-            n - done,
-            skips,
-        );
-        let mut span: u64 = 1;
-        if j != 0 {
-            core = jump::core_after_jump(positions, registers, core, j);
-            begun = begun + j;
-            spared = spared + (j - 1);
-            span = j;
-        } else {
-            let lines = cursor.lines;
-            let next = cursor.next;
-            let o = burst::turn(
+    while number < end {
+        let lines = cursor.lines;
+        let limit = jump::lesser(end, cursor.next);
+        while number < limit {
+            let j = jump::jump_length(
                 rom,
-                sched,
-                table,
                 positions,
-                registers,
-                core,
-                &mut ram,
-                &mut ports,
-                &mut log[at..],
-                lines,
-                next,
-                number,
-                n - done,
                 skips,
+                core.flow.pc,
+                core.owed,
+                core.interrupt,
+                core.timer,
+                lines.int,
+                limit - number,
             );
-            if o.stop != 0 {
-                let stop = RunEnd::Stopped(stop_of(o.stop));
-                return answer(
-                    stop,
-                    state_of(core, ram, ports, number),
-                    done,
-                    begun,
+            if j != 0 {
+                core = jump::core_after_jump(positions, registers, core, j);
+                begun = begun + j;
+                spared = spared + (j - 1);
+                number = number + j;
+            } else {
+                let o = burst::turn(
+                    rom,
+                    sched,
+                    table,
+                    positions,
+                    registers,
+                    core,
+                    &mut ram,
+                    &mut ports,
+                    log,
                     at,
-                    spared,
+                    lines,
+                    number,
+                    limit,
+                    begun,
+                    skips,
                 );
+                if o.stop != 0 {
+                    let stop = RunEnd::Stopped(stop_of(o.stop));
+                    let state = state_of(core, ram, ports, number);
+                    return answer(stop, state, number - start, begun, at, spared);
+                }
+                core = o.core;
+                at = o.at;
+                begun = o.begun;
+                number = o.cycle;
             }
-            core = o.core;
-            at = at + o.bytes;
-            begun = begun + o.begun;
-            span = o.cycles;
         }
-        cursor = schedule::moved(sched, cursor, MachineCycles(number + (span - 1)));
-        done = done + span;
+        cursor = schedule::moved(sched, cursor, MachineCycles(number - 1));
     }
-    answer(
-        RunEnd::Finished,
-        state_of(core, ram, ports, start + done),
-        done,
-        begun,
-        at,
-        spared,
-    )
+    let state = state_of(core, ram, ports, number);
+    answer(RunEnd::Finished, state, number - start, begun, at, spared)
 }

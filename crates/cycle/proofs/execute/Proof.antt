@@ -23,7 +23,7 @@ returns c =
     let at-fetch-at = at-if1 .before .before in
     let a = at-fetch-at .before .before .before .args in
     rw (c .held .ensures)
-    (holds-fetch (now (a .rom)) (a .lines) (stateOf (a .c) (now (a .ram)) (now (a .ports)) (a .start + a .done)) (a .c) (a .at) (now (a .log))
+    (holds-fetch (now (a .rom)) (a .lines) (stateOf (a .c) (now (a .ram)) (now (a .ports)) (a .number)) (a .c) (a .at) (now (a .log))
     (at-fetch-at .fetch-at .result .stop) (at-if1 .if1 .taken) (at-fetch-at .fetch-at .ensures .stop))
 
 outcome-requires : tie.Need-outcome-requires
@@ -35,8 +35,8 @@ outcome-requires c κs =
     let f = at-fetch-at .fetch-at .ensures in
     let left = at-if1 .if1 .left in
     let r = at-entry .pre .0 in
-    let b = begins (now (a .rom)) (a .lines) (now (a .ram)) (now (a .ports)) (a .start + a .done) (a .c) (at-fetch-at .fetch-at .result) (sym (f .stop) ∙ left) (f .begins left) r in
-    let o = outputs (now (a .rom)) (a .lines) (now (a .ram)) (now (a .ports)) (a .start + a .done) (a .c) (at-fetch-at .fetch-at .result) (sym (f .stop) ∙ left) (f .begins left) r in
+    let b = begins (now (a .rom)) (a .lines) (now (a .ram)) (now (a .ports)) (a .number) (a .c) (at-fetch-at .fetch-at .result) (sym (f .stop) ∙ left) (f .begins left) r in
+    let o = outputs (now (a .rom)) (a .lines) (now (a .ram)) (now (a .ports)) (a .number) (a .c) (at-fetch-at .fetch-at .result) (sym (f .stop) ∙ left) (f .begins left) r in
     record { writes = record { begins = b; outputs = o; latches = r .valid .ports; place = at-entry .pre .1; below = r .below }; words = r .valid .ram }
 
 same-length : tie.Need-same-length
@@ -50,10 +50,10 @@ returns-2 c =
     let a = at-fetch-at .before .before .before .args in
     let f = at-fetch-at .fetch-at .ensures in
     let left = at-if1 .if1 .left in
-    let s = stateOf (a .c) (now (a .ram)) (now (a .ports)) (a .start + a .done) in
+    let s = stateOf (a .c) (now (a .ram)) (now (a .ports)) (a .number) in
     at-outcome .outcome .ensures
     ∙ ap (λ (o : Out State). answerOn (a .at) o s (now (a .log)))
-    (outcome-same (now (a .rom)) (a .lines) (now (a .ram)) (now (a .ports)) (a .start + a .done) (a .c) (at-fetch-at .fetch-at .result) (sym (f .stop) ∙ left) (f .begins left))
+    (outcome-same (now (a .rom)) (a .lines) (now (a .ram)) (now (a .ports)) (a .number) (a .c) (at-fetch-at .fetch-at .result) (sym (f .stop) ∙ left) (f .begins left))
 
 pub execute-spec : {M : Type 1} → statement M
 execute-spec =

@@ -5,9 +5,12 @@ use Rattle.upd546.specs.OneMachineCycle.{accepts as acceptsOf}
 use Rattle.steps.proofs.accepts.Statement.{statement}
 use Rattle.steps.proofs.accepts.Tie as tie
 
+blocks-requires : tie.Need-blocks-requires
+blocks-requires c κs = tt
+
 returns : tie.Need-returns
 unfolding acceptsOf allOf
-returns c = simp (and-assoc, and-true)
+returns c = rw (c .before .before .before .blocks2 .ensures) (simp (and-assoc, and-true))
 
 pub accepts-spec : {M : Type 1} → statement M
-accepts-spec = tie.close (tie.spec returns)
+accepts-spec = tie.close (tie.spec blocks-requires returns)

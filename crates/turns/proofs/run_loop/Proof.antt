@@ -1,259 +1,418 @@
--- The loop of both runners: where it stands, a jump, a stop, a cycle that is begun, the finish. Assumes nothing.
-use mathlib.Core.Path.{_≡_, refl, sym, _∙_}
-use mathlib.Core.Logic.{inl, inr}
-use Prim.Native.Nat.{_+_, _-_}
-use native.Mathlib.Nat.{add-zero}
+-- The loops of both runners: where they stand, a jump, a stop, a turn, the next record, the finish. Assumes nothing.
+use mathlib.Core.Path.{_≡_, _∙_, sym}
+use Prim.Native.Nat.{ℕ, _+_, _-_, _<_, _≤_}
 use native.Mathlib.Omega.{arith}
 use denote.Ref.{now}
+use Rattle.runs.specs.Refusals.{cycleLimit}
+use Rattle.jump.specs.Boundary.{jumpBy}
 use Rattle.upd546.specs.Parts.{stateOf}
-use Rattle.turns.specs.Either.{jumpBy}
-use Rattle.turns.proofs.Turning.{At, Forward, Jumps, Turns, starts, limit, schedule-taken, finishes, boundary, turn-asks, jumpable, within-run, jumps-forward, stops, stop-length, stop-known, counts, turn-forward}
-use borrow.Author.Needs.{needs}
+use Rattle.turns.proofs.Taken.{run-taken}
+use Rattle.turns.proofs.Turning.{Place, At, stateAt, Window, Ahead, ByRecords, ToLimit, limit-ahead, up-to-record, stands-last, stands-on, starts, limit-kept, log-length, schedule-taken, finishes, boundary, length-is, jumpable, jump-small, jumps-on, turn-asks, stops, stop-length, stop-known, turn-small, goes-on}
 use Rattle.turns.proofs.run_loop.Statement.{statement}
 use Rattle.turns.proofs.run_loop.Tie as tie
 
+abbrev Inv-loop2 : tie.InvT-loop2
+Inv-loop2 rom sched table positions registers log₀ n skips start end core₀ ram₀ ports₀ cursor at₀ number₀ begun₀ spared₀ lines limit log core ram ports at number begun spared =
+    ToLimit skips rom sched n start limit
+    (record { core = core₀; ram = ram₀; ports = ports₀; log = log₀; at = at₀; number = number₀; begun = begun₀; spared = spared₀ })
+    (record { core = core; ram = ram; ports = ports; log = log; at = at; number = number; begun = begun; spared = spared })
+
+abbrev μ-loop2 : tie.MeasureT-loop2
+μ-loop2 rom sched table positions registers log₀ n skips start end core₀ ram₀ ports₀ cursor at₀ number₀ begun₀ spared₀ lines limit log core ram ports at number begun spared =
+    limit - number
+
 abbrev Inv-loop : tie.InvT-loop
-Inv-loop rom sched table positions registers log₀ n skips start core₀ ram₀ ports₀ cursor₀ at₀ done₀ begun₀ spared₀ log core ram ports cursor at done begun spared =
-    At skips rom sched log₀ n (stateOf core₀ ram₀ ports₀ start) log (stateOf core ram ports (start + done)) cursor at done begun spared
+Inv-loop rom sched table positions registers log₀ n skips start end core₀ ram₀ ports₀ cursor₀ at₀ number₀ begun₀ spared₀ log core ram ports cursor at number begun spared =
+    ByRecords skips rom sched log₀ n (stateOf core₀ ram₀ ports₀ start) cursor
+    (record { core = core; ram = ram; ports = ports; log = log; at = at; number = number; begun = begun; spared = spared })
 
 abbrev μ-loop : tie.MeasureT-loop
-μ-loop rom sched table positions registers log₀ n skips start core₀ ram₀ ports₀ cursor₀ at₀ done₀ begun₀ spared₀ log core ram ports cursor at done begun spared =
-    n - done
+μ-loop rom sched table positions registers log₀ n skips start end core₀ ram₀ ports₀ cursor₀ at₀ number₀ begun₀ spared₀ log core ram ports cursor at number begun spared =
+    end - number
 
--- the length of the jump ahead, of the state where the loop stands
-ahead : (c : tie.After-jump-ahead Inv-loop μ-loop)
-    → let a = c .before .before .before .before .before .before .before .before .before .args in
-    let l = c .before .before .loop in
-    let t = stateOf (l .core) (l .ram) (l .ports) (a .s .cycle .0 + l .done) in
-    c .jump-ahead .result ≡ jumpBy (a .skips) (now (a .rom)) (now (a .sched)) t (a .n - l .done)
-ahead c = c .jump-ahead .ensures .ahead-is _ (record { pc-is = refl; owed-is = refl; interrupt-is = refl; timer-is = refl; cycle-is = refl })
+-- THE PLACES: each is counted here and nowhere else
 
--- a jump is next
-jumps : (c : tie.Then1 Inv-loop μ-loop) → Jumps (c .before .before .before .loop .inv) (c .before .jump-ahead .result)
-jumps c = record { more = c .before .before .loop-test .taken; ahead = ahead (c .before); some-ahead = c .if1 .taken }
+abbrev Before : Type 0
+Before = tie.After-ports Inv-loop2 μ-loop2 Inv-loop μ-loop
 
--- a turn is next, and has answered
-turned : (c : tie.After-turn Inv-loop μ-loop)
-    → Turns (c .before .before .before .before .before .before .before .before .loop .inv) (c .turn .result) (c .turn .last .1 .1 .1 .1 .1 .1 .0)
-    (c .turn .last .1 .1 .1 .1 .1 .1 .1 .0) (c .turn .last .1 .1 .1 .1 .1 .1 .1 .1 .0)
-turned c =
-    let at-if1 = c .before .before .before .before .before in
+abbrev Outer : Type 0
+Outer = tie.At-loop Inv-loop2 μ-loop2 Inv-loop μ-loop
+
+-- the limit is known
+abbrev Limited : Type 0
+Limited = tie.After-lesser Inv-loop2 μ-loop2 Inv-loop μ-loop
+
+abbrev Inner : Type 0
+Inner = tie.At-loop2 Inv-loop2 μ-loop2 Inv-loop μ-loop
+
+-- the length of the jump is known
+abbrev Measured : Type 0
+Measured = tie.After-jump-length Inv-loop2 μ-loop2 Inv-loop μ-loop
+
+abbrev Turn : Type 0
+Turn = tie.After-turn Inv-loop2 μ-loop2 Inv-loop μ-loop
+
+-- a jump is taken
+abbrev Jumping : Type 0
+Jumping = tie.Then1 Inv-loop2 μ-loop2 Inv-loop μ-loop
+
+-- none is: a turn is next
+abbrev Turning : Type 0
+Turning = tie.Else1 Inv-loop2 μ-loop2 Inv-loop μ-loop
+
+-- the turn stopped
+abbrev Stopping : Type 0
+Stopping = tie.Then2 Inv-loop2 μ-loop2 Inv-loop μ-loop
+
+-- it didn't
+abbrev Going : Type 0
+Going = tie.Else2 Inv-loop2 μ-loop2 Inv-loop μ-loop
+
+-- the limit is reached
+abbrev Ended : Type 0
+Ended = tie.After-loop2 Inv-loop2 μ-loop2 Inv-loop μ-loop
+
+abbrev slices : Before → tie.After-slice-known Inv-loop2 μ-loop2 Inv-loop μ-loop
+slices c = c .before .before .before
+
+abbrev entry : Before → tie.Start Inv-loop2 μ-loop2 Inv-loop μ-loop
+entry c = slices c .before .before .before
+
+abbrev records : Limited → tie.In-loop Inv-loop2 μ-loop2 Inv-loop μ-loop
+records c = c .before .before
+
+abbrev outer : Limited → Outer
+outer c = records c .before
+
+abbrev tested : Measured → tie.In-loop2 Inv-loop2 μ-loop2 Inv-loop μ-loop
+tested c = c .before
+
+abbrev inner : Measured → Inner
+inner c = tested c .before
+
+abbrev measured : Turn → Measured
+measured c = c .before .before .before .before .before
+
+abbrev turn-taken : Turn → Turning
+turn-taken c = c .before .before .before .before
+
+abbrev stopped-at : Stopping → Turn
+stopped-at c = c .before .before .before .before
+
+abbrev gone-at : Going → Turn
+gone-at c = c .before .before .before .before
+
+abbrev limit-of : Limited → ℕ
+limit-of c = c .lesser .result
+
+-- and the cycle from which on it holds
+abbrev from-of : Limited → ℕ
+from-of c = outer c .loop .number
+
+abbrev limited : Ended → Limited
+limited c = c .before .before
+
+-- WHAT IS KNOWN THERE
+
+wants-jump : (c : Jumping) → c .before .jump-length .result ≡ 0 → ⊥
+wants-jump c = c .if1 .taken
+
+stops-with : (c : Stopping) → stopped-at c .turn .result .stop ≡ 0 → ⊥
+stops-with c = c .if2 .taken
+
+goes-well : (c : Going) → gone-at c .turn .result .stop ≡ 0
+goes-well c = c .if2 .left
+
+before-record : (c : Limited) → limit-of c ≤ outer c .loop .cursor .next
+before-record c = omega (arith, c .lesser .ensures)
+
+-- where the loop by records stands
+by-records : (c : Outer)
+    → let a = entry (c .before) .args in
+    let l = c .loop in
+    ByRecords (a .skips) (now (a .rom)) (now (a .sched)) (now (a .log)) (a .n) (a .s) (l .cursor)
+    (record { core = l .core; ram = l .ram; ports = l .ports; log = l .log; at = l .at; number = l .number; begun = l .begun; spared = l .spared })
+by-records c = c .loop .inv
+
+-- the cycles up to the limit
+window : (c : Limited)
+    → let a = entry (outer c .before) .args in
+    Window (now (a .rom)) (now (a .sched)) (outer c .loop .cursor .lines) (from-of c) (a .s .cycle .0 + a .n) (limit-of c)
+window c =
+    let k = by-records (outer c) in
+    up-to-record _ _ (schedule-taken (k .at)) _ _ _ (records c .loop-test .taken) (limit-kept (k .at)) (k .stands) (c .lesser .ensures)
+
+-- it is past where the loop by records stood
+further : (c : Limited) → outer c .loop .number < limit-of c
+further c =
+    let k = by-records (outer c) in
+    limit-ahead (now (entry (outer c .before) .args .rom)) _ (schedule-taken (k .at)) _ _ _ (records c .loop-test .taken) (limit-kept (k .at)) (k .stands) (c .lesser .ensures)
+
+-- what the code has in the inner loop
+abbrev place : Inner → Place
+place c =
+    let l = c .loop2 in
+    record { core = l .core; ram = l .ram; ports = l .ports; log = l .log; at = l .at; number = l .number; begun = l .begun; spared = l .spared }
+
+-- where it stands
+standing : (c : Inner)
+    → let a = entry (outer (c .before) .before) .args in
+    At (a .skips) (now (a .rom)) (now (a .sched)) (now (a .log)) (a .n) (a .s) (place c)
+standing c = c .loop2 .inv .at (by-records (outer (c .before)) .at)
+
+-- and that the limit is ahead
+ahead : (c : Measured)
+    → let a = entry (outer (inner c .before) .before) .args in
+    let d = inner c .before in
+    Ahead (now (a .rom)) (now (a .sched)) (outer d .loop .cursor .lines) (from-of d) (a .s .cycle .0 + a .n) (limit-of d) (inner c .loop2 .number)
+ahead c = record { window = window (inner c .before); since = inner c .loop2 .inv .later; more = tested c .loop2-test .taken }
+
+-- the length of the jump
+length-known : (c : Measured)
+    → let a = entry (outer (inner c .before) .before) .args in
+    c .jump-length .result ≡ jumpBy (a .skips) (now (a .rom)) (now (a .sched)) (stateAt (place (inner c))) (limit-of (inner c .before) - inner c .loop2 .number)
+length-known c = length-is (standing (inner c)) (ahead c) (c .jump-length .ensures)
+
+-- none is taken
+no-jump : (c : Turning)
+    → let a = entry (outer (inner (c .before) .before) .before) .args in
+    0 ≡ jumpBy (a .skips) (now (a .rom)) (now (a .sched)) (stateAt (place (inner (c .before)))) (limit-of (inner (c .before) .before) - inner (c .before) .loop2 .number)
+no-jump c = sym (c .if1 .left) ∙ length-known (c .before)
+
+-- the counts after a jump
+jump-fits : (c : Jumping)
+    → let l = inner (c .before) in
+    (l .loop2 .number + c .before .jump-length .result ≤ limit-of (l .before)) × (limit-of (l .before) ≤ cycleLimit)
+    × (l .loop2 .begun ≤ l .loop2 .number) × (l .loop2 .spared ≤ l .loop2 .number) × (1 ≤ c .before .jump-length .result)
+jump-fits c =
+    let l = inner (c .before) in
+    jump-small (standing l) (ahead (c .before)) (length-known (c .before)) (wants-jump c)
+
+-- BEFORE THE LOOPS
+
+add-end : tie.Need-add-end Inv-loop2 μ-loop2 Inv-loop μ-loop
+add-end c = omega (arith, run-taken _ _ _ _ (c .before .before .before .pre .not-refused) .limit)
+
+loop-holds : tie.Need-loop-holds Inv-loop2 μ-loop2 Inv-loop μ-loop
+loop-holds c =
+    let at-sched = slices c .before in
+    let at-rom = at-sched .before in
+    let v = entry c .pre in
     record {
-      more = at-if1 .before .before .loop-test .taken;
-      none-ahead = sym (at-if1 .if1 .left) ∙ ahead (at-if1 .before);
-      answers = c .turn .ensures;
+      at = starts _ _ _ _ _ _ (v .not-refused) (λ i. omega (arith, at-rom .shared-slice-known .given i)) (λ i. omega (arith, at-sched .shared-slice-known2 .given i));
+      stands = v .stands;
     }
 
--- a step forward, by a jump or by a turn
-forward : (c : tie.Joined1 Inv-loop μ-loop)
-    → let a = c .before .before .before .before .before .before .before .before .before .before .args in
-    let l = c .before .before .before .loop in
-    let v = c .if1 in
-    Forward (a .skips) (now (a .rom)) (now (a .sched)) (now (a .log)) (a .n) (a .s)
-    (stateOf (l .core) (l .ram) (l .ports) (a .s .cycle .0 + l .done)) (l .cursor) (l .done) (v .log) (v .core) (v .ram) (v .ports) (v .at)
-    (v .begun) (v .spared) (v .span)
-forward c =
-    elim (c .if1 .came) [
-      | inl w ↦
-          jumps-forward (jumps (record { before = c .before; if1 = w .0 })) (w .2) (w .3 ∙ w .1 .ensures) (w .4) (w .5) (w .6) (w .7) (w .8) (w .9)
-      | inr w ↦
-          let with-lines : tie.After-lines Inv-loop μ-loop = record { before = record { before = c .before; if1 = w .0 }; lines = w .1 } in
-          let with-ports : tie.After-ports2 Inv-loop μ-loop = record { before = record { before = with-lines; ram2 = w .2 }; ports2 = w .3 } in
-          let with-log : tie.After-turn-arg Inv-loop μ-loop = record { before = with-ports; turn-arg = w .4 } in
-          turn-forward (turned (record { before = with-log; turn = w .5 })) (w .9 .left) (w .13) (w .14) (w .15) (w .16) (w .17) (w .18) (w .19) (w .20)
-    ]
+-- A RECORD
 
-loop-holds : tie.Need-loop-holds Inv-loop μ-loop
-loop-holds c =
-    let at-sched = c .before .before .before .before in
-    let at-rom = at-sched .before in
-    let at-entry = at-rom .before in
-    let a = at-entry .args in
-    rw (add-zero (a .s .cycle .0))
-    (starts (a .skips) (now (a .rom)) (now (a .sched)) (now (a .log)) (a .n) (a .s) (a .first) (at-entry .pre .not-refused)
-    (λ i. omega (arith, at-rom .shared-slice-known .given i)) (λ i. omega (arith, at-sched .shared-slice-known2 .given i)) (at-entry .pre .stands))
+lesser-requires : tie.Need-lesser-requires Inv-loop2 μ-loop2 Inv-loop μ-loop
+lesser-requires c κs = tt
 
-add-number : tie.Need-add-number Inv-loop μ-loop
-add-number c =
-    let h = c .before .loop .inv in
-    omega (arith, limit h, h .not-past)
+loop2-holds : tie.Need-loop2-holds Inv-loop2 μ-loop2 Inv-loop μ-loop
+loop2-holds c = record { at = λ h. h; later = omega arith; within-limit = window c .ahead }
 
-sub-jump-ahead : tie.Need-sub-jump-ahead Inv-loop μ-loop
-sub-jump-ahead c = search needs
+sub-jump-length : tie.Need-sub-jump-length Inv-loop2 μ-loop2 Inv-loop μ-loop
+sub-jump-length c = omega (arith, c .loop2-test .taken)
 
-jump-ahead-requires : tie.Need-jump-ahead-requires Inv-loop μ-loop
-jump-ahead-requires c κs =
-    let at-loop = c .before in
-    let at-entry = at-loop .before .before .before .before .before .before .before in
-    boundary (at-loop .loop .inv) (c .loop-test .taken) (now (at-entry .args .positions)) (at-entry .pre .position-table)
+jump-length-requires : tie.Need-jump-length-requires Inv-loop2 μ-loop2 Inv-loop μ-loop
+jump-length-requires c κs = boundary (standing (c .before)) _ (entry (outer (c .before .before) .before) .pre .position-table)
 
-core-after-jump-requires : tie.Need-core-after-jump-requires Inv-loop μ-loop
+-- A JUMP
+
+core-after-jump-requires : tie.Need-core-after-jump-requires Inv-loop2 μ-loop2 Inv-loop μ-loop
 core-after-jump-requires c κs =
-    let at-loop = c .before .before .before in
-    let at-entry = at-loop .before .before .before .before .before .before .before in
-    jumpable (jumps c) (now (at-entry .args .positions)) (now (at-entry .args .registers)) (at-entry .pre .position-table) (at-entry .pre .register-table)
+    let l = inner (c .before) in
+    let v = entry (outer (l .before) .before) .pre in
+    jumpable (standing l) (ahead (c .before)) (length-known (c .before)) (wants-jump c) _ _
+    (v .position-table) (v .register-table)
 
-add-begun : tie.Need-add-begun Inv-loop μ-loop
-add-begun c =
-    let h = c .before .before .before .before .loop .inv in
-    omega (arith, limit h, h .few, h .not-past, within-run (jumps (c .before)))
+add-begun : tie.Need-add-begun Inv-loop2 μ-loop2 Inv-loop μ-loop
+add-begun c = omega (arith, jump-fits (c .before))
 
-sub-spared : tie.Need-sub-spared Inv-loop μ-loop
-sub-spared c = omega (arith, c .before .if1 .taken)
+sub-spared : tie.Need-sub-spared Inv-loop2 μ-loop2 Inv-loop μ-loop
+sub-spared c = omega (arith, jump-fits (c .before) .4)
 
-add-spared : tie.Need-add-spared Inv-loop μ-loop
-add-spared c =
-    let h = c .before .before .before .before .loop .inv in
-    omega (arith, limit h, h .less, h .not-past, within-run (jumps (c .before)))
+add-spared : tie.Need-add-spared Inv-loop2 μ-loop2 Inv-loop μ-loop
+add-spared c = omega (arith, jump-fits (c .before))
 
-sub-turn : tie.Need-sub-turn Inv-loop μ-loop
-sub-turn c = search needs
+add-number : tie.Need-add-number Inv-loop2 μ-loop2 Inv-loop μ-loop
+add-number c = omega (arith, jump-fits (c .before))
 
-part-turn-start : tie.Need-part-turn-start Inv-loop μ-loop
-part-turn-start c = search needs
+loop2-less : tie.Need-loop2-less Inv-loop2 μ-loop2 Inv-loop μ-loop
+loop2-less c = omega (arith, jump-fits (c .before))
 
-part-turn-end : tie.Need-part-turn-end Inv-loop μ-loop
-part-turn-end c = search needs
+loop2-again : tie.Need-loop2-again Inv-loop2 μ-loop2 Inv-loop μ-loop
+loop2-again c =
+    let at-jump = c .before in
+    let l = inner (at-jump .before) in
+    record {
+      at = λ h.
+          jumps-on (l .loop2 .inv .at h) (ahead (at-jump .before)) (length-known (at-jump .before)) (wants-jump at-jump)
+          (c .core-after-jump .ensures);
+      later = omega (arith, l .loop2 .inv .later);
+      within-limit = jump-fits at-jump .0;
+    }
 
-sub-turn-2 : tie.Need-sub-turn-2 Inv-loop μ-loop
-sub-turn-2 c = search needs
+-- A TURN
 
-turn-requires : tie.Need-turn-requires Inv-loop μ-loop
+turn-requires : tie.Need-turn-requires Inv-loop2 μ-loop2 Inv-loop μ-loop
 turn-requires c κs =
-    let at-if1 = c .before .before .before .before in
-    let at-loop-test = at-if1 .before .before in
-    let at-loop = at-loop-test .before in
-    let at-entry = at-loop .before .before .before .before .before .before .before in (
-      turn-asks (at-loop .loop .inv) (at-loop-test .loop-test .taken) (now (at-entry .args .table)) (now (at-entry .args .positions)) (at-entry .pre .instructions)
-          (at-entry .pre .position-table) (sym (at-if1 .if1 .left) ∙ ahead (at-if1 .before)),
-      at-entry .pre .register-table,
+    let at-turning = c .before .before .before in
+    let l = inner (at-turning .before) in
+    let v = entry (outer (l .before) .before) .pre in (
+      turn-asks (standing l) (ahead (at-turning .before)) _ _ (v .instructions) (v .position-table) (no-jump at-turning),
+      v .register-table,
     )
 
-stop-of-requires : tie.Need-stop-of-requires Inv-loop μ-loop
-stop-of-requires c κs = stop-known (turned (c .before .before .before .before)) (c .if2 .taken)
+stop-of-requires : tie.Need-stop-of-requires Inv-loop2 μ-loop2 Inv-loop μ-loop
+stop-of-requires c κs =
+    let t = stopped-at c in
+    let l = inner (measured t) in
+    stop-known (standing l) (ahead (measured t)) (no-jump (turn-taken t)) (t .turn .ensures) (stops-with c)
 
-state-of-requires : tie.Need-state-of-requires Inv-loop μ-loop
-state-of-requires c κs = search needs
+state-of-requires : tie.Need-state-of-requires Inv-loop2 μ-loop2 Inv-loop μ-loop
+state-of-requires c κs = tt
 
-answer-requires : tie.Need-answer-requires Inv-loop μ-loop
+sub-answer : tie.Need-sub-answer Inv-loop2 μ-loop2 Inv-loop μ-loop
+sub-answer c = omega (arith, standing (inner (measured (stopped-at (c .before .before)))) .from)
+
+answer-requires : tie.Need-answer-requires Inv-loop2 μ-loop2 Inv-loop μ-loop
 answer-requires c κs =
-    let h = c .before .before .before .before .before .before .before .before .before .before .before .before .before .before .loop .inv in
-    (omega (arith, limit h, h .not-past), h .less)
+    let h = standing (inner (measured (stopped-at (c .before .before)))) in
+    (omega (arith, limit-kept h, h .not-past), h .less)
 
-same-length : tie.Need-same-length Inv-loop μ-loop
+same-length : tie.Need-same-length Inv-loop2 μ-loop2 Inv-loop μ-loop
 same-length c =
-    let at-if2 = c .before .before .before in
-    stop-length (turned (at-if2 .before .before .before .before)) (at-if2 .if2 .taken)
+    let at-stop-found = c .before .before .before in
+    let t = stopped-at at-stop-found in
+    let l = inner (measured t) in
+    stop-length (standing l) (ahead (measured t)) (no-jump (turn-taken t)) (t .turn .ensures) (stops-with at-stop-found)
 
-returns : tie.Need-returns Inv-loop μ-loop
+returns : tie.Need-returns Inv-loop2 μ-loop2 Inv-loop μ-loop
 returns c =
-    let at-state-of = c .before in
-    let at-stop-of = at-state-of .before in
-    let at-if2 = at-stop-of .before in
-    rw (c .answer .ensures, at-stop-of .stop-of .ensures)
-    (stops (turned (at-if2 .before .before .before .before)) (at-if2 .if2 .taken) (at-state-of .state-of .ensures))
+    let at-state = c .before in
+    let at-stop = at-state .before in
+    let at-stop-found = at-stop .before in
+    let t = stopped-at at-stop-found in
+    let l = inner (measured t) in
+    rw (c .answer .ensures, at-stop .stop-of .ensures)
+    (stops (standing l) (ahead (measured t)) (no-jump (turn-taken t)) (t .turn .ensures) (stops-with at-stop-found)
+    (at-state .state-of .ensures))
 
-add-at : tie.Need-add-at Inv-loop μ-loop
-add-at c =
-    let at-if2 = c .before .before in
-    let at-turn = at-if2 .before .before .before .before in
-    let at-loop = at-turn .before .before .before .before .before .before .before .before in
-    let at-entry = at-loop .before .before .before .before .before .before .before in
-    omega (arith, counts (turned at-turn) (at-if2 .if2 .left), at-entry .good .1 .1 .1 .1 .1 .1 .1 .0 .0)
+-- the counts after a turn
+turn-fits : (c : Going)
+    → let t = gone-at c in
+    let l = inner (measured t) in
+    (l .loop2 .number + 1 ≤ t .turn .result .cycle) × (t .turn .result .cycle ≤ limit-of (l .before))
+turn-fits c =
+    let t = gone-at c in
+    let l = inner (measured t) in
+    let v = turn-small (standing l) (ahead (measured t)) (no-jump (turn-taken t)) (t .turn .ensures) (goes-well c) in
+    (omega (arith, v .0), v .1)
 
-add-begun-2 : tie.Need-add-begun-2 Inv-loop μ-loop
-add-begun-2 c =
-    let at-if2 = c .before .before .before in
-    let at-turn = at-if2 .before .before .before .before in
-    let h = at-turn .before .before .before .before .before .before .before .before .loop .inv in
-    omega (arith, counts (turned at-turn) (at-if2 .if2 .left), limit h, h .few, h .not-past)
+loop2-less-2 : tie.Need-loop2-less-2 Inv-loop2 μ-loop2 Inv-loop μ-loop
+loop2-less-2 c = omega (arith, turn-fits (c .before))
 
-sub-t28 : tie.Need-sub-t28 Inv-loop μ-loop
-sub-t28 c = omega (arith, forward (c .before) .some-cycles)
+loop2-again-2 : tie.Need-loop2-again-2 Inv-loop2 μ-loop2 Inv-loop μ-loop
+loop2-again-2 c =
+    let at-going = c .before in
+    let t = gone-at at-going in
+    let l = inner (measured t) in
+    let z = turn-fits at-going in
+    record {
+      at = λ h.
+          goes-on (l .loop2 .inv .at h) (ahead (measured t)) (no-jump (turn-taken t)) (t .turn .ensures) (goes-well at-going);
+      later = omega (arith, l .loop2 .inv .later, z .0);
+      within-limit = z .1;
+    }
 
-add-t42 : tie.Need-add-t42 Inv-loop μ-loop
-add-t42 c =
-    let h = c .before .before .before .before .loop .inv in
-    let f = forward (c .before) in
-    omega (arith, limit h, h .not-past, f .some-cycles, f .within-run)
+-- THE NEXT RECORD
 
-moved-requires : tie.Need-moved-requires Inv-loop μ-loop
+-- the limit is reached
+reached : (c : Ended) → c .before .loop2 .number ≡ limit-of (limited c)
+reached c = omega (arith, c .loop2-test .left, c .before .loop2 .inv .within-limit)
+
+sub-t41 : tie.Need-sub-t41 Inv-loop2 μ-loop2 Inv-loop μ-loop
+sub-t41 c = let v = window (limited c) in omega (arith, reached c, further (limited c), v .in-run)
+
+moved-requires : tie.Need-moved-requires Inv-loop2 μ-loop2 Inv-loop μ-loop
 moved-requires c κs =
-    let h = c .before .before .before .before .loop .inv in
-    let f = forward (c .before) in
-    (schedule-taken h, f .stands, omega (arith, limit h, h .not-past, f .some-cycles, f .within-run))
+    let k = by-records (outer (limited c)) in
+    let v = window (limited c) in (
+      schedule-taken (k .at),
+      stands-last _ (schedule-taken (k .at)) _ _ (limit-of (limited c)) _ (before-record (limited c)) (omega (arith, reached c, further (limited c))) (omega (arith, reached c)) (k .stands),
+      omega (arith, reached c, further (limited c), v .in-run, v .in-limit),
+    )
 
-add-done : tie.Need-add-done Inv-loop μ-loop
-add-done c =
-    let at-if1 = c .before .before in
-    let h = at-if1 .before .before .before .loop .inv in
-    let f = forward at-if1 in
-    omega (arith, limit h, h .not-past, f .within-run)
-
-loop-less : tie.Need-loop-less Inv-loop μ-loop
+loop-less : tie.Need-loop-less Inv-loop2 μ-loop2 Inv-loop μ-loop
 loop-less c =
-    let at-if1 = c .before .before in
-    omega (arith, at-if1 .before .before .loop-test .taken, forward at-if1 .some-cycles)
+    let at-end = c .before in
+    let v = window (limited at-end) in
+    omega (arith, reached at-end, further (limited at-end), v .in-run)
 
-loop-again : tie.Need-loop-again Inv-loop μ-loop
-loop-again c = forward (c .before .before) .on (c .moved .result) (c .moved .ensures)
+loop-again : tie.Need-loop-again Inv-loop2 μ-loop2 Inv-loop μ-loop
+loop-again c =
+    let at-end = c .before in
+    record { at = standing (at-end .before); stands = stands-on (omega (arith, reached at-end, further (limited at-end))) (c .moved .ensures) }
 
-add-state-of : tie.Need-add-state-of Inv-loop μ-loop
-add-state-of c =
-    let h = c .before .loop .inv in
-    omega (arith, limit h, h .not-past)
+-- THE FINISH
 
-state-of-requires-2 : tie.Need-state-of-requires-2 Inv-loop μ-loop
-state-of-requires-2 c κs = search needs
+state-of-requires-2 : tie.Need-state-of-requires-2 Inv-loop2 μ-loop2 Inv-loop μ-loop
+state-of-requires-2 c κs = tt
 
-answer-requires-2 : tie.Need-answer-requires-2 Inv-loop μ-loop
+sub-answer-2 : tie.Need-sub-answer-2 Inv-loop2 μ-loop2 Inv-loop μ-loop
+sub-answer-2 c = omega (arith, by-records (c .before .before) .at .from)
+
+answer-requires-2 : tie.Need-answer-requires-2 Inv-loop2 μ-loop2 Inv-loop μ-loop
 answer-requires-2 c κs =
-    let h = c .before .before .loop .inv in
-    (omega (arith, limit h, h .not-past), h .less)
+    let h = by-records (c .before .before) .at in
+    (omega (arith, limit-kept h, h .not-past), h .less)
 
-same-length-2 : tie.Need-same-length-2 Inv-loop μ-loop
-same-length-2 c = search needs
+same-length-2 : tie.Need-same-length-2 Inv-loop2 μ-loop2 Inv-loop μ-loop
+same-length-2 c = log-length (by-records (c .before .before .before) .at)
 
-returns-2 : tie.Need-returns-2 Inv-loop μ-loop
+returns-2 : tie.Need-returns-2 Inv-loop2 μ-loop2 Inv-loop μ-loop
 returns-2 c =
-    let at-state-of2 = c .before in
-    let at-loop-test = at-state-of2 .before in
-    rw (c .answer2 .ensures, at-state-of2 .state-of2 .ensures) (finishes (at-loop-test .before .loop .inv) (at-loop-test .loop-test .left))
+    let at-state = c .before in
+    let at-end = at-state .before in
+    rw (c .answer2 .ensures, at-state .state-of2 .ensures) (finishes (by-records (at-end .before) .at) (at-end .loop-test .left))
 
 pub run-loop-spec : {M : Type 1} → statement M
 run-loop-spec =
     tie.close
     (tie.spec
+    Inv-loop2
+    μ-loop2
     Inv-loop
     μ-loop
+    add-end
     loop-holds
-    add-number
-    sub-jump-ahead
-    jump-ahead-requires
+    lesser-requires
+    loop2-holds
+    sub-jump-length
+    jump-length-requires
     core-after-jump-requires
     add-begun
     sub-spared
     add-spared
-    sub-turn
-    part-turn-start
-    part-turn-end
-    sub-turn-2
+    add-number
+    loop2-less
+    loop2-again
     turn-requires
     stop-of-requires
     state-of-requires
+    sub-answer
     answer-requires
     same-length
     returns
-    add-at
-    add-begun-2
-    sub-t28
-    add-t42
+    loop2-less-2
+    loop2-again-2
+    sub-t41
     moved-requires
-    add-done
     loop-less
     loop-again
-    add-state-of
     state-of-requires-2
+    sub-answer-2
     answer-requires-2
     same-length-2
     returns-2)
