@@ -16,7 +16,7 @@ use Rattle.runs.specs.EveryRun.{EveryRunCountsWithin}
 use Rattle.runs.specs.Lists.{AnswersAs, Call, run, save, restore, Each, plainOne, runAnswer, runLog, heldAfter, AllGet, notRefused, runs, joinedLog, asked, EveryListEndsAsOneRun}
 use Rattle.log_form.specs.Form.{Write, portC, portI, logRecord}
 use Rattle.log_form.specs.Form.{allOf}
-use Rattle.laws.specs.Writes.{ValidWrite}
+use Rattle.laws.specs.Writes.{Logged, write, reset}
 use Rattle.laws.specs.Records.{Records, empty, also, EveryRunWritesRecords}
 use Rattle.laws.proofs.Images.{cycle-back}
 use Rattle.laws.proofs.Records.{wider}
@@ -70,14 +70,16 @@ as-written first n w {r} h t v e p q =
     let later : first ≤ r .cycle .0 = omega (arith, e) in
     rw (p, t, ← p, le-leb (r .value) (valueMost (r .port)) value, le-leb first (r .cycle .0) later)
 
--- an effective write
-write-taken : (w : Write) → ValidWrite w → portTaken (w .port) ≡ true
+-- an effective write, or a reset
+logged-taken : (w : Write) → Logged w → portTaken (w .port) ≡ true
 unfolding portTaken
-write-taken w v = rw (ne-eqb (w .port) portReset (λ e. omega (arith, v .first)), le-leb portC (w .port) (v .first), le-leb (w .port) portI (v .last))
+logged-taken w (reset p v) = rw p
+logged-taken w (write v) = rw (ne-eqb (w .port) portReset (λ e. omega (arith, v .first)), le-leb portC (w .port) (v .first), le-leb (w .port) portI (v .last))
 
-write-value : (w : Write) → ValidWrite w → w .value ≤ valueMost (w .port)
+logged-value : (w : Write) → Logged w → w .value ≤ valueMost (w .port)
 unfolding valueMost
-write-value w v = rw (ne-eqb (w .port) portReset (λ e. omega (arith, v .first))) (most (eqb (w .port) portI) refl)
+logged-value w (reset p v) = rw (p, v) (omega arith)
+logged-value w (write v) = rw (ne-eqb (w .port) portReset (λ e. omega (arith, v .first))) (most (eqb (w .port) portI) refl)
   where
     most : (t : Bool) → eqb (w .port) portI ≡ t → w .value ≤ cond t 7 15
     most true e = omega (arith, v .narrow (eqb-true (w .port) portI e))
@@ -94,7 +96,7 @@ records-order {first} {end} (also {log = log} n w low high v r) h =
     let cycle : recordHere (logRecord n w ++ log) .cycle .0 ≡ n = cycle-back n (omega arith) in
     let rest : InOrder n end (recordsOf log) = records-order r h in
     subst (λ (k : ℕ). InOrder first end (recordsIn k (logRecord n w ++ log))) (sym count)
-    (as-written first n w low (write-taken w v) (write-value w v) cycle refl refl, rw cycle high, subst (λ (m : ℕ). InOrder m end (recordsOf log)) (sym cycle) rest)
+    (as-written first n w low (logged-taken w v) (logged-value w v) cycle refl refl, rw cycle high, subst (λ (m : ℕ). InOrder m end (recordsOf log)) (sym cycle) rest)
 
 -- LOGS READ ONE AFTER THE OTHER
 
@@ -147,7 +149,7 @@ module _ {S : Type 0} (M : Machine S) (R : EveryRunWritesRecords M) (rom sched :
     records-whole (R kind rom′ sched′ s log n (rw (g .0 .same-rom) (p .rom-bytes)) (rw (g .0 .same-sched) (p .sched-bytes))),
     logs-whole (heldAfter M held (run kind rom′ sched′ s log n)) cs (g .1),
   )
-  logs-whole held (save s buffer ∷ cs) g = logs-whole held cs (g .1)
+  logs-whole held (save version s buffer ∷ cs) g = logs-whole held cs (g .1)
   logs-whole held (restore bytes ∷ cs) g = logs-whole (heldAfter M held (restore bytes)) cs (g .1)
 
 module _ {S : Type 0} (M : Machine S) (C : EveryRunCountsWithin M) (R : EveryRunWritesRecords M) (rom sched : List ℕ) (p : Panel M rom sched)
