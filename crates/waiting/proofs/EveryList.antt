@@ -1,5 +1,5 @@
--- No switch-off loses or invents a wait: the logs of a list's runs, read one after the other, give the report of the unbroken run's
--- log. Of any machine, by what is promised of it. Assumes nothing.
+-- No switch-off and no reset loses or invents a wait: the logs of a list's runs, read one after the other, give the report of the
+-- unbroken run's log. Of any machine, by what is promised of it. Assumes nothing.
 use mathlib.Core.Path.{_≡_, _∙_, refl, sym, ap, subst}
 use mathlib.Core.Bool.{Bool, true, false, cond}
 use mathlib.Core.List.{List, [], _∷_, _++_}
