@@ -1,9 +1,9 @@
 -- The theorems about the machine cycle a second time, for every argument, with the documents' figures in place of names: one that
 -- holds of fewer arguments, assumes more or says less doesn't give its line. Assumes nothing: these are definitions.
-use Prim.Native.Nat.{ℕ, suc, _+_, _*_, max, _<_, _≤_}
+use Prim.Native.Nat.{ℕ, suc, _+_, _*_, min, max, _<_, _≤_}
 use mathlib.Core.Path.{_≡_}
 use mathlib.Core.Bool.{true, false}
-use mathlib.Core.List.{List, [], _∷_}
+use mathlib.Core.List.{List, [], _∷_, _++_}
 use mathlib.Core.Option.{none}
 use lib.ListN.{length, getD}
 use Rattle.runs.specs.Machine.{went}
@@ -14,7 +14,7 @@ use Rattle.upd546.specs.declared.Core.{Core}
 use Rattle.upd546.specs.declared.Lines.{Lines}
 use Rattle.upd546.specs.declared.State.{State}
 use Rattle.upd546.specs.declared.Timer.{Timer}
-use Rattle.upd546.specs.Bytes.{bitAt}
+use Rattle.upd546.specs.Bytes.{bitAt, bytesOf}
 use Rattle.upd546.specs.TheMachine.{past, fresh}
 use Rattle.upd546.specs.TheLineSchedule.{linesAt, noRecord}
 use Rattle.upd546.specs.Timer.{tick, registerAfter, positionOf, ticksLeft}
@@ -27,8 +27,10 @@ use Rattle.upd546.specs.TwoRunners.{upd546, panelNumber, jumpLength}
 use Rattle.laws.specs.Timer.{timerLeft}
 use Rattle.laws.specs.Jump.{stateAfterJump}
 use Rattle.laws.specs.Valid.{Valid}
+use Rattle.laws.specs.Reset.{noReset}
 use Rattle.laws.specs.Strings.{Stand}
 use Rattle.laws.specs.Interval.{StmDue, withoutStm}
+use Rattle.witness.specs.Calls as calls
 
 -- R-2, `CAndDReadBack`: a bit of C or D is the greater of line and latch
 pub record OfEveryPort (l : Lines) (ports : List ℕ) : Type 0 where
@@ -44,8 +46,8 @@ pub record OfEveryMark (c : Core) : Type 0 where
   pub ei : c .mark ≡ 2 → accepts c ≡ false
   pub li : c .mark ≡ 4 → accepts c ≡ false
 
--- what n cycles from s come to that begin k loads and pass them over, with PC at `to`: timer, INT, the level and the cycle number
--- are those of t, and all else is as it was
+-- what n cycles from s come to that begin k loads and pass them over, with PC at `to`: timer, INT, the level, the count and the cycle
+-- number are those of t, and all else is as it was
 abbrev pub passedLoads : (k n to : ℕ) → (s t : State) → Ran State
 passedLoads k n to s t = record {
   state = record {
@@ -59,6 +61,7 @@ passedLoads k n to s t = record {
     };
     ports = s .ports;
     ram = s .ram;
+    count = t .count;
     cycle = t .cycle;
   };
   bytes = [];
@@ -67,7 +70,7 @@ passedLoads k n to s t = record {
   number = none;
 }
 
--- R-5, `LoadStringsHoldTogether`: of a run r, all but the four, and an INT that is set
+-- R-5, `LoadStringsHoldTogether`: of a run r, all but these five, and an INT that is set
 pub record OfEveryString (k n to : ℕ) (s : State) (r : Ran State) : Type 0 where
   pub whole : r ≡ passedLoads k n to s (r .state)
   pub int : s .core .interrupt .int ≡ 1 → r .state .core .interrupt .int ≡ 1
@@ -77,6 +80,38 @@ pub record OfEveryStm (i k : ℕ) (r : Ran State) : Type 0 where
   pub cycles : r .cycles ≡ 2 + k
   pub before : k < 63 * (i + 1) → r .state .core .timer .tm ≡ 0
   pub from : 63 * (i + 1) ≤ k → r .state .core .timer .tm ≡ 1
+
+-- R-8, `EveryCycleCountsRes`: of a cycle from s to t that appends w and begins b instructions, where RES is 0 or not
+
+-- what a reset cycle leaves of s, with the INT level of the lines: "PC, owed, INT, INTE, TM, timer and ports become 0 and the mark
+-- other; RAM, Acc, DP, carries and stack are kept"
+abbrev pub afterReset : (level : ℕ) → State → State
+afterReset level s = record {
+  core = record {
+    registers = s .core .registers;
+    flow = record { pc = 0; stack = s .core .flow .stack };
+    interrupt = record { int = 0; inte = 0; level = level };
+    timer = record { tm = 0; register = 0; counter = 0 };
+    mark = 0;
+    owed = 0;
+  };
+  ports = 0 ∷ 0 ∷ 0 ∷ 0 ∷ 0 ∷ 0 ∷ 0 ∷ [];
+  ram = s .ram;
+  count = 4;
+  cycle = record { 0 = s .cycle .0 + 1 };
+}
+
+pub record OfEveryReset (l : Lines) (s t : State) (w : List ℕ) (b : ℕ) : Type 0 where
+  pub state : t ≡ afterReset (l .int) s
+  pub begins-none : b ≡ 0
+  pub reaching : (s .count ≡ 4 → ⊥) → w ≡ bytesOf 6 (s .cycle .0) ++ (0 ∷ 0 ∷ [])
+  pub staying : s .count ≡ 4 → w ≡ []
+
+pub record OfEveryCount (l : Lines) (s t : State) (w : List ℕ) (b : ℕ) : Type 0 where
+  pub rises : t .cycle .0 ≡ s .cycle .0 + 1
+  pub low : l .res ≡ 0 → t .count ≡ 0
+  pub high : l .res ≡ 1 → t .count ≡ min 4 (s .count + 1)
+  pub reset : t .count ≡ 4 → OfEveryReset l s t w b
 
 -- the fields of a state, each with what it is below
 abbrev pub fields : State → List (ℕ × ℕ)
@@ -96,6 +131,7 @@ fields s =
     ∷ (s .core .mark, 5)
     ∷ (s .core .owed, 4)
     ∷ (getD (s .ports) 6 0, 8)
+    ∷ (s .count, 5)
     ∷ (s .cycle .0, 281474976710656)
     ∷ []
 
@@ -115,10 +151,12 @@ pub record CycleFacts : Type 0 where
   pub ports : (l : Lines) (latches : List ℕ) → OfEveryPort l latches
   pub marks : (c : Core) → OfEveryMark c
   pub li : (rom sched : List ℕ) (k : ℕ) (s : State) → s .core .owed ≡ 0 → s .core .mark ≡ 4 → Stand rom chip.li k (s .core .flow .pc)
+      → noReset sched (1 * k) (s .cycle .0) (s .count) ≡ true
       → OfEveryString k (1 * k) (past (1 * k) (s .core .flow .pc)) s (unbroken upd546 rom sched (1 * k) s)
   pub ldi : (rom sched : List ℕ) (k : ℕ) (s : State) → s .core .owed ≡ 0 → s .core .mark ≡ 1 → Stand rom chip.ldi k (s .core .flow .pc)
+      → noReset sched (2 * k) (s .cycle .0) (s .count) ≡ true
       → OfEveryString k (2 * k) (past (2 * k) (s .core .flow .pc)) s (unbroken upd546 rom sched (2 * k) s)
-  pub tm : (rom sched : List ℕ) (s : State) (i k : ℕ) → StmDue rom s i → withoutStm rom sched k (unbroken upd546 rom sched 2 s .state) ≡ true
+  pub tm : (rom sched : List ℕ) (s : State) (i k : ℕ) → StmDue rom sched s i → withoutStm rom sched k (unbroken upd546 rom sched 2 s .state) ≡ true
       → OfEveryStm i k (unbroken upd546 rom sched (2 + k) s)
   -- `accepted-valid`, `valid-accepted`, `cycle-keeps`, `begins-one`
   pub accepted : (s : State) → stateNumber s ≡ 0 → Widths s
@@ -127,6 +165,10 @@ pub record CycleFacts : Type 0 where
       → s .cycle .0 < 281474976710655 → cycle rom sched s ≡ went t w b
       → Valid t × (t .cycle .0 ≡ suc (s .cycle .0)) × (length w ≤ 16)
   pub begins-one : (rom sched : List ℕ) (s t : State) (w : List ℕ) (b : ℕ) → cycle rom sched s ≡ went t w b → b ≤ 1
+  -- `EveryCycleCountsRes`, `EveryRunCountsRes`
+  pub counts : (rom sched : List ℕ) (s t : State) (w : List ℕ) (b : ℕ) → cycle rom sched s ≡ went t w b → OfEveryCount (linesAt sched (s .cycle .0)) s t w b
+  pub runs-count : (rom sched : List ℕ) (k : ℕ) (s : State) → s .count ≤ 4 → unbroken upd546 rom sched k s .cycles ≡ k
+      → ((i : ℕ) → i < k → linesAt sched (s .cycle .0 + i) .res ≡ 1) → unbroken upd546 rom sched k s .state .count ≡ min 4 (s .count + k)
   -- `lines-same`
   pub lines : (sched : List ℕ) (n m : ℕ) → n ≤ m → noRecord sched (n + 1) (m + 1) ≡ true → linesAt sched m ≡ linesAt sched n
   -- `register-at`, `position-at`, `tick-left`, `running-left`
@@ -159,6 +201,9 @@ pub record CycleFigures : Type 0 where
   pub li-9 : unbroken upd546 loads [] 2 (after loads 1) .state .core .registers .acc ≡ 9
   pub ldi-45 : unbroken upd546 loads [] 2 (after loads 5) .state .core .registers .dpl ≡ 5
   pub ldi-begun : unbroken upd546 loads [] 2 (after loads 5) .begun ≡ 1
+  -- RES is high from cycle 1 to cycle 5: the count is 3 before the reset, 4 after it and while it is held
+  pub count-3 : unbroken upd546 calls.rom calls.sched 3 (unbroken upd546 calls.rom calls.sched 1 fresh .state) .state .count ≡ 3
+  pub count-4 : unbroken upd546 calls.rom calls.sched 5 (unbroken upd546 calls.rom calls.sched 1 fresh .state) .state .count ≡ 4
   -- I = 0
   pub tm-before : after waits 64 .core .timer .tm ≡ 0
   pub tm-from : after waits 65 .core .timer .tm ≡ 1
