@@ -38,7 +38,7 @@ ghost use Prim.Native.Nat.{_+_, _≤_};
 ghost use lib.ListN.{length};
 ghost use Rattle.runs.specs.declared.Version.the-variants.{One};
 ghost use Rattle.runs.specs.Numbers.{outcomeNumber};
-ghost use Rattle.runs.specs.TwoRunners.{restoreAnswer};
+ghost use Rattle.runs.specs.TwoRunners.{restoreAnswer, currentAnswer};
 ghost use Rattle.upd546.specs.TheMachine.{latches, fresh};
 ghost use Rattle.upd546.specs.Bytes.{numberAt, part};
 ghost use Rattle.upd546.specs.Sequences.{sameNumbers};
@@ -222,4 +222,14 @@ pub fn restore(bytes: &[u8]) -> RestoreAnswer
         outcome: Outcome::Done,
         state,
     }
+}
+
+// A RESTORE WHERE VERSION 2 IS DUE: 31 unless the image has its 82 bytes, else as any image.
+pub fn restore_current(bytes: &[u8]) -> RestoreAnswer
+    ensures { λ r. ⌜ restoreOf r ≡ currentAnswer upd546 (now (bytes .entry)) ⌝ }
+{
+    if bytes.len() != IMAGE_LENGTH {
+        return refused(Outcome::Refused(Refusal::ImageLength));
+    }
+    restore(bytes)
 }
