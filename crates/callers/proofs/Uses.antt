@@ -8,7 +8,8 @@ use lib.ListN.{length, take, drop}
 use lib.Dec.{eqb}
 use lib.Seq.{take-append-seam, drop-append-seam}
 use borrow.Author.Tests.{eqb-true, eqb-false}
-use Rattle.runs.specs.TwoRunners.{SaveAnswer, saveAnswer}
+use Rattle.runs.specs.declared.Version.the-variants.{Two}
+use Rattle.runs.specs.TwoRunners.{numberOfEnd, SaveAnswer, saveAnswer}
 use Rattle.runs.specs.Numbers.{endNumber, endOf}
 use Rattle.runs.specs.declared.RunEnd.{RunEnd}
 use Rattle.runs.specs.declared.RunEnd.the-variants.{Finished, Stopped, Refused}
@@ -21,9 +22,9 @@ use Rattle.report.proofs.Parts.{reads-on, not-whole}
 use Rattle.streams.specs.Streams.{Wrote}
 use Rattle.streams.specs.declared.Output.{Output}
 use Rattle.streams.specs.declared.Output.the-variants.{Whole, Cut}
-use Rattle.callers.specs.Uses.{lending, FirstCall, TwoCalls, Fronts, numberTold}
+use Rattle.callers.specs.Uses.{lending, FirstCall, TwoCalls, Fronts}
 
-pub first-call : (c : BoardCall) {saved : SaveAnswer} {a : BoardAnswer} → saved ≡ saveAnswer upd546 fresh (c .image)
+pub first-call : (c : BoardCall) {saved : SaveAnswer} {a : BoardAnswer} → saved ≡ saveAnswer upd546 Two fresh (c .image)
     → a ≡ callAnswer upd546 (lending (saved .buffer) (c .log) (c .report) c) → FirstCall c (saved .number) a
 first-call c e h =
     (ap (λ (s : SaveAnswer). s .number) e, h ∙ ap (λ (s : SaveAnswer). callAnswer upd546 (lending (s .buffer) (c .log) (c .report) c)) e)
@@ -58,7 +59,7 @@ wrote-on (Cut a) (Cut b) (Whole c) m n h k = absurd k
 wrote-on (Cut a) (Cut b) (Cut c) m n h k = omega (arith, h, k)
 
 -- the number of an end, in code and in the definitions
-pub end-told : (e : RunEnd) → endNumber e ≡ numberTold (endOf e)
+pub end-told : (e : RunEnd) → endNumber e ≡ numberOfEnd (endOf e)
 end-told Finished = refl
 end-told (Stopped s) = refl
 end-told (Refused r) = refl

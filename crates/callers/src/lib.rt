@@ -4,6 +4,7 @@
 use listing::TEXT_LENGTH as PANEL_TEXT;
 use report::TEXT_LENGTH as WAITS_TEXT;
 use runs::MachineCycles;
+use runs::Version;
 use streams::Output;
 use upd546::State;
 use waiting::Reading;
@@ -11,14 +12,14 @@ ghost use mathlib.Core.Path.{_≡_};
 ghost use mathlib.Core.List.{_∷_, [], _++_};
 ghost use Prim.Native.Nat.{_+_};
 ghost use lib.ListN.{length};
-ghost use Rattle.runs.specs.TwoRunners.{plain, saveAnswer, restoreAnswer};
+ghost use Rattle.runs.specs.TwoRunners.{numberOfEnd, plain, saveAnswer, restoreAnswer};
 ghost use Rattle.upd546.specs.TwoRunners.{upd546};
 ghost use Rattle.upd546.specs.Reports.{decimal, traceText};
 ghost use Rattle.waiting.specs.WaitingTimes.{startOfDay, waitingTimes};
 ghost use Rattle.report.specs.Parts.{partRead};
 ghost use Rattle.report.specs.Texts.{waitsText};
 ghost use Rattle.streams.specs.Streams.{Wrote};
-ghost use Rattle.callers.specs.Uses.{FirstCall, TwoCalls, Fronts, numberTold};
+ghost use Rattle.callers.specs.Uses.{FirstCall, TwoCalls, Fronts};
 
 // The numbers of two calls, one after the other.
 pub struct Numbers {
@@ -62,7 +63,7 @@ pub fn two_calls(
 
 // The number of a run.
 pub fn run_number(rom: &[u8], schedule: &[u8], s: State, log: &mut [u8], n: MachineCycles) -> u8
-    ensures { λ r. ⌜ r ≡ numberTold (plain upd546 (now (rom .entry)) (now (schedule .entry)) s (now (log .entry)) (n .0) .end) ⌝ }
+    ensures { λ r. ⌜ r ≡ numberOfEnd (plain upd546 (now (rom .entry)) (now (schedule .entry)) s (now (log .entry)) (n .0) .end) ⌝ }
 {
     let answer = runner::run_plain(rom, schedule, s, log, n);
     let end = answer.end;
@@ -76,11 +77,11 @@ pub struct SwitchedOff {
     pub state: State,
 }
 
-// A state saved into a buffer, and the whole buffer restored.
-pub fn switch_off(s: State, buffer: &mut [u8]) -> SwitchedOff
-    ensures { λ r. ⌜ (record { number = r .saved; buffer = now (buffer .exit) } ≡ saveAnswer upd546 s (now (buffer .entry))) × (record { number = r .restored; state = r .state } ≡ restoreAnswer upd546 (now (buffer .exit))) ⌝ }
+// A state saved into a buffer as the version wanted, and the whole buffer restored.
+pub fn switch_off(s: State, version: Version, buffer: &mut [u8]) -> SwitchedOff
+    ensures { λ r. ⌜ (record { number = r .saved; buffer = now (buffer .exit) } ≡ saveAnswer upd546 version s (now (buffer .entry))) × (record { number = r .restored; state = r .state } ≡ restoreAnswer upd546 (now (buffer .exit))) ⌝ }
 {
-    let saved = runs::outcome_number(save::save(s, buffer));
+    let saved = runs::outcome_number(save::save(s, version, buffer));
     let back = restore::restore(buffer);
     let outcome = back.outcome;
     let state = back.state;
