@@ -36,7 +36,7 @@ use Rattle.laws.proofs.Lines.{lines-same}
 use Rattle.laws.proofs.Timer.{register-at, position-at, tick-left, running-left}
 use Rattle.laws.proofs.Jump.{jump-unbroken, jump-in-room}
 use Rattle.witness.specs.Calls as calls
-use Rattle.witness.specs.EveryCycle.{OfEveryString, OfEveryFall, OfEveryReset, OfEveryCount, Widths, CycleFacts, loads, edge, edgeLines, edgeAfter, waits, after, CycleFigures}
+use Rattle.witness.specs.EveryCycle.{OfEveryString, OfEveryFall, OfEveryReset, OfEveryCount, Widths, CycleFacts, loads, edge, edgeLines, edgeAfter, waits, after, panelAt, panelFrom, CycleFigures}
 use Rattle.witness.proofs.Opened.{opened}
 
 greater : (x y z : ℕ) → x < 2 → y < 2 → (x ≡ 1 → z ≡ 1) → (y ≡ 1 → z ≡ 1) → (x ≡ 0 → y ≡ 0 → z ≡ 0) → z ≡ max x y
@@ -194,13 +194,16 @@ res-high k h (suc (suc (suc zero))) l = refl
 res-high k h (suc (suc (suc (suc zero)))) l = refl
 res-high k h (suc (suc (suc (suc (suc i))))) l = absurd (omega arith)
 
-abbrev begun-once : State
-begun-once = unbroken upd546 calls.rom calls.sched 1 fresh .state
-
-counted-high : (k : ℕ) → k ≤ 5 → unbroken upd546 calls.rom calls.sched k begun-once .cycles ≡ k
-    → unbroken upd546 calls.rom calls.sched k begun-once .state .count ≡ min 4 (0 + k)
+counted-high : (k : ℕ) → k ≤ 5 → panelFrom 1 k .cycles ≡ k → panelFrom 1 k .state .count ≡ min 4 (0 + k)
 unfolding opened
-counted-high k h e = facts .runs-count calls.rom calls.sched k begun-once (lit≤ tt) e (res-high k h)
+counted-high k h e = facts .runs-count calls.rom calls.sched k (panelAt 1) (lit≤ tt) e (res-high k h)
+
+-- cycle k of that panel
+abbrev OfPanel : ℕ → Type 0
+OfPanel k = OfEveryCount (linesAt calls.sched (panelAt k .cycle .0)) (panelAt k) (panelFrom k 1 .state) (panelFrom k 1 .bytes) (panelFrom k 1 .begun)
+
+panel-counts : (k : ℕ) → cycle calls.rom calls.sched (panelAt k) ≡ went (panelFrom k 1 .state) (panelFrom k 1 .bytes) (panelFrom k 1 .begun) → OfPanel k
+panel-counts k e = facts .counts calls.rom calls.sched _ _ _ _ e
 
 li-stands : Stand loads chip.li 2 1
 unfolding opened
@@ -238,6 +241,7 @@ figures =
     let accepted =
     kept .accepted (edgeAfter 2) (edgeAfter 3) (unbroken upd546 edge edgeLines 4 (from (setInte 1))) refl refl refl refl refl nop-other refl
     (λ e. omega arith) (λ e. omega arith) (λ e. omega arith) in
+    let reached = panel-counts 4 refl .reset refl in
     record {
       li-9 = ap (λ (r : Ran State). r .state .core .registers .acc) (li .whole);
       ldi-45 = ap (λ (r : Ran State). r .state .core .registers .dpl) (ldi .whole);
@@ -247,6 +251,11 @@ figures =
       edge-return = accepted .2;
       count-3 = counted-high 3 (lit≤ tt) refl;
       count-4 = counted-high 5 (lit≤ tt) refl;
+      reset-record = reached .reaching (λ e. omega arith);
+      reset-begun = reached .begins-none;
+      reset-latch = ap (λ (t : State). getD (t .ports) 2 0) (reached .state);
+      reset-acc = ap (λ (t : State). t .core .registers .acc) (reached .state);
+      held-bytes = panel-counts 5 refl .reset refl .staying refl;
       tm-before = facts .tm waits [] fresh 0 62 due refl .before (lit< tt);
       tm-from = facts .tm waits [] fresh 0 63 due refl .from (lit≤ tt);
     }

@@ -210,7 +210,7 @@ pub record CycleFacts : Type 0 where
   pub jump-in-room : (rom sched : List ℕ) (s : State) (left j : ℕ) → jumpLength rom sched s left ≡ j → (j ≡ 0 → ⊥) → Valid s → (room : ℕ)
       → within upd546 rom sched room j s ≡ jumped j s
 
--- IN FIGURES: the premises of four of them, as they are met
+-- IN FIGURES: the premises of six of them, as they are met
 
 -- LI 9, LI 2, LI 5, and from 003 on LDI 45, LDI 67
 abbrev pub loads : List ℕ
@@ -235,6 +235,13 @@ waits = romAt 0 (0x14 ∷ 0x80 ∷ 0xC2 ∷ [])
 abbrev pub after : List ℕ → ℕ → State
 after rom n = unbroken upd546 rom [] n fresh .state
 
+-- the panel of the list of calls before cycle k, and n cycles of it from there: RES is high from cycle 1 to cycle 5
+abbrev pub panelAt : ℕ → State
+panelAt k = unbroken upd546 calls.rom calls.sched k fresh .state
+
+abbrev pub panelFrom : (k n : ℕ) → Ran State
+panelFrom k n = unbroken upd546 calls.rom calls.sched n (panelAt k)
+
 pub record CycleFigures : Type 0 where
   -- behind LI 9 two more; behind LDI 45 one more, of two cycles
   pub li-9 : unbroken upd546 loads [] 2 (after loads 1) .state .core .registers .acc ≡ 9
@@ -244,9 +251,15 @@ pub record CycleFigures : Type 0 where
   pub edge-kept : edgeAfter 2 .core .interrupt .int ≡ 1
   pub edge-accepted : edgeAfter 4 .core .flow .pc ≡ 0x03C
   pub edge-return : getD (edgeAfter 4 .core .flow .stack) 0 0 ≡ 3
-  -- RES is high from cycle 1 to cycle 5: the count is 3 before the reset, 4 after it and while it is held
-  pub count-3 : unbroken upd546 calls.rom calls.sched 3 (unbroken upd546 calls.rom calls.sched 1 fresh .state) .state .count ≡ 3
-  pub count-4 : unbroken upd546 calls.rom calls.sched 5 (unbroken upd546 calls.rom calls.sched 1 fresh .state) .state .count ≡ 4
+  -- the count is 3 before the reset, 4 after it and while it is held
+  pub count-3 : panelFrom 1 3 .state .count ≡ 3
+  pub count-4 : panelFrom 1 5 .state .count ≡ 4
+  -- cycle 4, the second of OE, is the first reset cycle: its record, nothing begun, latch E 0 and Acc still 3; cycle 5 appends nothing
+  pub reset-record : panelFrom 4 1 .bytes ≡ 0 ∷ 0 ∷ 0 ∷ 0 ∷ 0 ∷ 4 ∷ 0 ∷ 0 ∷ []
+  pub reset-begun : panelFrom 4 1 .begun ≡ 0
+  pub reset-latch : getD (panelFrom 4 1 .state .ports) 2 0 ≡ 0
+  pub reset-acc : panelFrom 4 1 .state .core .registers .acc ≡ 3
+  pub held-bytes : panelFrom 5 1 .bytes ≡ []
   -- I = 0
   pub tm-before : after waits 64 .core .timer .tm ≡ 0
   pub tm-from : after waits 65 .core .timer .tm ≡ 1
