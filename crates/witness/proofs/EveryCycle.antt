@@ -1,6 +1,6 @@
 -- The theorems about the machine cycle, each at variables. Assumes nothing.
 use mathlib.Core.Path.{_≡_, _∙_, refl, sym, ap}
-use mathlib.Core.Bool.{false, true}
+use mathlib.Core.Bool.{false}
 use mathlib.Core.List.{List, []}
 use Prim.Native.Nat.{ℕ, zero, suc, _+_, min, max, _<_, _≤_}
 use native.Mathlib.Omega.{arith}
@@ -200,9 +200,11 @@ counted-high k h e = facts .runs-count calls.rom calls.sched k (panelAt 1) (lit�
 
 -- cycle k of that panel
 abbrev OfPanel : ℕ → Type 0
-OfPanel k = OfEveryCount (linesAt calls.sched (panelAt k .cycle .0)) (panelAt k) (panelFrom k 1 .state) (panelFrom k 1 .bytes) (panelFrom k 1 .begun)
+OfPanel k =
+    OfEveryCount (linesAt calls.sched (panelAt k .cycle .0)) (panelAt k) (panelFrom k 1 .state) (panelFrom k 1 .bytes) (panelFrom k 1 .begun)
 
-panel-counts : (k : ℕ) → cycle calls.rom calls.sched (panelAt k) ≡ went (panelFrom k 1 .state) (panelFrom k 1 .bytes) (panelFrom k 1 .begun) → OfPanel k
+panel-counts : (k : ℕ)
+    → cycle calls.rom calls.sched (panelAt k) ≡ went (panelFrom k 1 .state) (panelFrom k 1 .bytes) (panelFrom k 1 .begun) → OfPanel k
 panel-counts k e = facts .counts calls.rom calls.sched _ _ _ _ e
 
 li-stands : Stand loads chip.li 2 1
