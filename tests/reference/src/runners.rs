@@ -1,8 +1,8 @@
 //! "Two runners": the plain one and the timer-skipping one.
 
 use crate::instructions::{execute, in_page, FORMS};
-use crate::log::Log;
-use crate::machine::{following, mark, State, LAST_CYCLE};
+use crate::log::{self, Log};
+use crate::machine::{following, mark, State, LAST_CYCLE, RESET};
 use crate::numbers::{ABOVE_ROM, CYCLE_LIMIT, FIELD, FINISHED, ROM_LENGTH};
 use crate::schedule::{self, Cursor};
 
@@ -117,7 +117,7 @@ pub fn run_observed<O: Observer>(
         Ok(rom) => Run {
             rom,
             schedule: Cursor::new(schedule),
-            before_lines: (state.cycle, state.level, state.int),
+            quiet: 0,
             state: state.clone(),
             log: Log::new(log),
             begun: 0,
@@ -162,8 +162,8 @@ fn admit<'a>(
 struct Run<'a, O> {
     rom: &'a [u8; ROM_BYTES],
     schedule: Cursor<'a>,
-    /// The cycle of which lines were taken last, and the level and INT before that.
-    before_lines: (u64, u8, u8),
+    /// Up to this cycle the machine has seen the lines, RES is low and its count is 0.
+    quiet: u64,
     state: State,
     log: Log<'a>,
     begun: u64,
@@ -217,19 +217,35 @@ impl<O: Observer> Run<'_, O> {
     /// boundary".
     #[inline(always)]
     fn cycle(&mut self) -> Result<(), u8> {
+        if self.state.cycle < self.quiet {
+            self.steps(None)
+        } else {
+            self.watched_cycle()
+        }
+    }
+
+    /// Steps a to d. From one record to the next the lines are those that the machine has seen, and nothing
+    /// changes in step b; else the INT line is given.
+    #[inline(always)]
+    fn steps(&mut self, line: Option<u8>) -> Result<(), u8> {
         if self.state.owed > 0 {
             // b and c.
-            self.take_lines();
+            self.take_line(line);
             self.state.owed -= 1;
         } else if self.state.accepts() {
             // a, then b: a fall counts also in an acceptance cycle.
             self.state.accept();
-            self.take_lines();
+            self.take_line(line);
         } else {
             // b and c.
-            self.take_lines();
+            let (level, int) = (self.state.level, self.state.int);
+            self.take_line(line);
             if let Err(stop) = self.instruction() {
-                self.take_back();
+                self.state.owed = 0;
+                if line.is_some() {
+                    self.state.level = level;
+                    self.state.int = int;
+                }
                 return Err(stop);
             }
         }
@@ -243,34 +259,47 @@ impl<O: Observer> Run<'_, O> {
         Ok(())
     }
 
-    /// Step b: "Lines of n are taken." From one record to the next they are those that the machine
-    /// has seen, and nothing changes.
+    /// Step b: "Lines of n are taken."
     #[inline(always)]
-    fn take_lines(&mut self) {
-        if self.state.cycle >= self.schedule.next() {
-            self.take_new_lines();
+    fn take_line(&mut self, line: Option<u8>) {
+        if let Some(line) = line {
+            self.state.see(line);
         }
     }
 
+    /// A cycle at which lines are new, RES is high or its count isn't 0. "RES is looked at before step a". A
+    /// stop begins no cycle, so that RES isn't counted either.
     #[cold]
-    fn take_new_lines(&mut self) {
-        let state = &mut self.state;
-        self.before_lines = (state.cycle, state.level, state.int);
-        self.schedule.go_to(state.cycle);
-        state.see(self.schedule.lines().int);
+    #[inline(never)]
+    fn watched_cycle(&mut self) -> Result<(), u8> {
+        self.schedule = self.schedule.at(self.state.cycle);
+        let lines = *self.schedule.lines();
+        let count = self.state.counted(lines.res);
+        if count == RESET {
+            self.reset_cycle(lines.int)?;
+        } else {
+            self.steps(Some(lines.int))?;
+        }
+        self.state.count = count;
+        self.quiet = if count == 0 {
+            self.schedule.next()
+        } else {
+            self.state.cycle
+        };
+        Ok(())
     }
 
-    /// Takes back what was done of a cycle in which an instruction was due that stops: step b, and
-    /// owed, which was 0.
-    #[cold]
-    fn take_back(&mut self) {
-        let state = &mut self.state;
-        state.owed = 0;
-        let (cycle, level, int) = self.before_lines;
-        if cycle == state.cycle {
-            state.level = level;
-            state.int = int;
+    /// "lines are taken first, but nothing is accepted or executed and the timer doesn't step"; "On reaching 4 it
+    /// appends one record with port 0, value 0, and stop 3 covers it".
+    fn reset_cycle(&mut self, line: u8) -> Result<(), u8> {
+        if self.state.count < RESET {
+            self.log.room(1)?;
+            self.log.append(self.state.cycle, log::RESET, 0);
         }
+        self.state.see(line);
+        self.state.reset();
+        self.state.cycle += 1;
+        Ok(())
     }
 
     /// "one instruction has all its effects and owed becomes its cycles less 1." A stop leaves
@@ -362,11 +391,13 @@ impl<O: Observer> Run<'_, O> {
         }
         let state = &self.state;
         let here = self.schedule.at(state.cycle);
-        if here.lines().int != state.level {
+        // R-8: "The timer jump needs RES low and a count of 0."
+        if here.lines().int != state.level || here.lines().res != 0 || state.count != 0 {
             return 0;
         }
         // Lines whose INT is the level seen change nothing in step b.
         self.schedule = here;
+        self.quiet = self.schedule.next();
         // "the largest even number at most r and the cycles left, with no schedule record in the
         // j - 1 cycles after the present one".
         let no_record = self.schedule.next() - state.cycle;
