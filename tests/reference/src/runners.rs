@@ -217,58 +217,39 @@ impl<O: Observer> Run<'_, O> {
     /// boundary".
     #[inline(always)]
     fn cycle(&mut self) -> Result<(), u8> {
-        if self.state.cycle < self.quiet {
-            self.steps(None)
-        } else {
-            self.watched_cycle()
+        if self.state.cycle >= self.quiet {
+            return self.watched_cycle();
         }
-    }
-
-    /// Steps a to d. From one record to the next the lines are those that the machine has seen, and nothing
-    /// changes in step b; else the INT line is given.
-    #[inline(always)]
-    fn steps(&mut self, line: Option<u8>) -> Result<(), u8> {
         if self.state.owed > 0 {
-            // b and c.
-            self.take_line(line);
+            // c.
             self.state.owed -= 1;
         } else if self.state.accepts() {
-            // a, then b: a fall counts also in an acceptance cycle.
+            // a.
             self.state.accept();
-            self.take_line(line);
         } else {
-            // b and c.
-            let (level, int) = (self.state.level, self.state.int);
-            self.take_line(line);
+            // c.
             if let Err(stop) = self.instruction() {
                 self.state.owed = 0;
-                if line.is_some() {
-                    self.state.level = level;
-                    self.state.int = int;
-                }
                 return Err(stop);
             }
         }
+        self.end_cycle();
+        Ok(())
+    }
 
-        // d.
+    /// Step d, "Then the cycle number rises by 1."
+    #[inline(always)]
+    fn end_cycle(&mut self) {
         let state = &mut self.state;
         if state.register != 0 && state.mark != mark::STM {
             state.step_timer();
         }
         state.cycle += 1;
-        Ok(())
     }
 
-    /// Step b: "Lines of n are taken."
-    #[inline(always)]
-    fn take_line(&mut self, line: Option<u8>) {
-        if let Some(line) = line {
-            self.state.see(line);
-        }
-    }
-
-    /// A cycle at which lines are new, RES is high or its count isn't 0. "RES is looked at before step a". A
-    /// stop begins no cycle, so that RES isn't counted either.
+    /// A cycle at which lines are new, RES is high or its count isn't 0; from one record to the next the lines are
+    /// those that the machine has seen, and step b changes nothing. "RES is looked at before step a". With a stop
+    /// RES isn't counted either.
     #[cold]
     #[inline(never)]
     fn watched_cycle(&mut self) -> Result<(), u8> {
@@ -278,14 +259,33 @@ impl<O: Observer> Run<'_, O> {
         if count == RESET {
             self.reset_cycle(lines.int)?;
         } else {
-            self.steps(Some(lines.int))?;
+            self.ordinary_cycle(lines.int)?;
         }
         self.state.count = count;
-        self.quiet = if count == 0 {
-            self.schedule.next()
+        self.quiet = if count == 0 { self.schedule.next() } else { 0 };
+        Ok(())
+    }
+
+    /// Steps a to d.
+    fn ordinary_cycle(&mut self, line: u8) -> Result<(), u8> {
+        if self.state.owed > 0 {
+            // b and c.
+            self.state.see(line);
+            self.state.owed -= 1;
+        } else if self.state.accepts() {
+            // a, then b: a fall counts also in an acceptance cycle.
+            self.state.accept();
+            self.state.see(line);
         } else {
-            self.state.cycle
-        };
+            // b and c.
+            let (level, int) = (self.state.level, self.state.int);
+            self.state.see(line);
+            if let Err(stop) = self.instruction() {
+                (self.state.owed, self.state.level, self.state.int) = (0, level, int);
+                return Err(stop);
+            }
+        }
+        self.end_cycle();
         Ok(())
     }
 
@@ -341,6 +341,7 @@ impl<O: Observer> Run<'_, O> {
 
     /// "A skip passes over one instruction and costs its bytes (1 or 2) in further cycles; only its
     /// first byte is read." That byte lies in the ROM.
+    #[inline(always)]
     fn skip(&mut self) {
         let code = self.rom[usize::from(self.state.pc)];
         let bytes = FORMS[usize::from(code)].bytes;
@@ -362,6 +363,7 @@ impl<O: Observer> Run<'_, O> {
     }
 
     /// Stop 22: "a byte above 7CF is needed".
+    #[inline(always)]
     fn fetch(&self, address: u16) -> Result<u8, u8> {
         match self.rom.get(usize::from(address)) {
             Some(&byte) => Ok(byte),

@@ -155,6 +155,22 @@ impl Panel {
         counts
     }
 
+    /// The counts wherever version 1 is wanted, in all lists.
+    fn counts_at_old(&self) -> Vec<u8> {
+        let counts = self.counts();
+        let mut found = Vec::new();
+        for slices in self.cut_lists().iter().chain(&self.drawn_lists()) {
+            let mut done = 0;
+            for slice in slices {
+                done += slice.cycles as usize;
+                if slice.old {
+                    found.push(counts[done]);
+                }
+            }
+        }
+        found
+    }
+
     /// What is lent to all its runs.
     fn put_lent(&self, stream: &mut Stream) {
         stream.rom(&self.case.made_rom_bytes());
@@ -202,10 +218,15 @@ pub fn faults(panels: &[Panel]) -> Vec<String> {
     faults
 }
 
-/// How many panels there are of each kind, and of all panels the cuts, the drawn lists, their slices, and the refused calls of both.
+/// How many panels there are of each kind, and of all panels the cuts, the drawn lists, their slices, and of both the refused calls, the
+/// images that went by way of version 1 and those of which that was refused.
 pub fn counts() -> Vec<Count> {
-    let (mut cuts, mut drawn) = (Vec::new(), Vec::new());
+    let (mut cuts, mut drawn, mut old, mut lost) = (Vec::new(), Vec::new(), 0, 0);
     for panel in all() {
+        for wanted in panel.counts_at_old() {
+            old += usize::from(wanted == 0);
+            lost += usize::from(wanted != 0);
+        }
         cuts.extend(panel.cut_lists());
         drawn.extend(panel.drawn_lists());
     }
@@ -216,8 +237,10 @@ pub fn counts() -> Vec<Count> {
         ("slices", drawn.iter().flatten().count()),
         (
             "refused",
-            list::refused(&cuts).len() + list::refused(&drawn).len(),
+            list::refused(&cuts).len() + list::refused(&drawn).len() + lost,
         ),
+        ("old", old),
+        ("lost", lost),
     ] {
         counts.push((format!("lists/{name}"), count));
     }
