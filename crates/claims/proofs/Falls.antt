@@ -17,17 +17,21 @@ use Rattle.upd546.specs.declared.Core.{Core}
 use Rattle.upd546.specs.declared.Interrupt.{Interrupt}
 use Rattle.upd546.specs.declared.Lines.{Lines}
 use Rattle.upd546.specs.declared.State.{State}
-use Rattle.upd546.specs.TheMachine.{inRom, byteAt, follows, past, markLdi, markLi}
+use Rattle.upd546.specs.TheMachine.{inRom, byteAt, follows, past, newest, markLdi, markLi, resetCount}
 use Rattle.upd546.specs.Parts.{setMark, setOwed, setAcc, setDph, setDpl, setPc}
 use Rattle.upd546.specs.Sequences.{allOf}
 use Rattle.upd546.specs.TheLineSchedule.{linesAt}
 use Rattle.upd546.specs.Instructions as chip
 use Rattle.upd546.specs.Instructions.{Given, Instruction, instruction}
-use Rattle.upd546.specs.OneMachineCycle.{blocks, accepts, accepted, taken, ticked, given, instructionStop, passedOver, coreAfter, begun, onStop, execute, cycle}
+use Rattle.upd546.specs.OneMachineCycle.{blocks, accepts, accepted, taken, ticked, given, instructionStop, passedOver, coreAfter, begun, onStop, execute, ordinaryCycle}
 use Rattle.upd546.specs.TwoRunners.{upd546}
+use Rattle.laws.specs.Ordinary.{stepsOf, ordinary}
+use Rattle.laws.specs.Reset.{countAfter, noReset, SameButCount}
 use Rattle.laws.specs.Writes.{All, none as no-more, _▹_}
 use Rattle.laws.proofs.Codes.{instructions, all-same, every-code}
 use Rattle.laws.proofs.Jump.{double, double-is}
+use Rattle.laws.proofs.Lists.{and-left}
+use Rattle.laws.proofs.Reset.{unreset-run}
 use Rattle.claims.specs.Strings.{Stand, FallsIn, cyclesOn, Followed, AcceptedBehind, FallKept, LoadStringsKeepFalls}
 use Rattle.claims.proofs.Interval.{ticked-keeps}
 use Rattle.claims.proofs.Strings.{marks-hold-back, lined, after, due, li-cycle, ldi-cycle, owed-cycle, stays-set}
@@ -144,35 +148,35 @@ module _ (rom : List ℕ) (l : Lines) (s : State) (c : Core) (here : inRom (c .f
 
 -- from the second on
 li-on : (rom sched : List ℕ) (k : ℕ) (s : State) → s .core .owed ≡ 0 → s .core .mark ≡ markLi → Stand rom chip.li k (s .core .flow .pc)
-    → Keeps sched k (past k (s .core .flow .pc)) markLi s (unbroken upd546 rom sched k s)
+    → Keeps sched k (past k (s .core .flow .pc)) markLi s (unbroken ordinary rom sched k s)
 unfolding unbroken past ticked taken
 li-on rom sched zero s o m l = no-cycle sched markLi s o m
 li-on rom sched (suc k) s o m l =
     let to = follows (s .core .flow .pc) in
     let c = setOwed 0 (setMark markLi (setPc to (lined sched s))) in
     rw (li-cycle rom sched s o m (l .0) (l .1))
-    (before sched s (after s c) (took sched s c refl) 1 k (past k to) markLi [] (unbroken upd546 rom sched k (after s c))
+    (before sched s (after s c) (took sched s c refl) 1 k (past k to) markLi [] (unbroken ordinary rom sched k (after s c))
     (li-on rom sched k (after s c) refl refl (l .3)))
 
 -- the first, whatever the mark is
 li-all : (rom sched : List ℕ) (k : ℕ) (s : State) → s .core .owed ≡ 0 → accepts (s .core) ≡ false
     → Stand rom chip.li (suc k) (s .core .flow .pc)
-    → Keeps sched (suc k) (past (suc k) (s .core .flow .pc)) markLi s (unbroken upd546 rom sched (suc k) s)
+    → Keeps sched (suc k) (past (suc k) (s .core .flow .pc)) markLi s (unbroken ordinary rom sched (suc k) s)
 unfolding unbroken past ticked taken
 li-all rom sched k s o a l = go (eqb (s .core .mark) markLi) refl
   where
     go : (b : Bool) → eqb (s .core .mark) markLi ≡ b
-        → Keeps sched (suc k) (past (suc k) (s .core .flow .pc)) markLi s (unbroken upd546 rom sched (suc k) s)
+        → Keeps sched (suc k) (past (suc k) (s .core .flow .pc)) markLi s (unbroken ordinary rom sched (suc k) s)
     go true e = li-on rom sched (suc k) s o (eqb-true _ _ e) l
     go false e =
         let to = follows (s .core .flow .pc) in
         let c = setOwed 0 (setMark markLi (setAcc (byteAt rom (s .core .flow .pc) % 16) (setPc to (lined sched s)))) in
         rw (due rom sched s o a, execute-li-acts rom (linesAt sched (s .cycle .0)) s (lined sched s) (l .1) e (l .0))
-        (before sched s (after s c) (took sched s c refl) 1 k (past k to) markLi [] (unbroken upd546 rom sched k (after s c))
+        (before sched s (after s c) (took sched s c refl) 1 k (past k to) markLi [] (unbroken ordinary rom sched k (after s c))
         (li-on rom sched k (after s c) refl refl (l .3)))
 
 ldi-on : (rom sched : List ℕ) (k : ℕ) (s : State) → s .core .owed ≡ 0 → s .core .mark ≡ markLdi → Stand rom chip.ldi k (s .core .flow .pc)
-    → Keeps sched (double k) (past (double k) (s .core .flow .pc)) markLdi s (unbroken upd546 rom sched (double k) s)
+    → Keeps sched (double k) (past (double k) (s .core .flow .pc)) markLdi s (unbroken ordinary rom sched (double k) s)
 unfolding unbroken past ticked taken
 ldi-on rom sched zero s o m l = no-cycle sched markLdi s o m
 ldi-on rom sched (suc k) s o m l =
@@ -182,18 +186,18 @@ ldi-on rom sched (suc k) s o m l =
     let d = setOwed 0 (lined sched t) in
     let n = double k in
     rw (ldi-cycle rom sched s o m (l .0) (l .1) (l .2), owed-cycle rom sched t 0 refl)
-    (before sched s t (took sched s c refl) 1 (suc n) (past n to) markLdi [] (begins [] 0 (unbroken upd546 rom sched n (after t d)))
-    (before sched t (after t d) (took sched t d refl) 0 n (past n to) markLdi [] (unbroken upd546 rom sched n (after t d))
+    (before sched s t (took sched s c refl) 1 (suc n) (past n to) markLdi [] (begins [] 0 (unbroken ordinary rom sched n (after t d)))
+    (before sched t (after t d) (took sched t d refl) 0 n (past n to) markLdi [] (unbroken ordinary rom sched n (after t d))
     (ldi-on rom sched k (after t d) refl refl (l .3))))
 
 ldi-all : (rom sched : List ℕ) (k : ℕ) (s : State) → s .core .owed ≡ 0 → accepts (s .core) ≡ false
     → Stand rom chip.ldi (suc k) (s .core .flow .pc)
-    → Keeps sched (double (suc k)) (past (double (suc k)) (s .core .flow .pc)) markLdi s (unbroken upd546 rom sched (double (suc k)) s)
+    → Keeps sched (double (suc k)) (past (double (suc k)) (s .core .flow .pc)) markLdi s (unbroken ordinary rom sched (double (suc k)) s)
 unfolding unbroken past ticked taken
 ldi-all rom sched k s o a l = go (eqb (s .core .mark) markLdi) refl
   where
     go : (b : Bool) → eqb (s .core .mark) markLdi ≡ b
-        → Keeps sched (double (suc k)) (past (double (suc k)) (s .core .flow .pc)) markLdi s (unbroken upd546 rom sched (double (suc k)) s)
+        → Keeps sched (double (suc k)) (past (double (suc k)) (s .core .flow .pc)) markLdi s (unbroken ordinary rom sched (double (suc k)) s)
     go true e = ldi-on rom sched (suc k) s o (eqb-true _ _ e) l
     go false e =
         let to = follows (follows (s .core .flow .pc)) in
@@ -203,8 +207,8 @@ ldi-all rom sched k s o a l = go (eqb (s .core .mark) markLdi) refl
         let d = setOwed 0 (lined sched t) in
         let n = double k in
         rw (due rom sched s o a, execute-ldi-acts rom l0 s (lined sched s) (l .1) e (l .0) (l .2), owed-cycle rom sched t 0 refl)
-        (before sched s t (took sched s c refl) 1 (suc n) (past n to) markLdi [] (begins [] 0 (unbroken upd546 rom sched n (after t d)))
-        (before sched t (after t d) (took sched t d refl) 0 n (past n to) markLdi [] (unbroken upd546 rom sched n (after t d))
+        (before sched s t (took sched s c refl) 1 (suc n) (past n to) markLdi [] (begins [] 0 (unbroken ordinary rom sched n (after t d)))
+        (before sched t (after t d) (took sched t d refl) 0 n (past n to) markLdi [] (unbroken ordinary rom sched n (after t d))
         (ldi-on rom sched k (after t d) refl refl (l .3))))
 
 -- THE INSTRUCTION BEHIND: none but TIT takes INT back
@@ -262,19 +266,27 @@ module _ (rom : List ℕ) (l : Lines) (s : State) (c : Core) where
       (ap (λ (x : Interrupt). x .int) (ticked-interrupt (coreAfter i e (passedOver rom e)))
       ∙ keeps-int (byteAt rom (c .flow .pc)) n g ∙ h)
 
+-- r and then q
+joined-none : (o p : Option ℕ) → o ≡ none → p ≡ none → firstStop o p ≡ none
+joined-none o p e f = rw (e, f)
+
+-- what is behind a run that finished
+behind-none : (o p : Option ℕ) → o ≡ none → firstStop o p ≡ none → p ≡ none
+behind-none o p e f = sym (ap (λ (x : Option ℕ). firstStop x p) e) ∙ f
+
 module _ (rom sched : List ℕ) where
   next-sets : (t : State) → t .core .owed ≡ 0 → accepts (t .core) ≡ false → (instruction (byteAt rom (t .core .flow .pc)) ≡ chip.tit → ⊥)
-      → t .core .interrupt .int ≡ 1 → Sets (cycle rom sched t)
+      → t .core .interrupt .int ≡ 1 → Sets (stepsOf rom sched t)
   unfolding taken
   next-sets t o a n h =
       rw (due rom sched t o a)
       (execute-sets rom (linesAt sched (t .cycle .0)) t (lined sched t) n
       (stays-set (ltb (linesAt sched (t .cycle .0) .int) (t .core .interrupt .level)) (t .core .interrupt .int) h))
 
-  one-more : (t : State) → t .core .interrupt .int ≡ 1 → Sets (cycle rom sched t)
-      → unbroken upd546 rom sched 1 t .state .core .interrupt .int ≡ 1
+  one-more : (t : State) → t .core .interrupt .int ≡ 1 → Sets (stepsOf rom sched t)
+      → unbroken ordinary rom sched 1 t .state .core .interrupt .int ≡ 1
   unfolding unbroken
-  one-more t h e = go (cycle rom sched t) e
+  one-more t h e = go (stepsOf rom sched t) e
     where
       go : (o : Out State) → Sets o → onOut o t (λ u. still u none) .state .core .interrupt .int ≡ 1
       go (stop k) e = h
@@ -289,7 +301,7 @@ module _ (rom sched : List ℕ) where
     inte : r .state .core .interrupt .inte ≡ u .core .interrupt .inte
     int : u .core .interrupt .int ≡ 1 → r .state .core .interrupt .int ≡ 1
 
-  pays : (q : ℕ) (u : State) → u .core .owed ≡ q → Paid u (unbroken upd546 rom sched q u)
+  pays : (q : ℕ) (u : State) → u .core .owed ≡ q → Paid u (unbroken ordinary rom sched q u)
   unfolding unbroken taken
   pays zero u o = record { number = refl; pc = refl; mark = refl; owed = o; inte = refl; int = λ h. h }
   pays (suc q) u o =
@@ -307,46 +319,103 @@ module _ (rom sched : List ℕ) where
       })
 
   -- THE ACCEPTANCE
-  takes-it : (v : State) → accepts (v .core) ≡ true → AcceptedBehind (v .core .flow .pc) (unbroken upd546 rom sched 1 v)
-  unfolding unbroken cycle accepted taken ticked
+  takes-it : (v : State) → accepts (v .core) ≡ true → AcceptedBehind (v .core .flow .pc) (unbroken ordinary rom sched 1 v)
+  unfolding unbroken ordinaryCycle accepted taken ticked
   takes-it v a = rw a (record { number = refl; pc = refl; return = refl; inte = refl })
 
   accepts-now : (c : Core) → c .owed ≡ 0 → c .interrupt .inte ≡ 1 → c .interrupt .int ≡ 1 → blocks (c .mark) ≡ false → accepts c ≡ true
   unfolding accepts allOf
   accepts-now c o e i m = rw (o, e, i, m)
 
-  -- r and then q
-  joined-none : (o p : Option ℕ) → o ≡ none → p ≡ none → firstStop o p ≡ none
-  joined-none o p e f = rw (e, f)
-
-  behind : (n : ℕ) (s : State) → cyclesOn rom sched n s .core .owed ≡ 0 → accepts (cyclesOn rom sched n s .core) ≡ false
-      → cyclesOn rom sched n s .core .interrupt .int ≡ 1 → Followed rom sched n s
-      → AcceptedBehind (cyclesOn rom sched (n + 1) s .core .flow .pc)
-      (unbroken upd546 rom sched (n + 1 + cyclesOn rom sched (n + 1) s .core .owed + 1) s)
-  behind n s o a h f =
-      let t : State = cyclesOn rom sched n s in
-      let u : State = cyclesOn rom sched (n + 1) s in
-      let q = u .core .owed in
-      let v : State = cyclesOn rom sched (n + 1 + q) s in
-      let cut-u : u ≡ cyclesOn rom sched 1 t = ap (λ (r : Ran State). r .state) (unbroken-cut upd546 rom sched n 1 s) in
-      let set-u : u .core .interrupt .int ≡ 1 =
-      ap (λ (x : State). x .core .interrupt .int) cut-u ∙ one-more t h (next-sets t o a (f .other) h) in
-      let cut-v = unbroken-cut upd546 rom sched (n + 1) q s in
-      let p = pays q u refl in
-      let at-v : v ≡ cyclesOn rom sched q u = ap (λ (r : Ran State). r .state) cut-v in
-      let now : accepts (cyclesOn rom sched q u .core) ≡ true =
-      accepts-now (cyclesOn rom sched q u .core) (p .owed) (p .inte ∙ f .inte) (p .int set-u) (ap blocks (p .mark) ∙ f .mark) in
+  -- ALL THREE, where the instruction at t leaves the core c
+  behind : (t : State) (c : Core) → t .core .owed ≡ 0 → accepts (t .core) ≡ false → t .core .interrupt .int ≡ 1
+      → (instruction (byteAt rom (t .core .flow .pc)) ≡ chip.tit → ⊥)
+      → unbroken ordinary rom sched 1 t .number ≡ none → unbroken ordinary rom sched 1 t .state .core ≡ c
+      → c .interrupt .inte ≡ 1 → blocks (c .mark) ≡ false
+      → AcceptedBehind (c .flow .pc) (unbroken ordinary rom sched (1 + c .owed + 1) t)
+  behind t c o a h other done leaves inte mark =
+      let q = c .owed in
+      let u : State = unbroken ordinary rom sched 1 t .state in
+      let v : State = unbroken ordinary rom sched (1 + q) t .state in
+      let w : State = unbroken ordinary rom sched q u .state in
+      let p = pays q u (ap (λ (x : Core). x .owed) leaves) in
+      let cut-v = unbroken-cut ordinary rom sched 1 q t in
+      let at-v : v ≡ w = ap (λ (r : Ran State). r .state) cut-v in
+      let now : accepts (w .core) ≡ true =
+      accepts-now (w .core) (p .owed) (p .inte ∙ ap (λ (x : Core). x .interrupt .inte) leaves ∙ inte)
+      (p .int (one-more t h (next-sets t o a other h)))
+      (ap blocks (p .mark) ∙ ap (λ (x : Core). blocks (x .mark)) leaves ∙ mark) in
       let e = takes-it v (subst (λ (x : State). accepts (x .core) ≡ true) (sym at-v) now) in
-      let number-v : unbroken upd546 rom sched (n + 1 + q) s .number ≡ none =
-      ap (λ (r : Ran State). r .number) cut-v ∙ joined-none _ _ (f .number) (p .number) in
-      let back : v .core .flow .pc ≡ u .core .flow .pc = ap (λ (x : State). x .core .flow .pc) at-v ∙ p .pc in
-      subst (λ (r : Ran State). AcceptedBehind (u .core .flow .pc) r) (sym (unbroken-cut upd546 rom sched (n + 1 + q) 1 s))
+      let number-v : unbroken ordinary rom sched (1 + q) t .number ≡ none =
+      ap (λ (r : Ran State). r .number) cut-v ∙ joined-none _ _ done (p .number) in
+      let back : v .core .flow .pc ≡ c .flow .pc =
+      ap (λ (x : State). x .core .flow .pc) at-v ∙ p .pc ∙ ap (λ (x : Core). x .flow .pc) leaves in
+      subst (λ (r : Ran State). AcceptedBehind (c .flow .pc) r) (sym (unbroken-cut ordinary rom sched (1 + q) 1 t))
       (record {
         number = joined-none _ _ number-v (e .number);
         pc = e .pc;
         return = e .return ∙ back;
         inte = e .inte;
       })
+
+-- THE CHIP: where no cycle is a reset cycle it does the same, whatever it counts
+
+same-keeps : (sched : List ℕ) (n to mark : ℕ) (s : State) (r q : Ran State) → SameButCount r q → Keeps sched n to mark s q
+    → Keeps sched n to mark s r
+same-keeps sched n to mark s r q e p =
+    let core : r .state .core ≡ q .state .core = ap (λ (t : State). t .core) (e .state) in
+    let int = ap (λ (c : Core). c .interrupt .int) core in
+    record {
+      number = e .number ∙ p .number;
+      cycles = e .cycles ∙ p .cycles;
+      pc = ap (λ (c : Core). c .flow .pc) core ∙ p .pc;
+      mark = ap (λ (c : Core). c .mark) core ∙ p .mark;
+      owed = ap (λ (c : Core). c .owed) core ∙ p .owed;
+      inte = ap (λ (c : Core). c .interrupt .inte) core ∙ p .inte;
+      set = λ h. int ∙ p .set h;
+      fall = λ m h f. int ∙ p .fall m h f;
+    }
+
+same-accepted : (back : ℕ) (r q : Ran State) → SameButCount r q → AcceptedBehind back q → AcceptedBehind back r
+same-accepted back r q e p =
+    let core : r .state .core ≡ q .state .core = ap (λ (t : State). t .core) (e .state) in
+    record {
+      number = e .number ∙ p .number;
+      pc = ap (λ (c : Core). c .flow .pc) core ∙ p .pc;
+      return = ap (λ (c : Core). newest (c .flow .stack)) core ∙ p .return;
+      inte = ap (λ (c : Core). c .interrupt .inte) core ∙ p .inte;
+    }
+
+-- the first cycle of some
+first-no-reset : (sched : List ℕ) (q n count : ℕ) → noReset sched (1 + q + 1) n count ≡ true → noReset sched 1 n count ≡ true
+unfolding noReset
+first-no-reset sched q n count z =
+    let e : 1 + q + 1 ≡ suc (q + 1) = omega arith in
+    let f : noReset sched (suc (q + 1)) n count ≡ true = rw e at z in
+    rw (and-left (not (eqb (countAfter sched n count) resetCount)) (noReset sched (q + 1) (n + 1) (countAfter sched n count)) f)
+
+module _ (rom sched : List ℕ) (n : ℕ) (s : State) where
+  chip-behind : unbroken upd546 rom sched n s .number ≡ none → cyclesOn rom sched n s .core .owed ≡ 0
+      → accepts (cyclesOn rom sched n s .core) ≡ false → cyclesOn rom sched n s .core .interrupt .int ≡ 1 → Followed rom sched n s
+      → AcceptedBehind (cyclesOn rom sched (n + 1) s .core .flow .pc)
+      (unbroken upd546 rom sched (n + 1 + cyclesOn rom sched (n + 1) s .core .owed + 1) s)
+  chip-behind done o a h f =
+      let t : State = cyclesOn rom sched n s in
+      let c : Core = cyclesOn rom sched (n + 1) s .core in
+      let q = c .owed in
+      let cut = unbroken-cut upd546 rom sched n 1 s in
+      let one = unreset-run rom sched 1 t (t .count) (first-no-reset sched q (t .cycle .0) (t .count) (f .no-reset)) in
+      let finishes : unbroken ordinary rom sched 1 t .number ≡ none =
+      sym (one .number) ∙ behind-none _ _ done (sym (ap (λ (r : Ran State). r .number) cut) ∙ f .number) in
+      let leaves : unbroken ordinary rom sched 1 t .state .core ≡ c =
+      sym (ap (λ (x : State). x .core) (one .state)) ∙ sym (ap (λ (r : Ran State). r .state .core) cut) in
+      let all = unreset-run rom sched (1 + q + 1) t (t .count) (f .no-reset) in
+      let e : AcceptedBehind (c .flow .pc) (unbroken upd546 rom sched (1 + q + 1) t) =
+      same-accepted (c .flow .pc) _ _ all (behind rom sched t c o a h (f .other) finishes leaves (f .inte) (f .mark)) in
+      let far : n + (1 + q + 1) ≡ n + 1 + q + 1 = omega arith in
+      subst (λ (m : ℕ). AcceptedBehind (c .flow .pc) (unbroken upd546 rom sched m s)) far
+      (subst (λ (r : Ran State). AcceptedBehind (c .flow .pc) r) (sym (unbroken-cut upd546 rom sched n (1 + q + 1) s))
+      (record { number = joined-none _ _ done (e .number); pc = e .pc; return = e .return; inte = e .inte }))
 
 -- BOTH
 
@@ -360,39 +429,43 @@ not-accepted c e = rw e (go (eqb (c .owed) 0) (eqb (c .interrupt .inte) 1))
     go true true = refl
 
 module _ (rom sched : List ℕ) (s : State) where
-  kept : (mark n to m : ℕ) → ((c : Core) → c .mark ≡ mark → accepts c ≡ false) → Keeps sched n to mark s (unbroken upd546 rom sched n s)
-      → m < n → FallsIn sched s m → FallKept rom sched n to s
-  kept mark n to m hold p h f =
+  kept : (mark n to m : ℕ) → ((c : Core) → c .mark ≡ mark → accepts c ≡ false) → Keeps sched n to mark s (unbroken ordinary rom sched n s)
+      → m < n → FallsIn sched s m → noReset sched n (s .cycle .0) (s .count) ≡ true → FallKept rom sched n to s
+  kept mark n to m hold q h f z =
+      let p =
+      same-keeps sched n to mark s (unbroken upd546 rom sched n s) (unbroken ordinary rom sched n s) (unreset-run rom sched n s (s .count) z) q in
       let int = p .fall m h f in
       let held = hold (cyclesOn rom sched n s .core) (p .mark) in
       record {
         behind = record { number = p .number; cycles = p .cycles; pc = p .pc; int = int; inte = p .inte; held = held };
-        accepted = behind rom sched n s (p .owed) held int;
+        accepted = chip-behind rom sched n s (p .number) (p .owed) held int;
       }
 
   li-kept : (k m : ℕ) → s .core .owed ≡ 0 → s .core .interrupt .int ≡ 0 → Stand rom chip.li k (s .core .flow .pc)
-      → m < k → FallsIn sched s m
+      → m < k → FallsIn sched s m → noReset sched k (s .cycle .0) (s .count) ≡ true
       → FallKept rom sched k (past k (s .core .flow .pc)) s
-  li-kept zero m o i l h f = absurd (omega arith)
-  li-kept (suc k) m o i l h f =
+  li-kept zero m o i l h f z = absurd (omega arith)
+  li-kept (suc k) m o i l h f z =
       kept markLi (suc k) (past (suc k) (s .core .flow .pc)) m (λ c. marks-hold-back c .li)
-      (li-all rom sched k s o (not-accepted (s .core) i) l) h f
+      (li-all rom sched k s o (not-accepted (s .core) i) l) h f z
 
   ldi-kept : (k m : ℕ) → s .core .owed ≡ 0 → s .core .interrupt .int ≡ 0 → Stand rom chip.ldi k (s .core .flow .pc)
-      → m < double k → FallsIn sched s m
+      → m < double k → FallsIn sched s m → noReset sched (double k) (s .cycle .0) (s .count) ≡ true
       → FallKept rom sched (double k) (past (double k) (s .core .flow .pc)) s
-  ldi-kept zero m o i l h f = absurd (omega arith)
-  ldi-kept (suc k) m o i l h f =
+  ldi-kept zero m o i l h f z = absurd (omega arith)
+  ldi-kept (suc k) m o i l h f z =
       kept markLdi (double (suc k)) (past (double (suc k)) (s .core .flow .pc)) m (λ c. marks-hold-back c .ldi)
-      (ldi-all rom sched k s o (not-accepted (s .core) i) l) h f
+      (ldi-all rom sched k s o (not-accepted (s .core) i) l) h f z
 
 -- "cases for an edge between two loads"
 pub load-strings-keep-falls : LoadStringsKeepFalls
 load-strings-keep-falls = record {
-  li = λ rom sched k m s o i l h f.
-      let e : k ≡ 1 * k = omega arith in
-      subst (λ (n : ℕ). FallKept rom sched n (past n (s .core .flow .pc)) s) e (li-kept rom sched s k m o i l (omega arith) f);
-  ldi = λ rom sched k m s o i l h f.
+  li = λ rom sched k m s o i l h f z.
+      let e : 1 * k ≡ k = omega arith in
+      let none : noReset sched k (s .cycle .0) (s .count) ≡ true = rw e at z in
+      subst (λ (n : ℕ). FallKept rom sched n (past n (s .core .flow .pc)) s) (sym e) (li-kept rom sched s k m o i l (omega arith) f none);
+  ldi = λ rom sched k m s o i l h f z.
+      let none : noReset sched (double k) (s .cycle .0) (s .count) ≡ true = rw (← double-is k) at z in
       subst (λ (n : ℕ). FallKept rom sched n (past n (s .core .flow .pc)) s) (double-is k)
-      (ldi-kept rom sched s k m o i l (omega (arith, double-is k)) f);
+      (ldi-kept rom sched s k m o i l (omega (arith, double-is k)) f none);
 }

@@ -7,9 +7,11 @@ use Prim.Native.Nat.{ℕ, zero, suc, _^_, _<_, _≤_}
 use native.Mathlib.Omega.{arith}
 use lib.ListN.{length}
 use borrow.Author.Tests.{ne-eqb}
+use Rattle.runs.specs.declared.Version.the-variants.{Two}
 use Rattle.runs.specs.Numbers.{isStop}
 use Rattle.runs.specs.TwoRunners.{End, stopped, refused, RunAnswer, SaveAnswer, plain, saveAnswer}
 use Rattle.runs.specs.Lists.{plainOne}
+use Rattle.runs.proofs.Calls.{current-long}
 use Rattle.upd546.specs.declared.State.{State}
 use Rattle.upd546.specs.TheMachine.{fresh}
 use Rattle.upd546.specs.StateImage.{imageLength, imageOf}
@@ -26,19 +28,23 @@ use Rattle.trace_text.specs.Texts.{TellsRun, endedBy, answerText}
 use Rattle.trace_text.proofs.Inputs.{sound}
 
 -- a save of the fresh state over an image's bytes leaves its image
-pub fresh-image : (buffer after : List ℕ) {k : ℕ} → length buffer ≡ imageLength → record { number = k; buffer = after } ≡ saveAnswer upd546 fresh buffer
-    → after ≡ imageOf fresh
+pub fresh-image : (buffer after : List ℕ) {k : ℕ} → length buffer ≡ imageLength Two → record { number = k; buffer = after } ≡ saveAnswer upd546 Two fresh buffer
+    → after ≡ imageOf Two fresh
 fresh-image buffer after h e = ap (λ (a : SaveAnswer). a .buffer) (e ∙ saves-over upd546 (laws .images) fresh buffer sound h)
 
 module _ (rom sched log report : List ℕ) (n : ℕ) where
   abbrev freshCall : List ℕ → BoardCall
   freshCall image = record { image = image; rom = rom; sched = sched; log = log; n = n; runner = 0; report = report }
 
-  fresh-run : (image : List ℕ) → image ≡ imageOf fresh → runOf upd546 (freshCall image) ≡ plain upd546 rom sched fresh log n
-  fresh-run image e = sym (done-image upd546 fresh plainOne image rom sched log n (sym (back upd546 (laws .images) fresh image sound e)))
+  fresh-run : (image : List ℕ) → image ≡ imageOf Two fresh → runOf upd546 (freshCall image) ≡ plain upd546 rom sched fresh log n
+  fresh-run image e =
+      let images = laws .images in
+      let long : length image ≡ imageLength Two = ap length e ∙ images .image-length Two fresh sound (images .two-holds-all fresh) in
+      let restored = current-long upd546 image long ∙ back upd546 images fresh image sound e in
+      sym (done-image upd546 fresh plainOne image rom sched log n (sym restored))
 
   -- what the call answers and leaves
-  pub call-ends : (image : List ℕ) {k : ℕ} {image′ log′ report′ : List ℕ} → image ≡ imageOf fresh → length log < 2 ^ 64 → reportLength ≤ length report
+  pub call-ends : (image : List ℕ) {k : ℕ} {image′ log′ report′ : List ℕ} → image ≡ imageOf Two fresh → length log < 2 ^ 64 → reportLength ≤ length report
       → record { number = k; image = image′; log = log′; report = report′ } ≡ callAnswer upd546 (freshCall image)
       → TellsRun (plain upd546 rom sched fresh log n) (endedBy k report′) log′
   call-ends image {k} {image′} {log′} {report′} e small long same =

@@ -1,4 +1,4 @@
--- The log of a run can be written as lines: its records have ports C to I and values of 4 bits. Assumes nothing.
+-- The log of a run can be written as lines: its records have ports C to I, or that of a reset, and values of 4 bits. Assumes nothing.
 use mathlib.Core.Path.{_≡_, subst}
 use mathlib.Core.List.{List, _++_}
 use Prim.Native.Nat.{ℕ, zero, suc, _+_, _*_, _<_, _≤_}

@@ -4,7 +4,7 @@ use mathlib.Core.List.{List}
 use lib.ListN.{length, getD}
 use Rattle.upd546.specs.Ports.{portI, logRecordLength}
 
--- the ports of the first records are written by a letter from A on to I, their values by one hexadecimal digit
+-- the ports of the first records are written by a letter, R of a reset and else from A on to I, their values by one hexadecimal digit
 pub record Legible (log : List ℕ) (count : ℕ) : Type 0 where
   pub port : (i : ℕ) → i < count → getD log (logRecordLength * i + 6) 0 ≤ portI
   pub value : (i : ℕ) → i < count → getD log (logRecordLength * i + 7) 0 < 16

@@ -4,6 +4,7 @@ use board::REPORT_LENGTH;
 use runs::MachineCycles;
 use upd546::CYCLE_BYTES;
 use upd546::LOG_RECORD;
+use upd546::PORT_RESET;
 use upd546::ROM_LENGTH;
 use upd546::layout::IMAGE_LENGTH;
 ghost use mathlib.Core.Path.{_≡_};
@@ -43,10 +44,14 @@ struct Ended {
     written: usize,
 }
 
+// The letter of a port, or R of a reset.
 fn port_letter(port: u8) -> u8
     requires { ⌜ port ≤ portI ⌝ }
     ensures { λ r. ⌜ r ≡ portLetter port ⌝ }
 {
+    if port == PORT_RESET {
+        return b'R';
+    }
     b'A' + port
 }
 

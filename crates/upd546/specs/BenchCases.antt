@@ -4,12 +4,13 @@ use Prim.Native.Nat.{ℕ, _+_, _-_, _/_, _%_}
 use mathlib.Core.Bool.{Bool, true, _&&_}
 use mathlib.Core.List.{List, [], _∷_, _++_}
 use lib.Dec.{eqb}
-use lib.ListN.{length, replicate}
-use Rattle.runs.specs.TwoRunners.{numberOfEnd, RunAnswer, unbroken, runNumber, plain, skipping}
+use lib.ListN.{length, take, drop, replicate}
+use Rattle.runs.specs.declared.Version.the-variants.{One, Two}
+use Rattle.runs.specs.TwoRunners.{numberOfEnd, RunAnswer, unbroken, runNumber, saveNumber, plain, skipping}
 use Rattle.upd546.specs.declared.Core.{Core}
 use Rattle.upd546.specs.declared.State.{State}
 use Rattle.upd546.specs.TheMachine.{fresh, newest}
-use Rattle.upd546.specs.Parts.{withCore, stateOf, setAcc, setCarry, setDph, setDpl, setPc, setInt, setInte, setMark, setOwed}
+use Rattle.upd546.specs.Parts.{withCore, withCount, stateOf, withTimer, setAcc, setCarry, setDph, setDpl, setPc, setInt, setInte, setMark, setOwed}
 use Rattle.upd546.specs.StateImage.{imageOf, ofImage, stateNumber, imageNumber}
 use Rattle.upd546.specs.Sequences.{sameNumbers}
 use Rattle.upd546.specs.TwoRunners.{upd546}
@@ -80,7 +81,7 @@ coreNumbers c =
     ∷ c .timer .tm ∷ c .timer .register ∷ c .timer .counter ∷ c .mark ∷ c .owed ∷ [])
 
 abbrev pub stateNumbers : State → List ℕ
-stateNumbers s = coreNumbers (s .core) ++ s .ports ++ s .ram ++ (s .cycle .0 ∷ [])
+stateNumbers s = coreNumbers (s .core) ++ s .ports ++ s .ram ++ (s .count ∷ s .cycle .0 ∷ [])
 
 abbrev pub onState : StateRow → Bool
 onState r = sameNumbers (stateNumbers (r .given)) (stateNumbers (r .wanted))
@@ -116,6 +117,10 @@ intIs v s = eqb (s .core .interrupt .int) v
 abbrev pub inteIs : ℕ → State → Bool
 inteIs v s = eqb (s .core .interrupt .inte) v
 
+-- the INT level last seen
+abbrev pub levelIs : ℕ → State → Bool
+levelIs v s = eqb (s .core .interrupt .level) v
+
 abbrev pub tmIs : ℕ → State → Bool
 tmIs v s = eqb (s .core .timer .tm) v
 
@@ -137,6 +142,10 @@ portsAre v s = sameNumbers (s .ports) v
 abbrev pub ramIs : List ℕ → State → Bool
 ramIs v s = sameNumbers (s .ram) v
 
+-- the count of consecutive cycles with RES high
+abbrev pub countIs : ℕ → State → Bool
+countIs v s = eqb (s .count) v
+
 -- What a run answers.
 
 -- of a stop or a refusal, 0 of a run that finished
@@ -156,6 +165,14 @@ begunAre v a = eqb (a .begun) v
 abbrev pub stepsAre : ℕ → RunAnswer State → Bool
 stepsAre v a = eqb (a .steps) v
 
+-- log bytes written
+abbrev pub writtenAre : ℕ → RunAnswer State → Bool
+writtenAre v a = eqb (a .written) v
+
+-- the whole lent log, as it stands when the run returns
+abbrev pub logIs : List ℕ → RunAnswer State → Bool
+logIs v a = sameNumbers (a .log) v
+
 -- What a row is given.
 
 -- a ROM of 2,000 bytes that has the bytes from an address on, else zeros
@@ -169,6 +186,17 @@ linesFrom0 ab cd = replicate 6 0 ++ (ab ∷ cd ∷ 1 ∷ 0 ∷ [])
 -- and of one in which INT falls at cycle n, which is below 256
 abbrev pub fallAt : ℕ → List ℕ
 fallAt n = replicate 5 0 ++ (n ∷ 0 ∷ 0 ∷ 0 ∷ 0 ∷ [])
+
+-- a record at cycle n, which is below 256: ports 0, INT and RES
+abbrev pub recordAt : (n int res : ℕ) → List ℕ
+recordAt n int res = replicate 5 0 ++ (n ∷ 0 ∷ 0 ∷ int ∷ res ∷ [])
+
+-- RES high from cycle 0 on, and from cycle 0 up to cycle n, with INT high
+abbrev pub held : List ℕ
+held = recordAt 0 1 1
+
+abbrev pub heldTo : ℕ → List ℕ
+heldTo n = held ++ recordAt n 1 0
 
 -- the fresh state, whose fields a row has in figures, with another core
 abbrev pub from : (Core → Core) → State
@@ -199,12 +227,17 @@ zerosWith mark owed = record {
   };
   ports = replicate 7 0;
   ram = replicate 96 0;
+  count = 0;
   cycle = record { 0 = 0 };
 }
 
 -- its image: zeros but for `U43`, version 1, the level in byte 15, the mark in byte 16 and the cycles owed in byte 17
 abbrev pub imageWith : (mark owed : ℕ) → List ℕ
 imageWith mark owed = (0x55 ∷ 0x34 ∷ 0x33 ∷ 0 ∷ 1 ∷ []) ++ replicate 10 0 ++ (32 ∷ mark ∷ owed ∷ replicate 63 0)
+
+-- its image of version 2, with a count
+abbrev pub imageTwoWith : (count : ℕ) → List ℕ
+imageTwoWith count = (0x55 ∷ 0x34 ∷ 0x33 ∷ 0 ∷ 2 ∷ []) ++ replicate 10 0 ++ (32 ∷ replicate 65 0) ++ (count ∷ [])
 
 -- THE CASES MARKED P, twelve, in the document's order. A case with two parts has two rows.
 abbrev pub pCases : List Bool
@@ -273,7 +306,7 @@ otherCases =
       shows = accIs 1 ∷ carryIs 0 ∷ pcIs 2 ∷ [];
     })
     -- Misleading: "dropping owed cycles on save". The image of the fresh state with 2 cycles owed, and the state of these bytes
-    ∷ onNumbers (record { given = imageOf (from (setOwed 2)); wanted = imageWith 0 2 })
+    ∷ onNumbers (record { given = imageOf One (from (setOwed 2)); wanted = imageWith 0 2 })
     ∷ onState (record { given = ofImage (imageWith 0 2); wanted = zerosWith 0 2 })
     -- "Fresh state: all zero, level high, mark other, timer stopped"
     ∷ onState (record { given = fresh; wanted = zerosWith 0 0 })
@@ -494,7 +527,7 @@ loadCases =
     -- LI 5, a switch-off, LI 9: the string goes on
     ∷ onMachine (record {
       rom = romAt 0 (0x95 ∷ 0x99 ∷ []);
-      start = ofImage (imageOf (unbroken upd546 (romAt 0 (0x95 ∷ 0x99 ∷ [])) [] 1 fresh .state));
+      start = ofImage (imageOf One (unbroken upd546 (romAt 0 (0x95 ∷ 0x99 ∷ [])) [] 1 fresh .state));
       cycles = 1;
       shows = pcIs 2 ∷ accIs 5 ∷ dpIs 0 ∷ markIs 4 ∷ [];
     })
@@ -606,7 +639,7 @@ edgeCases =
 abbrev pub markCases : List Bool
 markCases =
     -- it is written, and read back
-    onNumbers (record { given = imageOf (from (setMark 4)); wanted = imageWith 4 0 })
+    onNumbers (record { given = imageOf One (from (setMark 4)); wanted = imageWith 4 0 })
     ∷ onState (record { given = ofImage (imageWith 4 0); wanted = zerosWith 4 0 })
     -- marks 0 to 4 are restored, 5 is 34; of a state given as a value too
     ∷ onNumbers (record { given = imageNumber (imageWith 0 0) ∷ []; wanted = 0 ∷ [] })
@@ -619,6 +652,245 @@ markCases =
     ∷ onNumbers (record { given = stateNumber (from (setMark 5)) ∷ []; wanted = 34 ∷ [] })
     ∷ []
 
+-- R-8, "The reset line." The count.
+abbrev pub countCases : List Bool
+countCases =
+    -- "a count of consecutive cycles with RES high, at most 4": with RES high from cycle 0 on, cycles 0 to 2 are ordinary ones, here NOPs
+    onLines (record { rom = romAt 0 []; schedule = held; start = fresh; cycles = 1; shows = pcIs 1 ∷ countIs 1 ∷ [] })
+    ∷ onLines (record { rom = romAt 0 []; schedule = held; start = fresh; cycles = 2; shows = pcIs 2 ∷ countIs 2 ∷ [] })
+    ∷ onLines (record { rom = romAt 0 []; schedule = held; start = fresh; cycles = 3; shows = pcIs 3 ∷ countIs 3 ∷ [] })
+    -- "A cycle with RES high that brings or finds the count at 4 is a reset cycle": cycle 3 brings it there, later ones find it
+    ∷ onLines (record { rom = romAt 0 []; schedule = held; start = fresh; cycles = 4; shows = pcIs 0 ∷ countIs 4 ∷ [] })
+    ∷ onLines (record { rom = romAt 0 []; schedule = held; start = fresh; cycles = 5; shows = pcIs 0 ∷ countIs 4 ∷ [] })
+    ∷ onLines (record { rom = romAt 0 []; schedule = held; start = fresh; cycles = 9; shows = pcIs 0 ∷ countIs 4 ∷ [] })
+    -- "low makes the count 0": RES high for three cycles is no reset, and three more after one with RES low are none
+    ∷ onLines (record { rom = romAt 0 []; schedule = heldTo 3; start = fresh; cycles = 4; shows = pcIs 4 ∷ countIs 0 ∷ [] })
+    ∷ onLines (record {
+      rom = romAt 0 [];
+      schedule = heldTo 3 ++ recordAt 4 1 1;
+      start = fresh;
+      cycles = 7;
+      shows = pcIs 7 ∷ countIs 3 ∷ [];
+    })
+    -- after a reset too
+    ∷ onLines (record { rom = romAt 0 []; schedule = heldTo 5; start = fresh; cycles = 6; shows = pcIs 1 ∷ countIs 0 ∷ [] })
+    -- in an owed cycle and in one of an acceptance as well
+    ∷ onMachine (record { rom = romAt 0 []; start = withCount 3 (from (setOwed 2)); cycles = 1; shows = owedIs 1 ∷ countIs 0 ∷ [] })
+    ∷ onMachine (record {
+      rom = romAt 0 [];
+      start = withCount 3 (from (λ c. setInt 1 (setInte 1 c)));
+      cycles = 1;
+      shows = pcIs 0x03C ∷ countIs 0 ∷ [];
+    })
+    -- and these count RES, as any other
+    ∷ onLines (record { rom = romAt 0 []; schedule = held; start = from (setOwed 2); cycles = 1; shows = owedIs 1 ∷ countIs 1 ∷ [] })
+    ∷ onLines (record {
+      rom = romAt 0 [];
+      schedule = held;
+      start = withCount 2 (from (λ c. setInt 1 (setInte 1 c)));
+      cycles = 1;
+      shows = pcIs 0x03C ∷ countIs 3 ∷ [];
+    })
+    -- "The schedule's tenth byte becomes RES, 0 or 1, .. and 13 is amended so"
+    ∷ onNumbers (record { given = runNumber upd546 (romAt 0 []) (recordAt 0 1 0) fresh 1 ∷ []; wanted = 0 ∷ [] })
+    ∷ onNumbers (record { given = runNumber upd546 (romAt 0 []) (recordAt 0 1 1) fresh 1 ∷ []; wanted = 0 ∷ [] })
+    ∷ onNumbers (record { given = runNumber upd546 (romAt 0 []) (recordAt 0 1 2) fresh 1 ∷ []; wanted = 13 ∷ [] })
+    ∷ []
+
+-- A state with no field 0, but for its cycle number; and what a reset cycle leaves of it, INT being high.
+abbrev pub busy : (count : ℕ) → State
+busy count = record {
+  core = record {
+    registers = record { acc = 9; carry = 1; saved = 1; dph = 5; dpl = 6 };
+    flow = record { pc = 0x123; stack = 0x456 ∷ 0x321 ∷ 0x100 ∷ [] };
+    interrupt = record { int = 1; inte = 1; level = 1 };
+    timer = record { tm = 1; register = 7; counter = 8 };
+    mark = 1;
+    owed = 2;
+  };
+  ports = 1 ∷ 2 ∷ 3 ∷ 4 ∷ 5 ∷ 6 ∷ 7 ∷ [];
+  ram = replicate 96 11;
+  count = count;
+  cycle = record { 0 = 0 };
+}
+
+abbrev pub afterReset : State
+afterReset = record {
+  core = record {
+    registers = record { acc = 9; carry = 1; saved = 1; dph = 5; dpl = 6 };
+    flow = record { pc = 0; stack = 0x456 ∷ 0x321 ∷ 0x100 ∷ [] };
+    interrupt = record { int = 0; inte = 0; level = 1 };
+    timer = record { tm = 0; register = 0; counter = 0 };
+    mark = 0;
+    owed = 0;
+  };
+  ports = replicate 7 0;
+  ram = replicate 96 11;
+  count = 4;
+  cycle = record { 0 = 1 };
+}
+
+-- The reset cycle.
+abbrev pub resetCases : List Bool
+resetCases =
+    -- "PC, owed, INT, INTE, TM, timer and ports become 0 and the mark other; RAM, Acc, DP, carries and stack are kept", on reaching 4 and
+    -- where 4 is found
+    onState (record { given = unbroken upd546 (romAt 0 []) held 1 (busy 3) .state; wanted = afterReset })
+    ∷ onState (record { given = unbroken upd546 (romAt 0 []) held 1 (busy 4) .state; wanted = afterReset })
+    -- "lines are taken first": a fall of INT in a reset cycle is lost, and a level that stays low falls no second time
+    ∷ onLines (record { rom = romAt 0 []; schedule = recordAt 0 0 1; start = withCount 3 fresh; cycles = 1; shows = intIs 0 ∷ levelIs 0 ∷ [] })
+    ∷ onLines (record {
+      rom = romAt 0 [];
+      schedule = recordAt 0 0 1 ++ recordAt 1 0 0;
+      start = withCount 3 fresh;
+      cycles = 3;
+      shows = intIs 0 ∷ levelIs 0 ∷ pcIs 2 ∷ [];
+    })
+    -- "nothing is accepted or executed": an interrupt that is due is gone, and so is the instruction, here LI 5
+    ∷ onLines (record {
+      rom = romAt 0 (0x95 ∷ []);
+      schedule = held;
+      start = withCount 3 (from (λ c. setInt 1 (setInte 1 c)));
+      cycles = 1;
+      shows = pcIs 0 ∷ stackIs (0 ∷ 0 ∷ 0 ∷ []) ∷ intIs 0 ∷ inteIs 0 ∷ accIs 0 ∷ [];
+    })
+    -- it is a cycle and a step, and no instruction; no byte of the ROM is needed, so 22 doesn't come at 7D0, nor 23 at 1C
+    ∷ onRunner (record {
+      run = plain upd546 (romAt 0 (0x1C ∷ [])) held (withCount 4 (from (setPc 0x7D0))) [] 2;
+      answers = numberIs 0 ∷ cyclesAre 2 ∷ begunAre 0 ∷ stepsAre 2 ∷ writtenAre 0 ∷ [];
+      shows = pcIs 0 ∷ countIs 4 ∷ [];
+    })
+    -- the mark is other after it, so a string of loads starts afresh: LI 9 at 000 loads, though the mark was LI
+    ∷ onLines (record {
+      rom = romAt 0 (0x99 ∷ []);
+      schedule = heldTo 1;
+      start = withCount 3 (from (λ c. setAcc 5 (setMark 4 c)));
+      cycles = 2;
+      shows = pcIs 1 ∷ accIs 9 ∷ markIs 4 ∷ countIs 0 ∷ [];
+    })
+    -- and latches are 0, so C then reads its lines alone: IP at 000, with latch 5 before the reset
+    ∷ onLines (record {
+      rom = romAt 0 (0x32 ∷ []);
+      schedule = heldTo 1;
+      start = withCount 3 (driving (λ c. setAcc 3 (setDpl 2 c)) (5 ∷ replicate 6 0));
+      cycles = 2;
+      shows = accIs 0 ∷ [];
+    })
+    ∷ []
+
+-- Its record.
+abbrev pub resetRecordCases : List Bool
+resetRecordCases =
+    -- "On reaching 4 it appends one record with port 0, value 0": in cycle 3, and none while RES stays high
+    onRunner (record {
+      run = plain upd546 (romAt 0 []) held fresh (replicate 9 7) 8;
+      answers = numberIs 0 ∷ cyclesAre 8 ∷ begunAre 3 ∷ stepsAre 8 ∷ writtenAre 8 ∷ logIs (0 ∷ 0 ∷ 0 ∷ 0 ∷ 0 ∷ 3 ∷ 0 ∷ 0 ∷ 7 ∷ []) ∷ [];
+      shows = pcIs 0 ∷ countIs 4 ∷ [];
+    })
+    -- and one more after RES was low, in cycle 9
+    ∷ onRunner (record {
+      run = plain upd546 (romAt 0 []) (heldTo 5 ++ recordAt 6 1 1) fresh (replicate 16 7) 11;
+      answers =
+          numberIs 0 ∷ begunAre 7 ∷ writtenAre 16
+          ∷ logIs (0 ∷ 0 ∷ 0 ∷ 0 ∷ 0 ∷ 3 ∷ 0 ∷ 0 ∷ 0 ∷ 0 ∷ 0 ∷ 0 ∷ 0 ∷ 9 ∷ 0 ∷ 0 ∷ []) ∷ [];
+      shows = pcIs 0 ∷ countIs 4 ∷ [];
+    })
+    -- "and stop 3 covers it": nothing of the cycle happens, so the count stays 3
+    ∷ onRunner (record {
+      run = plain upd546 (romAt 0 []) held fresh (replicate 7 7) 8;
+      answers = numberIs 3 ∷ cyclesAre 3 ∷ begunAre 3 ∷ stepsAre 3 ∷ writtenAre 0 ∷ logIs (replicate 7 7) ∷ [];
+      shows = pcIs 3 ∷ countIs 3 ∷ [];
+    })
+    -- and a run that goes on with a new log counts that cycle once
+    ∷ onRunner (record {
+      run = plain upd546 (romAt 0 []) held (plain upd546 (romAt 0 []) held fresh (replicate 7 7) 8 .state) (replicate 8 7) 1;
+      answers = numberIs 0 ∷ cyclesAre 1 ∷ begunAre 0 ∷ writtenAre 8 ∷ logIs (0 ∷ 0 ∷ 0 ∷ 0 ∷ 0 ∷ 3 ∷ 0 ∷ 0 ∷ []) ∷ [];
+      shows = pcIs 0 ∷ countIs 4 ∷ [];
+    })
+    -- a stop with 23 counts nothing either, with RES high or low
+    ∷ onRunner (record {
+      run = plain upd546 (romAt 0 (0x1C ∷ [])) held (withCount 2 fresh) [] 1;
+      answers = numberIs 23 ∷ cyclesAre 0 ∷ [];
+      shows = countIs 2 ∷ [];
+    })
+    ∷ onRunner (record {
+      run = plain upd546 (romAt 0 (0x1C ∷ [])) [] (withCount 2 fresh) [] 1;
+      answers = numberIs 23 ∷ cyclesAre 0 ∷ [];
+      shows = countIs 2 ∷ [];
+    })
+    -- "A reset can cut OCD short": OCD, a reset in its second cycle, OCD again: 40 bytes in 3 cycles
+    ∷ onRunner (record {
+      run = plain upd546 (romAt 0 (0x1E ∷ 0xA5 ∷ [])) (heldTo 2) (withCount 2 fresh) (replicate 48 0) 3;
+      answers = numberIs 0 ∷ cyclesAre 3 ∷ begunAre 2 ∷ writtenAre 40 ∷ [];
+      shows = owedIs 1 ∷ countIs 0 ∷ [];
+    })
+    -- "`trace` letters it R": four cycles with RES high
+    ∷ onNumbers (record {
+      given = traceText ((0 ∷ 0 ∷ 0 ∷ 4 ∷ romAt 0 []) ++ held);
+      wanted =
+          (99 ∷ 121 ∷ 99 ∷ 108 ∷ 101 ∷ 32 ∷ 112 ∷ 111 ∷ 114 ∷ 116 ∷ 32 ∷ 118 ∷ 97 ∷ 108 ∷ 117 ∷ 101 ∷ 10 ∷ [])
+          ++ (51 ∷ 32 ∷ 82 ∷ 32 ∷ 48 ∷ 10 ∷ [])
+          ++ (101 ∷ 110 ∷ 100 ∷ 32 ∷ 52 ∷ 32 ∷ 51 ∷ 32 ∷ 48 ∷ 10 ∷ []);
+    })
+    ∷ []
+
+-- at TTM with a JCP back to it, and 63 ticks left
+abbrev pub waiting : State
+waiting = from (λ c. withTimer c (record { tm = 0; register = 1; counter = 0 }))
+
+-- "The timer jump needs RES low and a count of 0."
+abbrev pub resetJumpCases : List Bool
+resetJumpCases =
+    -- with both, one step
+    onRunner (record {
+      run = skipping upd546 (romAt 0 (0x05 ∷ 0xC0 ∷ [])) [] waiting [] 40;
+      answers = numberIs 0 ∷ cyclesAre 40 ∷ begunAre 40 ∷ stepsAre 1 ∷ [];
+      shows = pcIs 0 ∷ [];
+    })
+    -- RES high: three steps for three cycles
+    ∷ onRunner (record {
+      run = skipping upd546 (romAt 0 (0x05 ∷ 0xC0 ∷ [])) held waiting [] 3;
+      answers = numberIs 0 ∷ cyclesAre 3 ∷ begunAre 3 ∷ stepsAre 3 ∷ [];
+      shows = pcIs 1 ∷ countIs 3 ∷ [];
+    })
+    -- a count left over: TTM and JCP by themselves, and then a jump of 38
+    ∷ onRunner (record {
+      run = skipping upd546 (romAt 0 (0x05 ∷ 0xC0 ∷ [])) [] (withCount 1 waiting) [] 40;
+      answers = numberIs 0 ∷ cyclesAre 40 ∷ begunAre 40 ∷ stepsAre 3 ∷ [];
+      shows = pcIs 0 ∷ countIs 0 ∷ [];
+    })
+    ∷ []
+
+-- "Images become version 2, 82 bytes, the count last"
+abbrev pub versionCases : List Bool
+versionCases =
+    onNumbers (record { given = imageOf Two (withCount 3 fresh); wanted = imageTwoWith 3 })
+    ∷ onState (record { given = ofImage (imageTwoWith 3); wanted = withCount 3 (zerosWith 0 0) })
+    -- "Version 1 is still restored, with count 0, and can be written for old boards"
+    ∷ onNumbers (record { given = imageNumber (imageWith 0 0) ∷ []; wanted = 0 ∷ [] })
+    ∷ onState (record { given = ofImage (imageWith 0 0); wanted = zerosWith 0 0 })
+    ∷ onNumbers (record { given = imageOf One fresh; wanted = imageWith 0 0 })
+    -- a count up to 4 is taken, and 5 is 34, in byte 81 and in a state given as a value
+    ∷ onNumbers (record { given = imageNumber (imageTwoWith 4) ∷ imageNumber (imageTwoWith 5) ∷ []; wanted = 0 ∷ 34 ∷ [] })
+    ∷ onNumbers (record { given = stateNumber (withCount 4 fresh) ∷ stateNumber (withCount 5 fresh) ∷ []; wanted = 0 ∷ 34 ∷ [] })
+    -- "31 is now a length of neither 81 nor 82": 80 and 83 bytes
+    ∷ onNumbers (record { given = imageNumber (take 80 (imageWith 0 0)) ∷ imageNumber (imageTwoWith 0 ++ (0 ∷ [])) ∷ []; wanted = 31 ∷ 31 ∷ [] })
+    -- "33 a version that doesn't go with the length": version 1 with 82 bytes, version 2 with 81
+    ∷ onNumbers (record { given = imageNumber (imageWith 0 0 ++ (0 ∷ [])) ∷ imageNumber (take 81 (imageTwoWith 0)) ∷ []; wanted = 33 ∷ 33 ∷ [] })
+    -- and 32 before it
+    ∷ onNumbers (record { given = imageNumber (0 ∷ drop 1 (take 81 (imageTwoWith 0))) ∷ []; wanted = 32 ∷ [] })
+    -- "54, in a save between 34 and 1, a version 1 image wanted while the count isn't 0"; version 2 takes it
+    ∷ onNumbers (record { given = saveNumber upd546 One (withCount 1 fresh) (replicate 82 0) ∷ []; wanted = 54 ∷ [] })
+    ∷ onNumbers (record { given = saveNumber upd546 One (withCount 1 fresh) [] ∷ []; wanted = 54 ∷ [] })
+    ∷ onNumbers (record { given = saveNumber upd546 One (withCount 5 fresh) [] ∷ []; wanted = 34 ∷ [] })
+    ∷ onNumbers (record { given = saveNumber upd546 Two (withCount 1 fresh) (replicate 82 0) ∷ []; wanted = 0 ∷ [] })
+    -- "1 a buffer under the version's length": 81 bytes hold version 1, and not version 2
+    ∷ onNumbers (record { given = saveNumber upd546 One fresh (replicate 81 0) ∷ saveNumber upd546 One fresh (replicate 80 0) ∷ []; wanted = 0 ∷ 1 ∷ [] })
+    ∷ onNumbers (record { given = saveNumber upd546 Two fresh (replicate 82 0) ∷ saveNumber upd546 Two fresh (replicate 81 0) ∷ []; wanted = 0 ∷ 1 ∷ [] })
+    ∷ []
+
 -- THE TABLE. Its theorem is `cases-hold`.
 abbrev pub cases : List Bool
-cases = pCases ++ otherCases ++ jumpCases ++ readBackCases ++ loadCases ++ edgeCases ++ markCases
+cases =
+    pCases ++ otherCases ++ jumpCases ++ readBackCases ++ loadCases ++ edgeCases ++ markCases ++ countCases ++ resetCases
+    ++ resetRecordCases ++ resetJumpCases ++ versionCases

@@ -79,6 +79,7 @@ fn main() {
     let [first, last] = words[..] else {
         return eprintln!("seeds FIRST LAST");
     };
+    // A load of R-4 never resets, so that OCD, 16 bytes in two cycles, writes the most.
     let mut log = vec![0; 8 * CYCLES as usize + 8];
     let mut ends = [0; 256];
     println!("seed addresses records, after the schedule's last record: addresses records");

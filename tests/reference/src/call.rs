@@ -1,9 +1,9 @@
-//! Request R-3, "One call for the board": restore, run and save in one; and the image that a panel
-//! begins with.
+//! Request R-3, "One call for the board": restore, run and save in one; the image that a panel begins
+//! with; and the way from one version of an image to the other.
 
-use crate::image::{restore, save};
+use crate::image::{restore, save, Version};
 use crate::machine::State;
-use crate::numbers::{FINISHED, SHORT_BUFFER};
+use crate::numbers::{FINISHED, IMAGE_LENGTH, IMAGE_VERSION, SHORT_BUFFER};
 use crate::runners::{run, Runner};
 
 /// "8 bytes each, big-endian, to the first 32 bytes of a lent report".
@@ -11,7 +11,7 @@ const COUNT: usize = 8;
 pub const REPORT: usize = 32;
 
 /// The call. "It answers the run's number"; "image refusals come first, then the run's. A refusal
-/// leaves the image; a finish or a stop rewrites it."
+/// leaves the image; a finish or a stop rewrites it." R-8: it "takes 82 bytes only, else 31".
 pub fn call(
     image: &mut [u8],
     rom: &[u8],
@@ -27,6 +27,9 @@ pub fn call(
     };
     // "zeros on a refusal"
     report.fill(0);
+    if image.len() != Version::Two.length() {
+        return IMAGE_LENGTH;
+    }
     let (number, state) = restore(image);
     if number != FINISHED {
         return number;
@@ -40,7 +43,7 @@ pub fn call(
     for (place, count) in report.chunks_exact_mut(COUNT).zip(counts) {
         place.copy_from_slice(&count.to_be_bytes());
     }
-    let saved = save(&answer.state, image);
+    let saved = save(Version::Two, &answer.state, image);
     assert_eq!(saved, FINISHED, "the state that a run answers is saved");
     answer.number
 }
@@ -53,17 +56,33 @@ fn runner_of(number: u64) -> Runner {
     }
 }
 
-/// The fresh state's image, for a panel that has none yet. As with a save, a buffer under 81 bytes is 1
+/// The fresh state's image, for a panel that has none yet. As with a save, a buffer under 82 bytes is 1
 /// and is left, and bytes past the image are kept.
 pub fn fresh(image: &mut [u8]) -> u8 {
-    save(&State::fresh(), image)
+    save(Version::Two, &State::fresh(), image)
+}
+
+/// The image of the same state in the version wanted, for boards that hold version 1 images: restore's
+/// numbers, 33 for a version that is neither 1 nor 2, then those of a save.
+pub fn convert(from: &[u8], to: &mut [u8], version: u64) -> u8 {
+    let (number, state) = restore(from);
+    if number != FINISHED {
+        return number;
+    }
+    match version {
+        1 => save(Version::One, &state, to),
+        2 => save(Version::Two, &state, to),
+        _ => IMAGE_VERSION,
+    }
 }
 
 #[cfg(test)]
 mod tests {
     use super::*;
-    use crate::case::{record, schedule};
+    use crate::case::{lines, record, schedule};
     use crate::draw::Draw;
+    use crate::lent::Lent;
+    use crate::maker::sample;
     use crate::numbers::*;
 
     /// Document 01's example: OCD, LI, OE and a code that is no instruction.
@@ -133,8 +152,12 @@ mod tests {
     }
 
     fn image_of(state: &State) -> Vec<u8> {
-        let mut image = vec![0; 81];
-        assert_eq!(save(state, &mut image), FINISHED);
+        image_in(Version::Two, state)
+    }
+
+    fn image_in(version: Version, state: &State) -> Vec<u8> {
+        let mut image = vec![0; version.length()];
+        assert_eq!(save(version, state, &mut image), FINISHED);
         image
     }
 
@@ -158,7 +181,7 @@ mod tests {
     #[test]
     fn a_short_report_is_1_before_all_else_and_is_not_written() {
         for length in 0..32 {
-            for image in [0, 80, 81] {
+            for image in [0, 80, 81, 82] {
                 let given = Given::of(&EXAMPLE).with(|given| {
                     given.report.truncate(length);
                     given.image.truncate(image);
@@ -188,9 +211,9 @@ mod tests {
         given.is_refused(SCHEDULE_LONG);
         given.rom.pop();
         given.is_refused(ROM_LENGTH);
-        given.image[14] = 16;
+        given.image[81] = 5;
         given.is_refused(FIELD);
-        given.image[4] = 2;
+        given.image[4] = 1;
         given.is_refused(IMAGE_VERSION);
         given.image[2] = b'4';
         given.is_refused(IMAGE_MARK);
@@ -200,10 +223,16 @@ mod tests {
 
     #[test]
     fn an_image_of_another_length_is_31() {
-        for length in [0, 1, 80, 82, 162] {
+        for length in [0, 1, 80, 81, 83, 164] {
             let given = Given::of(&EXAMPLE).with(|given| given.image.resize(length, 0));
             given.is_refused(IMAGE_LENGTH);
         }
+        // A whole image of version 1 too, though a restore takes it; with one byte more it is 33.
+        let mut given = Given::of(&EXAMPLE);
+        given.image = image_in(Version::One, &State::fresh());
+        given.is_refused(IMAGE_LENGTH);
+        given.image.push(0);
+        given.is_refused(IMAGE_VERSION);
     }
 
     #[test]
@@ -249,7 +278,7 @@ mod tests {
         let mut draw = Draw::new(3);
         for runner in [0, 1] {
             for _ in 0..200 {
-                let image = image_of(&draw.state());
+                let image = image_of(&draw.counted_state());
                 let mut given = Given::of(&BLINK).with(|given| {
                     given.image = image.clone();
                     given.n = 0;
@@ -324,11 +353,15 @@ mod tests {
         let mut draw = Draw::new(17);
         let mut ended = [0; 256];
         for _ in 0..3_000 {
-            let state = draw.state();
+            let state = draw.counted_state();
             let mut given = Given::of(&[]).with(|given| {
                 given.image = image_of(&state);
                 given.rom.fill_with(|| draw.byte());
-                given.schedule = schedule(&draw.records(state.cycle));
+                given.schedule = if draw.one_in(2) {
+                    schedule(&draw.records(state.cycle))
+                } else {
+                    lines(&draw.resets(state.cycle))
+                };
                 given.log = vec![7; draw.below(60) as usize];
                 given.n = draw.below(40);
                 given.runner = draw.below(2);
@@ -363,21 +396,28 @@ mod tests {
     /// Lists of the call on one image, refused ones among them, end as one call does.
     #[test]
     fn slices_on_one_image_end_as_one_call() {
-        for (code, n) in [(&EXAMPLE[..], 10), (&BLINK[..], 600)] {
+        let pulse = lines(&[(37, 0, 0, 1, 1), (42, 0, 0, 1, 0)]);
+        for (code, schedule, n) in [
+            (&EXAMPLE[..], vec![], 10),
+            (&BLINK[..], vec![], 600),
+            (&BLINK[..], pulse, 300),
+        ] {
             let mut whole = Given::of(code).with(|given| {
                 given.n = n;
-                given.log = vec![0; 8 * n as usize + 8];
+                given.log = vec![0; 16 * n as usize];
+                given.schedule = schedule;
             });
             let number = whole.call();
             let [cycles, begun, written, _] = whole.counts();
             for slice in 1..n {
-                let mut given = Given::of(code);
+                let mut given =
+                    Given::of(code).with(|given| given.schedule = whole.schedule.clone());
                 let (mut done, mut ran, mut joined, mut last) = (0, [0; 2], Vec::new(), 0);
                 while done < n {
                     given.with_refused_calls();
                     given.n = slice.min(n - done);
                     given.runner = done % 2;
-                    given.log = vec![0; 8 * given.n as usize + 8];
+                    given.log = vec![0; 16 * given.n as usize];
                     last = given.call();
                     let counts = given.counts();
                     ran = [ran[0] + counts[0], ran[1] + counts[1]];
@@ -395,28 +435,124 @@ mod tests {
         fn with_refused_calls(&self) {
             let short_rom = self.clone().with(|given| given.rom.truncate(1_999));
             short_rom.is_refused(ROM_LENGTH);
-            let other_image = self.clone().with(|given| given.image = vec![0; 81]);
+            let other_image = self.clone().with(|given| given.image = vec![0; 82]);
             other_image.is_refused(IMAGE_MARK);
         }
     }
 
     #[test]
     fn a_fresh_image_begins_a_panel() {
-        for length in 0..81 {
+        for length in 0..82 {
             let mut image = vec![5; length];
             assert_eq!(fresh(&mut image), SHORT_BUFFER);
             assert_eq!(image, vec![5; length]);
         }
-        for length in [81, 82, 100] {
+        for length in [82, 83, 100] {
             let mut image = vec![5; length];
             assert_eq!(fresh(&mut image), FINISHED);
-            let mut due = [0; 81];
+            let mut due = [0; 82];
             due[..3].copy_from_slice(b"U43");
-            due[4] = 1;
+            due[4] = 2;
             due[15] = 32;
-            assert_eq!(image[..81], due);
-            assert_eq!(image[81..], vec![5; length - 81]);
-            assert_eq!(restore(&image[..81]), (FINISHED, State::fresh()));
+            assert_eq!(image[..82], due);
+            assert_eq!(image[82..], vec![5; length - 82]);
+            assert_eq!(restore(&image[..82]), (FINISHED, State::fresh()));
         }
+    }
+
+    /// A convert that writes so many bytes of a buffer of this length, and keeps the rest.
+    fn converted(from: &[u8], length: usize, version: u64) -> Vec<u8> {
+        let mut to = vec![9; length];
+        assert_eq!(convert(from, &mut to, version), FINISHED);
+        let written = 80 + version as usize;
+        assert_eq!(to[written..], vec![9; length - written]);
+        to.truncate(written);
+        to
+    }
+
+    fn refuses_to_convert(from: &[u8], length: usize, version: u64, number: u8) {
+        let mut to = vec![9; length];
+        assert_eq!(convert(from, &mut to, version), number);
+        assert_eq!(to, vec![9; length]);
+    }
+
+    #[test]
+    fn an_image_goes_forward_and_back() {
+        let mut draw = Draw::new(8);
+        for _ in 0..500 {
+            let state = draw.state();
+            let [one, two] = Version::BOTH.map(|version| image_in(version, &state));
+            assert_eq!(one[5..], two[5..81]);
+            assert_eq!((one[4], two[4], two[81]), (1, 2, 0));
+            for from in [&one, &two] {
+                assert_eq!(converted(from, 81, 1), one);
+                assert_eq!(converted(from, 82, 2), two);
+                assert_eq!(converted(from, 100, 1), one);
+                assert_eq!(converted(from, 100, 2), two);
+            }
+        }
+    }
+
+    /// The image that the samples have of a board from before R-8.
+    #[test]
+    fn the_sample_of_version_1_is_a_panel_of_450_cycles() {
+        let mut lent = Lent::of_panel(&sample("lobby.panel")).expect("the sample is a panel");
+        lent.n = 450;
+        let (answer, _) = lent.run();
+        assert_eq!(answer.number, FINISHED);
+        let old = sample("lobby.image");
+        assert_eq!(old, image_in(Version::One, &answer.state));
+        assert_eq!(converted(&old, 82, 2), image_of(&answer.state));
+    }
+
+    #[test]
+    fn a_count_is_kept_in_version_2_alone() {
+        for count in 1..=4 {
+            let two = image_of(&State {
+                count,
+                ..State::fresh()
+            });
+            assert_eq!(two[81], count);
+            assert_eq!(converted(&two, 82, 2), two);
+            // 54 before 1, and not for another version.
+            for length in [0, 80, 81, 82] {
+                refuses_to_convert(&two, length, 1, COUNT_LOST);
+            }
+            refuses_to_convert(&two, 82, 3, IMAGE_VERSION);
+        }
+    }
+
+    #[test]
+    fn convert_refuses_in_its_order() {
+        let one = image_in(Version::One, &State::fresh());
+        let two = image_of(&State::fresh());
+        for version in [0, 3, 256, 257, 258, 1 << 32 | 1, u64::MAX] {
+            for length in [0, 81, 82] {
+                refuses_to_convert(&one, length, version, IMAGE_VERSION);
+                refuses_to_convert(&two, length, version, IMAGE_VERSION);
+            }
+        }
+        for from in [&one, &two] {
+            refuses_to_convert(from, 80, 1, SHORT_BUFFER);
+            refuses_to_convert(from, 81, 2, SHORT_BUFFER);
+            refuses_to_convert(from, 0, 2, SHORT_BUFFER);
+            // What is wrong with the image comes before the version wanted.
+            let damaged = |place: usize, value: u8| {
+                let mut image = from.clone();
+                image[place] = value;
+                image
+            };
+            for version in [0, 1, 2, 3] {
+                refuses_to_convert(&from[..80], 80, version, IMAGE_LENGTH);
+                refuses_to_convert(&[&from[..], &[0, 0]].concat(), 80, version, IMAGE_LENGTH);
+                refuses_to_convert(&damaged(0, 0), 80, version, IMAGE_MARK);
+                refuses_to_convert(&damaged(4, 3), 80, version, IMAGE_VERSION);
+                refuses_to_convert(&damaged(4, 3 - from[4]), 80, version, IMAGE_VERSION);
+                refuses_to_convert(&damaged(17, 4), 80, version, FIELD);
+            }
+        }
+        let mut above = two.clone();
+        above[81] = 5;
+        refuses_to_convert(&above, 82, 2, FIELD);
     }
 }

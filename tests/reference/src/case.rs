@@ -13,7 +13,8 @@
 //! - 4: at 7CE A0, elsewhere from 7C0 on 0, and if it is A7 or AF, 0.
 //!
 //! A schedule record takes two numbers: x and y of the first are the ports, the top bit of the
-//! second is the INT level. The next record is 1 + z cycles later, where z is the top half of the
+//! second is the INT level. RES is 1 where the seven bits below that are a multiple of what the case
+//! says, 0 where it says 0. The next record is 1 + z cycles later, where z is the top half of the
 //! second number modulo the gap, 0 if the gap is 0. A RAM word is the top four bits of x.
 
 use crate::lent::Lent;
@@ -48,6 +49,7 @@ pub struct Case {
     gap: u16,
     schedule_seed: u32,
     first: u64,
+    resets: u8,
     schedule_patches: Vec<Patch>,
     ram_seed: u32,
     ram_patches: Vec<Patch>,
@@ -72,6 +74,7 @@ impl Case {
             gap: 0,
             schedule_seed: 0,
             first: 0,
+            resets: 0,
             schedule_patches: Vec::new(),
             ram_seed: 0,
             ram_patches: Vec::new(),
@@ -111,9 +114,17 @@ impl Case {
         self
     }
 
-    /// A schedule of these records: cycle, A and B, C and D, INT.
-    pub fn schedule(mut self, records: &[(u64, u8, u8, u8)]) -> Case {
-        let bytes = schedule(records);
+    /// A schedule of these records: cycle, A and B, C and D, INT. RES is low.
+    pub fn schedule(self, records: &[(u64, u8, u8, u8)]) -> Case {
+        self.schedule_of(schedule(records))
+    }
+
+    /// A schedule of these records: cycle, A and B, C and D, INT, RES.
+    pub fn lines(self, records: &[LinesFrom]) -> Case {
+        self.schedule_of(lines(records))
+    }
+
+    fn schedule_of(mut self, bytes: Vec<u8>) -> Case {
         self.schedule_length = bytes.len() as u16;
         self.schedule_patches = vec![(0, bytes)];
         self
@@ -125,6 +136,12 @@ impl Case {
         self.schedule_seed = seed;
         self.gap = gap;
         self.first = first;
+        self
+    }
+
+    /// In a schedule of the generator RES is high in about one of so many records; in none for 0.
+    pub fn resets(mut self, one_in: u8) -> Case {
+        self.resets = one_in;
         self
     }
 
@@ -215,7 +232,9 @@ impl Case {
             for place in schedule.chunks_mut(10) {
                 s = next(s);
                 let t = next(s);
-                let whole = record(cycle, top(s), below_top(s), top(t) >> 7);
+                let res = self.resets > 0 && (top(t) & 127).is_multiple_of(self.resets);
+                let int = top(t) >> 7;
+                let whole = reset_record(cycle, top(s), below_top(s), int, u8::from(res));
                 place.copy_from_slice(&whole[..place.len()]);
                 cycle = cycle % (1 << 48) + 1;
                 if self.gap > 0 {
@@ -242,10 +261,18 @@ impl Case {
     }
 }
 
-/// A record of a schedule: cycle, A and B, C and D, INT.
+/// The lines from a cycle on: the cycle, A and B, C and D, INT, RES.
+pub type LinesFrom = (u64, u8, u8, u8, u8);
+
+/// A record of a schedule: cycle, A and B, C and D, INT. RES is low.
 pub fn record(cycle: u64, ab: u8, cd: u8, int: u8) -> Vec<u8> {
+    reset_record(cycle, ab, cd, int, 0)
+}
+
+/// The same with RES.
+pub fn reset_record(cycle: u64, ab: u8, cd: u8, int: u8, res: u8) -> Vec<u8> {
     let mut record = cycle.to_be_bytes()[2..].to_vec();
-    record.extend([ab, cd, int, 0]);
+    record.extend([ab, cd, int, res]);
     record
 }
 
@@ -253,6 +280,14 @@ pub fn schedule(records: &[(u64, u8, u8, u8)]) -> Vec<u8> {
     records
         .iter()
         .flat_map(|&(cycle, ab, cd, int)| record(cycle, ab, cd, int))
+        .collect()
+}
+
+/// A schedule with RES.
+pub fn lines(records: &[LinesFrom]) -> Vec<u8> {
+    records
+        .iter()
+        .flat_map(|&(cycle, ab, cd, int, res)| reset_record(cycle, ab, cd, int, res))
         .collect()
 }
 
@@ -351,15 +386,17 @@ pub fn highest() -> State {
         ports: [15, 15, 15, 15, 15, 15, 7],
         ram: [15; 96],
         cycle: (1 << 48) - 1,
+        count: 4,
     }
 }
 
-/// A state as a value, the bytes of its fields: PC, stack, the 13 registers, ports, RAM and cycle number.
+/// A state as a value, the bytes of its fields: PC, stack, the 13 registers, ports, RAM, cycle number and count.
 pub fn state_bytes(state: &State) -> Vec<u8> {
     let mut bytes = registers(state);
     bytes.extend(state.ports);
     bytes.extend(state.ram);
     bytes.extend(state.cycle.to_be_bytes());
+    bytes.push(state.count);
     bytes
 }
 

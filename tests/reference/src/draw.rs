@@ -1,5 +1,6 @@
 //! Numbers and states drawn for cases and tests: always the same ones.
 
+use crate::case::LinesFrom;
 use crate::machine::State;
 
 /// A small generator (xorshift, the upper half of a product).
@@ -89,6 +90,26 @@ impl Draw {
             _ => self.below(1 << 24) << 24 | self.below(1 << 23),
         };
         state
+    }
+
+    /// The same with a count of cycles with RES high.
+    pub fn counted_state(&mut self) -> State {
+        let mut state = self.state();
+        state.count = self.upto(4);
+        state
+    }
+
+    /// A few records around the cycles from this one on, with RES high for one to six cycles in between.
+    pub fn resets(&mut self, from: u64) -> Vec<LinesFrom> {
+        let mut cycle = from.saturating_sub(self.below(3));
+        let mut records = Vec::new();
+        let mut res = self.upto(1);
+        for _ in 0..self.below(5) {
+            records.push((cycle, self.byte(), self.byte(), self.upto(1), res));
+            cycle += 1 + self.below(6);
+            res = if self.one_in(4) { res } else { 1 - res };
+        }
+        records
     }
 
     /// A few records around the cycles from this one on.

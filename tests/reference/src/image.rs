@@ -1,25 +1,55 @@
-//! "State image, 81 bytes".
+//! "State image, 81 bytes", and its version 2: "Images become version 2, 82 bytes, the count last".
 
 use crate::machine::State;
-use crate::numbers::{FIELD, FINISHED, IMAGE_LENGTH, IMAGE_MARK, IMAGE_VERSION, SHORT_BUFFER};
-
-const LENGTH: usize = 81;
+use crate::numbers::{
+    COUNT_LOST, FIELD, FINISHED, IMAGE_LENGTH, IMAGE_MARK, IMAGE_VERSION, SHORT_BUFFER,
+};
 
 /// "0-2 the mark `U43`; 3-4 version 1".
 const MARK: [u8; 3] = *b"U43";
-const VERSION: [u8; 2] = [0, 1];
 
-/// Writes the image of a state. "save 34, 1 and then writes 81 bytes only"; a refused save writes
-/// nothing.
-pub fn save(state: &State, buffer: &mut [u8]) -> u8 {
+/// The versions of an image.
+#[derive(Clone, Copy, PartialEq, Eq, Debug)]
+pub enum Version {
+    One,
+    Two,
+}
+
+impl Version {
+    pub const BOTH: [Version; 2] = [Version::One, Version::Two];
+
+    /// Its number, as bytes 3 and 4 have it.
+    pub fn number(self) -> u16 {
+        match self {
+            Version::One => 1,
+            Version::Two => 2,
+        }
+    }
+
+    /// Bytes of an image.
+    pub fn length(self) -> usize {
+        match self {
+            Version::One => 81,
+            Version::Two => 82,
+        }
+    }
+}
+
+/// Writes the image of a state in the version wanted: "save 34, 1 and then writes 81 bytes only", of version 2
+/// one more; "54, in a save between 34 and 1, a version 1 image wanted while the count isn't 0". A refused save
+/// writes nothing.
+pub fn save(version: Version, state: &State, buffer: &mut [u8]) -> u8 {
     if !state.is_valid() {
         return FIELD;
     }
-    if buffer.len() < LENGTH {
+    if version == Version::One && state.count != 0 {
+        return COUNT_LOST;
+    }
+    if buffer.len() < version.length() {
         return SHORT_BUFFER;
     }
     buffer[0..3].copy_from_slice(&MARK);
-    buffer[3..5].copy_from_slice(&VERSION);
+    buffer[3..5].copy_from_slice(&version.number().to_be_bytes());
     buffer[5..7].copy_from_slice(&state.pc.to_be_bytes());
     for (place, address) in buffer[7..13].chunks_exact_mut(2).zip(state.stack) {
         place.copy_from_slice(&address.to_be_bytes());
@@ -42,6 +72,9 @@ pub fn save(state: &State, buffer: &mut [u8]) -> u8 {
         *place = pair[0] << 4 | pair[1];
     }
     buffer[75..81].copy_from_slice(&state.cycle.to_be_bytes()[2..]);
+    if version == Version::Two {
+        buffer[81] = state.count;
+    }
     FINISHED
 }
 
@@ -55,13 +88,15 @@ pub fn restore(bytes: &[u8]) -> (u8, State) {
 }
 
 fn decode(bytes: &[u8]) -> Result<State, u8> {
-    if bytes.len() != LENGTH {
+    // "31 is now a length of neither 81 nor 82, 33 a version that doesn't go with the length"
+    let of_length = |version: &Version| version.length() == bytes.len();
+    let Some(version) = Version::BOTH.into_iter().find(of_length) else {
         return Err(IMAGE_LENGTH);
-    }
+    };
     if bytes[0..3] != MARK {
         return Err(IMAGE_MARK);
     }
-    if bytes[3..5] != VERSION {
+    if bytes[3..5] != version.number().to_be_bytes() {
         return Err(IMAGE_VERSION);
     }
     let flags = bytes[15];
@@ -90,6 +125,11 @@ fn decode(bytes: &[u8]) -> Result<State, u8> {
         cycle: bytes[75..81]
             .iter()
             .fold(0, |cycle, &byte| cycle << 8 | u64::from(byte)),
+        // "Version 1 is still restored, with count 0".
+        count: match version {
+            Version::One => 0,
+            Version::Two => bytes[81],
+        },
     };
     state.ports.copy_from_slice(&bytes[20..27]);
     for (pair, &byte) in state.ram.chunks_exact_mut(2).zip(&bytes[27..75]) {

@@ -5,6 +5,9 @@ use crate::numbers::LOG_FULL;
 /// Bytes of one record: cycle (6, big-endian), port (2 to 8), value.
 pub const RECORD: usize = 8;
 
+/// a reset appends "one record with port 0, value 0".
+pub const RESET: u8 = 0;
+
 /// A record that is read, whatever its port and value.
 #[derive(Clone, Copy, PartialEq, Eq, Debug)]
 pub struct Record {

@@ -13,6 +13,9 @@ pub(crate) mod mark {
 /// "Cycle number, at most 2^48 - 1".
 pub(crate) const LAST_CYCLE: u64 = (1 << 48) - 1;
 
+/// R-8: "a count of consecutive cycles with RES high, at most 4".
+pub(crate) const RESET: u8 = 4;
+
 /// Where the interrupt leads: "PC becomes 03C".
 const INTERRUPT: u16 = 0x03C;
 
@@ -75,6 +78,8 @@ pub struct State {
     pub ram: [u8; 96],
     /// The number of the next machine cycle.
     pub cycle: u64,
+    /// R-8: consecutive cycles with RES high, at most 4.
+    pub count: u8,
 }
 
 impl State {
@@ -99,6 +104,7 @@ impl State {
             ports: [0; 7],
             ram: [0; 96],
             cycle: 0,
+            count: 0,
         }
     }
 
@@ -123,6 +129,7 @@ impl State {
             && self.ports[6] <= 7
             && self.ram.iter().all(|&word| word <= 15)
             && self.cycle <= LAST_CYCLE
+            && self.count <= RESET
     }
 
     /// "A push shifts down and loses the oldest".
@@ -182,6 +189,29 @@ impl State {
             self.int = 1;
         }
         self.level = line;
+    }
+
+    /// R-8: the count after a cycle with this RES. "low makes the count 0"
+    pub(crate) fn counted(&self, res: u8) -> u8 {
+        if res == 0 {
+            0
+        } else {
+            (self.count + 1).min(RESET)
+        }
+    }
+
+    /// R-8: "PC, owed, INT, INTE, TM, timer and ports become 0 and the mark other; RAM, Acc, DP, carries and
+    /// stack are kept."
+    pub(crate) fn reset(&mut self) {
+        self.pc = 0;
+        self.owed = 0;
+        self.int = 0;
+        self.inte = 0;
+        self.tm = 0;
+        self.register = 0;
+        self.counter = 0;
+        self.ports = [0; 7];
+        self.mark = mark::OTHER;
     }
 }
 

@@ -4,19 +4,21 @@
 pub const FINISHED: u8 = 0;
 
 // The caller.
-/// Refusal: image buffer under 81 bytes; of request R-3's call, a report under 32 bytes.
+/// Refusal: image buffer under the version's length, 81 or 82 bytes; of request R-3's call, a report under 32 bytes.
 pub const SHORT_BUFFER: u8 = 1;
 /// Refusal: cycle number + n above 2^48 - 1.
 pub const CYCLE_LIMIT: u8 = 2;
-/// Stop: the log lacks the 8 or 16 bytes of the next instruction.
+/// Stop: the log lacks the 8 or 16 bytes of the next instruction, or the 8 of a reset.
 pub const LOG_FULL: u8 = 3;
+/// Refusal: a version 1 image wanted while the count isn't 0 (request R-8).
+pub const COUNT_LOST: u8 = 54;
 
 // Whoever wrote the schedule.
 /// Refusal: length no multiple of 10.
 pub const SCHEDULE_LENGTH: u8 = 11;
 /// Refusal: over 40,960 bytes.
 pub const SCHEDULE_LONG: u8 = 12;
-/// Refusal: bad INT or last byte.
+/// Refusal: bad INT or last byte, which is RES.
 pub const RECORD_BYTES: u8 = 13;
 /// Refusal: cycle not above the last.
 pub const RECORD_CYCLE: u8 = 14;
@@ -30,11 +32,11 @@ pub const ABOVE_ROM: u8 = 22;
 pub const NO_INSTRUCTION: u8 = 23;
 
 // Whoever kept the image.
-/// Refusal: length not 81.
+/// Refusal: length neither 81 nor 82.
 pub const IMAGE_LENGTH: u8 = 31;
 /// Refusal: bytes 0 to 2.
 pub const IMAGE_MARK: u8 = 32;
-/// Refusal: version.
+/// Refusal: a version that doesn't go with the length.
 pub const IMAGE_VERSION: u8 = 33;
 /// Refusal: a field, also in a state given as a value.
 pub const FIELD: u8 = 34;

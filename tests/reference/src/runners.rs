@@ -1,8 +1,8 @@
 //! "Two runners": the plain one and the timer-skipping one.
 
 use crate::instructions::{execute, in_page, FORMS};
-use crate::log::Log;
-use crate::machine::{following, mark, State, LAST_CYCLE};
+use crate::log::{self, Log};
+use crate::machine::{following, mark, State, LAST_CYCLE, RESET};
 use crate::numbers::{ABOVE_ROM, CYCLE_LIMIT, FIELD, FINISHED, ROM_LENGTH};
 use crate::schedule::{self, Cursor};
 
@@ -117,7 +117,7 @@ pub fn run_observed<O: Observer>(
         Ok(rom) => Run {
             rom,
             schedule: Cursor::new(schedule),
-            before_lines: (state.cycle, state.level, state.int),
+            quiet: 0,
             state: state.clone(),
             log: Log::new(log),
             begun: 0,
@@ -162,8 +162,8 @@ fn admit<'a>(
 struct Run<'a, O> {
     rom: &'a [u8; ROM_BYTES],
     schedule: Cursor<'a>,
-    /// The cycle of which lines were taken last, and the level and INT before that.
-    before_lines: (u64, u8, u8),
+    /// Up to this cycle the machine has seen the lines, RES is low and its count is 0.
+    quiet: u64,
     state: State,
     log: Log<'a>,
     begun: u64,
@@ -217,60 +217,89 @@ impl<O: Observer> Run<'_, O> {
     /// boundary".
     #[inline(always)]
     fn cycle(&mut self) -> Result<(), u8> {
+        if self.state.cycle >= self.quiet {
+            return self.watched_cycle();
+        }
         if self.state.owed > 0 {
-            // b and c.
-            self.take_lines();
+            // c.
             self.state.owed -= 1;
         } else if self.state.accepts() {
-            // a, then b: a fall counts also in an acceptance cycle.
+            // a.
             self.state.accept();
-            self.take_lines();
         } else {
-            // b and c.
-            self.take_lines();
+            // c.
             if let Err(stop) = self.instruction() {
-                self.take_back();
+                self.state.owed = 0;
                 return Err(stop);
             }
         }
+        self.end_cycle();
+        Ok(())
+    }
 
-        // d.
+    /// Step d, "Then the cycle number rises by 1."
+    #[inline(always)]
+    fn end_cycle(&mut self) {
         let state = &mut self.state;
         if state.register != 0 && state.mark != mark::STM {
             state.step_timer();
         }
         state.cycle += 1;
+    }
+
+    /// A cycle at which lines are new, RES is high or its count isn't 0; from one record to the next the lines are
+    /// those that the machine has seen, and step b changes nothing. "RES is looked at before step a". With a stop
+    /// RES isn't counted either.
+    #[cold]
+    #[inline(never)]
+    fn watched_cycle(&mut self) -> Result<(), u8> {
+        self.schedule = self.schedule.at(self.state.cycle);
+        let lines = *self.schedule.lines();
+        let count = self.state.counted(lines.res);
+        if count == RESET {
+            self.reset_cycle(lines.int)?;
+        } else {
+            self.ordinary_cycle(lines.int)?;
+        }
+        self.state.count = count;
+        self.quiet = if count == 0 { self.schedule.next() } else { 0 };
         Ok(())
     }
 
-    /// Step b: "Lines of n are taken." From one record to the next they are those that the machine
-    /// has seen, and nothing changes.
-    #[inline(always)]
-    fn take_lines(&mut self) {
-        if self.state.cycle >= self.schedule.next() {
-            self.take_new_lines();
+    /// Steps a to d.
+    fn ordinary_cycle(&mut self, line: u8) -> Result<(), u8> {
+        if self.state.owed > 0 {
+            // b and c.
+            self.state.see(line);
+            self.state.owed -= 1;
+        } else if self.state.accepts() {
+            // a, then b: a fall counts also in an acceptance cycle.
+            self.state.accept();
+            self.state.see(line);
+        } else {
+            // b and c.
+            let (level, int) = (self.state.level, self.state.int);
+            self.state.see(line);
+            if let Err(stop) = self.instruction() {
+                (self.state.owed, self.state.level, self.state.int) = (0, level, int);
+                return Err(stop);
+            }
         }
+        self.end_cycle();
+        Ok(())
     }
 
-    #[cold]
-    fn take_new_lines(&mut self) {
-        let state = &mut self.state;
-        self.before_lines = (state.cycle, state.level, state.int);
-        self.schedule.go_to(state.cycle);
-        state.see(self.schedule.lines().int);
-    }
-
-    /// Takes back what was done of a cycle in which an instruction was due that stops: step b, and
-    /// owed, which was 0.
-    #[cold]
-    fn take_back(&mut self) {
-        let state = &mut self.state;
-        state.owed = 0;
-        let (cycle, level, int) = self.before_lines;
-        if cycle == state.cycle {
-            state.level = level;
-            state.int = int;
+    /// "lines are taken first, but nothing is accepted or executed and the timer doesn't step"; "On reaching 4 it
+    /// appends one record with port 0, value 0, and stop 3 covers it".
+    fn reset_cycle(&mut self, line: u8) -> Result<(), u8> {
+        if self.state.count < RESET {
+            self.log.room(1)?;
+            self.log.append(self.state.cycle, log::RESET, 0);
         }
+        self.state.see(line);
+        self.state.reset();
+        self.state.cycle += 1;
+        Ok(())
     }
 
     /// "one instruction has all its effects and owed becomes its cycles less 1." A stop leaves
@@ -312,6 +341,7 @@ impl<O: Observer> Run<'_, O> {
 
     /// "A skip passes over one instruction and costs its bytes (1 or 2) in further cycles; only its
     /// first byte is read." That byte lies in the ROM.
+    #[inline(always)]
     fn skip(&mut self) {
         let code = self.rom[usize::from(self.state.pc)];
         let bytes = FORMS[usize::from(code)].bytes;
@@ -333,6 +363,7 @@ impl<O: Observer> Run<'_, O> {
     }
 
     /// Stop 22: "a byte above 7CF is needed".
+    #[inline(always)]
     fn fetch(&self, address: u16) -> Result<u8, u8> {
         match self.rom.get(usize::from(address)) {
             Some(&byte) => Ok(byte),
@@ -362,11 +393,13 @@ impl<O: Observer> Run<'_, O> {
         }
         let state = &self.state;
         let here = self.schedule.at(state.cycle);
-        if here.lines().int != state.level {
+        // R-8: "The timer jump needs RES low and a count of 0."
+        if here.lines().int != state.level || here.lines().res != 0 || state.count != 0 {
             return 0;
         }
         // Lines whose INT is the level seen change nothing in step b.
         self.schedule = here;
+        self.quiet = self.schedule.next();
         // "the largest even number at most r and the cycles left, with no schedule record in the
         // j - 1 cycles after the present one".
         let no_record = self.schedule.next() - state.cycle;

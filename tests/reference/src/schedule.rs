@@ -1,4 +1,4 @@
-//! "The line schedule": what the lines A to D and INT show at each cycle.
+//! "The line schedule": what the lines A to D, INT and RES show at each cycle.
 
 use crate::numbers::{FINISHED, RECORD_BYTES, RECORD_CYCLE, SCHEDULE_LENGTH, SCHEDULE_LONG};
 
@@ -13,6 +13,8 @@ pub(crate) struct Lines {
     pub ports: [u8; 4],
     /// The INT level, 1 for high.
     pub int: u8,
+    /// R-8: "The schedule's tenth byte becomes RES, 0 or 1".
+    pub res: u8,
 }
 
 impl Lines {
@@ -24,7 +26,8 @@ impl Lines {
 }
 
 /// The refusal of a schedule, 0 if there is none: "12 over 40,960 bytes; 11 length no multiple of
-/// 10; then by record 13 bad INT or last byte, 14 cycle not above the last".
+/// 10; then by record 13 bad INT or last byte, 14 cycle not above the last"; the last byte is RES, "and 13 is
+/// amended so".
 pub(crate) fn refusal(schedule: &[u8]) -> u8 {
     if schedule.len() > LONGEST {
         return SCHEDULE_LONG;
@@ -34,7 +37,7 @@ pub(crate) fn refusal(schedule: &[u8]) -> u8 {
     }
     let mut last = None;
     for record in schedule.chunks_exact(RECORD) {
-        if record[8] > 1 || record[9] != 0 {
+        if record[8] > 1 || record[9] > 1 {
             return RECORD_BYTES;
         }
         let cycle = cycle_of(record);
@@ -61,13 +64,14 @@ pub(crate) fn lines_of(record: &[u8]) -> Lines {
             record[7] & 15,
         ],
         int: record[8],
+        res: record[9],
     }
 }
 
 /// A place in a schedule without faults; it only moves forward.
 #[derive(Clone)]
 pub(crate) struct Cursor<'a> {
-    /// "those of the last record at or before n; with none, ports 0 and INT high"
+    /// "those of the last record at or before n; with none, ports 0 and INT high"; RES is "0 before any record"
     lines: Lines,
     /// The cycle at which other lines are taken: at first any, then that of the record after the
     /// cycle last gone to; with none, a cycle that is never reached.
@@ -82,6 +86,7 @@ impl<'a> Cursor<'a> {
             lines: Lines {
                 ports: [0; 4],
                 int: 1,
+                res: 0,
             },
             next: 0,
             rest: schedule,

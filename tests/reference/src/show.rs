@@ -237,8 +237,8 @@ fn told_record(record: &[u8]) -> String {
         cycle_of(record),
         lines.int
     );
-    if record[9] != 0 {
-        text.push_str(&format!(" last byte={}", record[9]));
+    if lines.res != 0 {
+        text.push_str(&format!(" RES={}", lines.res));
     }
     text
 }
@@ -299,6 +299,7 @@ fn fields(state: &State) -> Vec<(String, String)> {
         ports,
         ram: _,
         cycle,
+        count,
     } = state;
     let kind = match mark {
         0 => "other",
@@ -329,6 +330,7 @@ fn fields(state: &State) -> Vec<(String, String)> {
         field("owed", owed),
         field("register", register),
         field("counter", counter),
+        field("count", count),
     ];
     for (port, latch) in ('C'..='I').zip(ports) {
         fields.push((format!("port {port}"), format!("{latch:X}")));
@@ -483,6 +485,7 @@ mod tests {
             ports: [1, 2, 3, 4, 5, 6, 15],
             ram: [0; 96],
             cycle: 16,
+            count: 17,
         };
         let told: Vec<String> = fields(&state)
             .into_iter()
@@ -491,8 +494,8 @@ mod tests {
         assert_eq!(
             told.join(", "),
             "cycle=16, PC=123, stack=7FF 002 003, Acc=4, C=5, C'=6, DPH=7, DPL=8, INT=9, INTE=10, \
-             TM=11, level=12, mark=3 (STM), owed=13, register=14, counter=15, port C=1, port D=2, \
-             port E=3, port F=4, port G=5, port H=6, port I=F"
+             TM=11, level=12, mark=3 (STM), owed=13, register=14, counter=15, count=17, port C=1, \
+             port D=2, port E=3, port F=4, port G=5, port H=6, port I=F"
         );
     }
 
@@ -558,7 +561,7 @@ mod tests {
         bytes[9] = 3;
         let lines = [
             "schedule of 40 bytes",
-            "  0: cycle 0 A=0 B=0 C=0 D=0 INT=1 last byte=3",
+            "  0: cycle 0 A=0 B=0 C=0 D=0 INT=1 RES=3",
             "  records after these: 3",
         ];
         assert_eq!(refused(&bytes), lines);

@@ -54,6 +54,7 @@ const fn positions() -> [u8; PERIOD] {
 
 impl State {
     /// "STM sets the register to 1 and the binary counter to I, its 6 operand bits."
+    #[inline(always)]
     pub(crate) fn start_timer(&mut self, interval: u8) {
         self.tm = 0;
         self.register = 1;
@@ -92,6 +93,7 @@ impl State {
     }
 
     /// TM is set and the timer stops (one shot).
+    #[inline(always)]
     fn ring(&mut self) {
         self.tm = 1;
         self.register = 0;

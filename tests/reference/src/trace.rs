@@ -3,14 +3,18 @@
 use std::fmt::Write;
 
 use crate::lent::Lent;
-use crate::log::records;
+use crate::log::{records, RESET};
 use crate::numbers::ROM_LENGTH;
 
-/// The text of a run's log. "Cycle decimal, port letter, value hexadecimal".
+/// The text of a run's log. "Cycle decimal, port letter, value hexadecimal"; the record of a reset has the
+/// letter R.
 pub(crate) fn log_text(log: &[u8]) -> String {
     let mut text = String::from("cycle port value\n");
     for record in records(log) {
-        let port = char::from(b'A' + record.port);
+        let port = match record.port {
+            RESET => 'R',
+            port => char::from(b'A' + port),
+        };
         writeln!(text, "{} {port} {:X}", record.cycle, record.value)
             .expect("a string takes every line");
     }

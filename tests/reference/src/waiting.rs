@@ -6,7 +6,7 @@ use std::array;
 use std::collections::BTreeSet;
 use std::fmt::Write;
 
-use crate::log::{records, Record, RECORD};
+use crate::log::{records, Record, RECORD, RESET};
 use crate::numbers::{CARRIED, FINISHED, LOG_RECORD};
 use crate::trace::refused;
 
@@ -65,9 +65,9 @@ pub enum Ground {
     DarkStart,
     /// "an open mark unlike its lamp"
     OpenMark,
-    /// "a port outside 2 to 8"
+    /// "a port outside 2 to 8"; not that of a reset
     Port,
-    /// "a value above 15 (7 for I)"
+    /// "a value above 15 (7 for I)"; of a reset, any but 0
     Value,
     /// "a cycle below the one before"
     Cycle,
@@ -161,10 +161,16 @@ fn grounds_of_whole(carried: &Carried, log: &[u8]) -> BTreeSet<Ground> {
 /// A cycle equal to the one before is fine.
 fn grounds_of_record(before: u64, record: Record) -> BTreeSet<Ground> {
     let mut found = BTreeSet::new();
-    if !(2..=8).contains(&record.port) {
+    // "R-1 takes this port with value 0 only".
+    if record.port != RESET && !(2..=8).contains(&record.port) {
         found.insert(Ground::Port);
     }
-    if record.value > if record.port == PORT_I { 7 } else { 15 } {
+    let highest = match record.port {
+        RESET => 0,
+        PORT_I => 7,
+        _ => 15,
+    };
+    if record.value > highest {
         found.insert(Ground::Value);
     }
     if record.cycle < before {
@@ -178,9 +184,15 @@ fn lamp(lamps: u8, landing: usize) -> u8 {
     lamps >> landing & 1
 }
 
+/// The records that tell of the lamps, each with the four bits of it: those of port F, and those of resets,
+/// which have value 0: R-8 "darkens all lamps, closing their waits".
+fn writes(log: &[u8]) -> impl Iterator<Item = Record> + '_ {
+    records(log).filter(|record| matches!(record.port, LAMPS | RESET))
+}
+
 /// What a log without a ground answers. Records of other ports move the last cycle and nothing else.
 fn accepted(carried: &Carried, log: &[u8]) -> Carried {
-    let writes: Vec<Record> = records(log).filter(|record| record.port == LAMPS).collect();
+    let writes: Vec<Record> = writes(log).collect();
     Carried {
         landings: array::from_fn(|place| {
             let lamps = writes.iter().map(|write| {
@@ -224,7 +236,7 @@ fn waits(carried: &Landing, lamps: impl Iterator<Item = (u64, u8)>) -> Landing {
 pub fn lamps_lit(lamps: u8, log: &[u8]) -> [u64; LANDINGS] {
     let mut lit = [0; LANDINGS];
     let mut before = lamps;
-    for write in records(log).filter(|record| record.port == LAMPS) {
+    for write in writes(log) {
         for (place, count) in lit.iter_mut().enumerate() {
             *count += u64::from(lamp(write.value & !before, place));
         }
@@ -422,7 +434,7 @@ mod tests {
         let landings = [[1, 50, 50, 0, 0], [1, 90, 90, 0, 0], NONE, NONE];
         assert_eq!(told(&answer), (0, landings));
         // An error answers zeros, whatever was carried.
-        for answer in [read_on(&carried, &[0]), read_on(&carried, &[0; 8])] {
+        for answer in [read_on(&carried, &[0]), read_on(&carried, &[1; 8])] {
             assert_eq!(answer.carried, Carried::default());
         }
     }
@@ -430,9 +442,9 @@ mod tests {
     #[test]
     fn the_length_comes_before_any_record() {
         let sound = log(&[(10, 5, 1), (20, 5, 0), (30, 2, 4)]);
-        // Port 0 in the first record.
+        // Port 1 in the first record.
         let mut damaged = sound.clone();
-        damaged[6] = 0;
+        damaged[6] = 1;
         for length in 0..=24 {
             let whole = length % 8 == 0;
             let of = |log: &[u8]| read_on(&Carried::default(), &log[..length]).number;
@@ -528,7 +540,10 @@ mod tests {
         assert_eq!(number(&morning(), &[(999, 2, 1)]), 42);
         // Ports and values.
         for (port, value, due) in [
-            (0, 0, 42),
+            (0, 0, 0),
+            (0, 1, 42),
+            (0, 15, 42),
+            (0, 255, 42),
             (1, 0, 42),
             (2, 15, 0),
             (2, 16, 42),
@@ -541,6 +556,29 @@ mod tests {
         ] {
             assert_eq!(number(&zeros, &[(3, port, value)]), due, "{port} {value}");
         }
+    }
+
+    #[test]
+    fn a_reset_darkens_all_lamps_and_closes_their_waits() {
+        let answer = first(&[(10, 5, 0b1101), (12, 2, 9), (30, 0, 0)]);
+        let closed = [1, 20, 20, 0, 0];
+        assert_eq!(told(&answer), (0, [closed, NONE, closed, closed]));
+        assert_eq!((answer.carried.lamps, answer.carried.last), (0, 30));
+        // Dark lamps stay dark, and a lamp lit again opens a wait.
+        let answer = first(&[(10, 0, 0), (20, 5, 2), (25, 0, 0), (26, 0, 0), (26, 5, 2)]);
+        assert_eq!(told(&answer), (0, [NONE, [1, 5, 5, 1, 26], NONE, NONE]));
+        // A wait that is carried over is closed by the next log's reset.
+        let answer = read_on(&morning(), &log(&[(1_000, 0, 0)]));
+        let landings = [
+            [2, 150, 100, 0, 0],
+            [1, 100, 100, 0, 0],
+            NONE,
+            [1, 0, 0, 0, 0],
+        ];
+        assert_eq!(told(&answer), (0, landings));
+        // What is lit in the log's own rising bits is told from dark lamps after a reset.
+        let records = [(1_000, 5, 0b1010), (1_001, 0, 0), (1_002, 5, 0b1010)];
+        assert_eq!(lamps_lit(morning().lamps, &log(&records)), [0, 1, 0, 1]);
     }
 
     #[test]
@@ -646,6 +684,6 @@ landing closed cycles longest open
         assert_eq!(report_text(&answer), text);
         let refused = |log: &[u8]| report_text(&read_on(&Carried::default(), log));
         assert_eq!(refused(&[0; 7]), "refused 41\n");
-        assert_eq!(refused(&[0; 8]), "refused 42\n");
+        assert_eq!(refused(&[1; 8]), "refused 42\n");
     }
 }

@@ -1,6 +1,6 @@
 //! "Bench cases, and what misleads".
 
-use reference::{Runner, State};
+use reference::{Runner, State, Version};
 
 use crate::common::*;
 
@@ -205,10 +205,12 @@ fn misleading_owed_cycles_are_dropped_on_save() {
     start.carry = 1;
     let rom = rom(&[(0, &[0x04, 0x17])]);
     let state = after(&rom, &[], &start, 1);
-    let mut image = [0; 81];
-    assert_eq!(reference::save(&state, &mut image), 0);
-    assert_eq!(image[17], 2);
-    let (number, restored) = reference::restore(&image);
-    assert_eq!((number, restored.owed), (0, 2));
-    assert_eq!(after(&rom, &[], &restored, 2).pc, 3);
+    for version in Version::BOTH {
+        let mut image = vec![0; version.length()];
+        assert_eq!(reference::save(version, &state, &mut image), 0);
+        assert_eq!(image[17], 2);
+        let (number, restored) = reference::restore(&image);
+        assert_eq!((number, restored.owed), (0, 2));
+        assert_eq!(after(&rom, &[], &restored, 2).pc, 3);
+    }
 }

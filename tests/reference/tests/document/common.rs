@@ -1,6 +1,6 @@
 //! ROMs, schedules and states to try things on.
 
-pub use reference::case::{record, schedule};
+pub use reference::case::{lines, record, reset_record, schedule};
 pub use reference::draw::Draw;
 use reference::{run, Answer, Runner, State};
 
@@ -30,7 +30,7 @@ pub fn written(cycle: u64, port: u8, value: u8) -> Vec<u8> {
 
 /// A run with room for every record; the log is cut to what was written.
 pub fn go(runner: Runner, rom: &[u8], schedule: &[u8], state: &State, n: u64) -> (Answer, Vec<u8>) {
-    let mut log = vec![0; 8 * n as usize + 8];
+    let mut log = vec![0; 16 * n as usize];
     let answer = run(runner, rom, schedule, state, &mut log, n);
     log.truncate(answer.written);
     (answer, log)
@@ -49,6 +49,9 @@ pub fn any_state(draw: &mut Draw) -> State {
     state.pc = draw.below(0x800) as u16;
     state.stack = [0; 3].map(|_| draw.below(0x800) as u16);
     state.ram = [0; 96].map(|_| draw.upto(15));
+    if draw.one_in(2) {
+        state.count = draw.upto(4);
+    }
     state
 }
 
@@ -86,17 +89,19 @@ pub fn any_rom(draw: &mut Draw) -> Vec<u8> {
     rom
 }
 
-/// A schedule with records around the cycles after this one.
+/// A schedule with records around the cycles after this one. One in two has RES high in some records.
 pub fn any_schedule(draw: &mut Draw, from: u64) -> Vec<u8> {
     let mut schedule = Vec::new();
     let mut cycle = from.saturating_sub(draw.below(100));
     let widest = [2, 7, 40, 300, 2_000][draw.below(5) as usize];
+    let resets = draw.one_in(2);
     for _ in 0..draw.below(80) {
         if cycle > LAST_CYCLE {
             break;
         }
         let (ab, cd, int) = (draw.upto(255), draw.upto(255), draw.upto(1));
-        schedule.extend(record(cycle, ab, cd, int));
+        let res = resets && draw.one_in(4);
+        schedule.extend(reset_record(cycle, ab, cd, int, u8::from(res)));
         cycle += 1 + draw.below(widest);
     }
     schedule

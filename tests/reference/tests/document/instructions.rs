@@ -24,6 +24,7 @@ const LINES: [u8; 4] = [0b1010, 0b0110, 0b0001, 0b1101];
 fn start(draw: &mut Draw) -> State {
     let mut state = any_state(draw);
     state.pc = AT;
+    state.count = 0;
     state.owed = 0;
     state.mark = OTHER;
     state.inte = 0;

@@ -1,4 +1,4 @@
-//! What document 01 says, executed.
+//! What document 01 says, and where they change it, executed.
 
 mod bench_cases;
 mod common;
@@ -6,6 +6,7 @@ mod image;
 mod instructions;
 mod readings;
 mod refusals;
+mod reset;
 mod runners;
 mod stops;
 mod trace;

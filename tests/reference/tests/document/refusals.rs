@@ -1,6 +1,6 @@
 //! "Numbers, by whose hand": the refusals of a run and their order.
 
-use reference::{run, Answer, Runner, State};
+use reference::{run, Answer, Runner, State, Version};
 
 use crate::common::*;
 
@@ -52,7 +52,9 @@ fn in_their_order() {
     assert_eq!(number(&rom, &lines, &state, 1), 13);
     lines[8..10].copy_from_slice(&[1, 0]);
     assert_eq!(number(&rom, &lines, &state, 1), 13);
-    lines[18..20].copy_from_slice(&[0, 0]);
+    lines[18..20].copy_from_slice(&[0, 2]);
+    assert_eq!(number(&rom, &lines, &state, 1), 13);
+    lines[19] = 1;
     assert_eq!(number(&rom, &lines, &state, 1), 14);
     lines[0] = 0;
     assert_eq!(number(&rom, &lines, &state, 1), 34);
@@ -91,10 +93,12 @@ fn the_records_of_the_schedule() {
     for int in 2..=255 {
         assert_eq!(number(&rom, &record(0, 0, 0, int), &state, 0), 13);
     }
-    for last in 1..=255 {
-        let mut lines = record(0, 0, 0, 1);
-        lines[9] = last;
-        assert_eq!(number(&rom, &lines, &state, 0), 13);
+    for res in 0..=255 {
+        let refusal = if res > 1 { 13 } else { 0 };
+        assert_eq!(
+            number(&rom, &reset_record(0, 0, 0, 1, res), &state, 0),
+            refusal
+        );
     }
     // The cycles rise strictly.
     for (first, second, refusal) in [(0, 0, 14), (5, 5, 14), (5, 4, 14), (5, 6, 0), (256, 1, 14)] {
@@ -116,7 +120,7 @@ fn the_records_of_the_schedule() {
 
 /// States with one field above its width or rule.
 pub fn faulty_states() -> Vec<State> {
-    let changes: [fn(&mut State); 25] = [
+    let changes: [fn(&mut State); 27] = [
         |s| s.pc = 0x800,
         |s| s.stack[0] = 0x800,
         |s| s.stack[1] = 0xFFFF,
@@ -142,6 +146,8 @@ pub fn faulty_states() -> Vec<State> {
         |s| s.ram[95] = 16,
         |s| s.cycle = LAST_CYCLE + 1,
         |s| s.cycle = u64::MAX,
+        |s| s.count = 5,
+        |s| s.count = 255,
     ];
     changes
         .iter()
@@ -178,7 +184,8 @@ fn states_that_no_run_reaches_are_taken() {
         let mut state = State::fresh();
         change(&mut state);
         assert_eq!(number(&rom(&[]), &[], &state, 0), 0);
-        assert_eq!(reference::save(&state, &mut [0; 81]), 0);
+        assert_eq!(reference::save(Version::One, &state, &mut [0; 81]), 0);
+        assert_eq!(reference::save(Version::Two, &state, &mut [0; 82]), 0);
     }
 }
 

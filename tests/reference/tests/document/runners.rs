@@ -1,7 +1,7 @@
 //! "Two runners", and the lists of demand 3.
 
 use reference::codes::{always_skips, can_skip, is_none};
-use reference::{restore, run, run_observed, save, Answer, Coverage, Runner, State};
+use reference::{restore, run, run_observed, save, Answer, Coverage, Runner, State, Version};
 
 use crate::common::*;
 
@@ -61,10 +61,10 @@ fn defined_jump(rom: &[u8], schedule: &[u8], state: &State, left: u64) -> u64 {
         Some(code) if code >= 0xC0 => Some(next / 64 * 64 + u16::from(code % 64)),
         _ => None,
     };
-    let mut line = 1;
+    let (mut line, mut res) = (1, 0);
     for record in schedule.chunks(10) {
         if cycle_of(record) <= state.cycle {
-            line = record[8];
+            (line, res) = (record[8], record[9]);
         }
     }
     let holds = state.owed == 0
@@ -73,7 +73,9 @@ fn defined_jump(rom: &[u8], schedule: &[u8], state: &State, left: u64) -> u64 {
         && !(state.int == 1 && state.inte == 1)
         && byte(state.pc) == Some(0x05)
         && back == Some(state.pc)
-        && line == state.level;
+        && line == state.level
+        && res == 0
+        && state.count == 0;
     if !holds {
         return 0;
     }
@@ -142,7 +144,7 @@ fn the_skipping_runner_is_the_plain_one_but_for_its_steps() {
         assert_eq!(skipping, plain);
         assert_eq!(skipping_log, plain_log);
         // What a run answers can be saved.
-        assert_eq!(save(&plain.state, &mut [0; 81]), 0);
+        assert_eq!(save(Version::Two, &plain.state, &mut [0; 82]), 0);
     }
     assert!(saved_steps > 100_000, "{saved_steps}");
     assert!(stops > 150, "{stops}");
@@ -295,8 +297,8 @@ fn a_run_then_a_run_is_one_run() {
             Runner::Skipping
         };
         let (first, mut log) = go(runner, &rom, &schedule, &start, a);
-        let mut image = [0; 81];
-        assert_eq!(save(&first.state, &mut image), 0);
+        let mut image = [0; 82];
+        assert_eq!(save(Version::Two, &first.state, &mut image), 0);
         let (number, state) = restore(&image);
         assert_eq!(number, 0);
         let (second, rest) = go(runner, &rom, &schedule, &state, b);
@@ -314,6 +316,7 @@ fn a_run_then_a_run_is_one_run() {
 #[test]
 fn every_list_of_slices_ends_as_one_unbroken_run() {
     let draw = &mut Draw::new(24);
+    let mut refused_counts = 0;
     for _ in 0..600 {
         let (rom, schedule, start) = any_panel(draw);
         let mut state = start.clone();
@@ -330,8 +333,8 @@ fn every_list_of_slices_ends_as_one_unbroken_run() {
                     assert_eq!((answer.number, answer.refused), (21, true));
                     assert_eq!((answer.state, lent), (other, [0xA5; 40]));
                 }
-                1 => assert_eq!(save(&any_state(draw), &mut [0; 80]), 1),
-                2 => assert_eq!(restore(&[0; 81]).0, 32),
+                1 => assert_eq!(save(Version::Two, &any_state(draw), &mut [0; 81]), 1),
+                2 => assert_eq!(restore(&[0; 82]).0, 32),
                 _ => {}
             }
             let runner = if draw.one_in(2) {
@@ -339,7 +342,7 @@ fn every_list_of_slices_ends_as_one_unbroken_run() {
             } else {
                 Runner::Skipping
             };
-            // "a log of at least 8n + 8 bytes": `go` lends just that.
+            // "a log of 16n bytes for n cycles": `go` lends just that.
             let longest = [2, 5, 30, 300][draw.below(4) as usize];
             let n = draw.below(longest);
             let (answer, records) = go(runner, &rom, &schedule, &state, n);
@@ -349,8 +352,18 @@ fn every_list_of_slices_ends_as_one_unbroken_run() {
             begun += answer.begun;
             log.extend(records);
             numbers.push(answer.number);
-            let mut image = [0; 81];
-            assert_eq!(save(&answer.state, &mut image), 0);
+            // Saved as either version; 54 is one more refused call.
+            let mut image = vec![0; 82];
+            if draw.one_in(2) {
+                image.pop();
+                let due = if answer.state.count == 0 { 0 } else { 54 };
+                assert_eq!(save(Version::One, &answer.state, &mut image), due);
+                refused_counts += u64::from(due == 54);
+                image.resize(if due == 0 { 81 } else { 82 }, 0);
+            }
+            if image.len() == 82 {
+                assert_eq!(save(Version::Two, &answer.state, &mut image), 0);
+            }
             state = restore(&image).1;
         }
         let (whole, whole_log) = go(Runner::Plain, &rom, &schedule, &start, asked);
@@ -366,11 +379,12 @@ fn every_list_of_slices_ends_as_one_unbroken_run() {
                 .all(|number| [0, whole.number].contains(number)));
         }
     }
+    assert!(refused_counts > 100, "{refused_counts}");
 }
 
 #[test]
-fn a_log_of_8n_and_8_bytes_is_enough() {
-    // OCD begun in the last cycle needs it all; stop 3 never comes.
+fn a_log_of_16n_bytes_is_enough() {
+    // Stop 3 never comes.
     let draw = &mut Draw::new(25);
     for _ in 0..2_000 {
         let (mut rom, schedule, start) = any_panel(draw);
@@ -382,11 +396,17 @@ fn a_log_of_8n_and_8_bytes_is_enough() {
         let (answer, _) = go(Runner::Skipping, &rom, &schedule, &start, draw.below(30));
         assert_ne!(answer.number, 3);
     }
+    // OCD in one cycle needs it all. A reset cuts it short, and OCD begins again: 40 bytes in 3 cycles.
+    let rom = rom(&[(0, &[0x1E, 0x5A])]);
+    let (answer, _) = go(Runner::Plain, &rom, &[], &State::fresh(), 1);
+    assert_eq!((answer.number, answer.written), (0, 16));
     let mut start = State::fresh();
-    start.dpl = 4;
-    let rom = rom(&[(0, &[0x0E, 0x0E, 0x1E, 0x00])]);
-    let (answer, _) = go(Runner::Plain, &rom, &[], &start, 3);
-    assert_eq!((answer.number, answer.written), (0, 32));
+    start.count = 2;
+    let lines = lines(&[(0, 0, 0, 1, 1), (2, 0, 0, 1, 0)]);
+    let (answer, log) = go(Runner::Plain, &rom, &lines, &start, 3);
+    assert_eq!((answer.number, answer.cycles, answer.begun), (0, 3, 2));
+    let ocd = |cycle: u64| [written(cycle, 2, 10), written(cycle, 3, 5)].concat();
+    assert_eq!(log, [ocd(0), written(1, 0, 0), ocd(2)].concat());
 }
 
 #[test]
@@ -423,7 +443,7 @@ fn the_coverage_counts_each_instruction_begun() {
         let mut begun = 0;
         for _ in 0..3_000 {
             let (rom, schedule, start) = any_panel(draw);
-            let mut log = vec![0; 8_008];
+            let mut log = vec![0; 16_000];
             let answer = run_observed(
                 runner,
                 &rom,

@@ -1,20 +1,28 @@
 //! How the calls are drawn. A panel gets some dozens of them, one after the other on its image; most
 //! are sound, and some have a part that is damaged.
 
-use reference::call::fresh;
-use reference::case::{record, Case, FEW_JCP, FEW_JUMPS, INSIDE, NO_STOPS};
+use reference::call::{convert, fresh};
+use reference::case::{reset_record, Case, FEW_JCP, FEW_JUMPS, INSIDE, NO_STOPS};
 use reference::draw::Draw;
-use reference::{restore, save};
+use reference::{restore, save, Version};
 
-const IMAGE: usize = 81;
+const IMAGE: usize = 82;
 const ROM: usize = 2_000;
 const REPORT: usize = 32;
 const LAST_CYCLE: u64 = (1 << 48) - 1;
 
-/// All that a call is given.
+/// Which function is called.
+#[derive(Clone, Copy, PartialEq, Eq, Debug)]
+pub enum Function {
+    Call,
+    Fresh,
+    Convert,
+}
+
+/// All that a call is given. A conversion takes the image to the report's bytes, and n is its version.
 #[derive(Clone)]
 pub struct Drawn {
-    pub fresh: bool,
+    pub function: Function,
     /// Whether a part of length 0 has a null pointer.
     pub null: bool,
     pub image: Vec<u8>,
@@ -54,7 +62,11 @@ impl Calls {
         self.left -= 1;
         let draw = &mut self.draw;
         let mut drawn = Drawn {
-            fresh: draw.one_in(50),
+            function: match draw.below(50) {
+                0 => Function::Fresh,
+                1..=4 => Function::Convert,
+                _ => Function::Call,
+            },
             null: draw.one_in(2),
             image: self.image.clone(),
             rom: self.rom.clone(),
@@ -65,7 +77,7 @@ impl Calls {
             report: REPORT,
             fill: draw.byte(),
         };
-        if drawn.fresh {
+        if drawn.function == Function::Fresh {
             drawn.image = bytes(draw, 2 * IMAGE as u64 / 3 + 60);
         }
         if draw.one_in(12) {
@@ -80,6 +92,10 @@ impl Calls {
         if draw.one_in(8) {
             damage_schedule(draw, &mut drawn.schedule);
         }
+        if drawn.function == Function::Convert {
+            conversion(draw, &mut drawn);
+            return drawn;
+        }
         drawn.n = cycles(draw, &drawn.image);
         drawn.log = log_length(draw, drawn.n);
         drawn
@@ -88,7 +104,7 @@ impl Calls {
     /// What a call answered: the panel goes on from its image, also from one that was changed and is
     /// still a panel's.
     pub fn answered(&mut self, drawn: &Drawn, number: u8, image: Vec<u8>) {
-        if !drawn.fresh && matches!(number, 0 | 3 | 22 | 23) {
+        if drawn.function == Function::Call && matches!(number, 0 | 3 | 22 | 23) {
             self.image = image;
         }
         // A panel that stopped for good gets few calls more.
@@ -109,7 +125,7 @@ impl Calls {
                 image
             }
             _ => {
-                let mut state = draw.state();
+                let mut state = draw.counted_state();
                 state.ram.fill_with(|| draw.word());
                 if draw.one_in(8) {
                     state.pc = 0x7C0 + draw.below(0x40) as u16;
@@ -118,7 +134,7 @@ impl Calls {
                     state.cycle = LAST_CYCLE - draw.below(200);
                 }
                 let mut image = vec![0; IMAGE];
-                save(&state, &mut image);
+                save(Version::Two, &state, &mut image);
                 image
             }
         };
@@ -132,7 +148,7 @@ fn bytes(draw: &mut Draw, below: u64) -> Vec<u8> {
 
 /// The cycle number of an image; 0 where it is too short to have one.
 fn cycle_of(image: &[u8]) -> u64 {
-    match image.get(75..IMAGE) {
+    match image.get(75..81) {
         Some(bytes) => bytes.iter().fold(0, |n, &byte| n << 8 | u64::from(byte)),
         None => 0,
     }
@@ -162,7 +178,43 @@ fn rom(draw: &mut Draw) -> Vec<u8> {
     rom
 }
 
-/// Records around a cycle and after it, as many as there may be at times.
+/// An image of either version, often damaged, to a version that is one or none.
+fn conversion(draw: &mut Draw, drawn: &mut Drawn) {
+    let mut old = vec![0; IMAGE - 1];
+    if draw.one_in(2) && convert(&drawn.image, &mut old, 1) == 0 {
+        drawn.image = old;
+        if draw.one_in(6) {
+            damage_image(draw, &mut drawn.image);
+        }
+    }
+    if draw.one_in(2) && drawn.image.len() == IMAGE {
+        drawn.image[IMAGE - 1] = draw.upto(4);
+    }
+    drawn.n = draw.of(&[
+        1,
+        1,
+        1,
+        1,
+        2,
+        2,
+        2,
+        2,
+        0,
+        3,
+        257,
+        258,
+        1 << 32 | 1,
+        u64::MAX,
+    ]);
+    drawn.report = match draw.below(6) {
+        0 => draw.below(IMAGE as u64) as usize,
+        1 => IMAGE + draw.below(20) as usize,
+        _ => draw.of(&[IMAGE - 2, IMAGE - 1, IMAGE]),
+    };
+}
+
+/// Records around a cycle and after it, as many as there may be at times; in one of two schedules some with RES
+/// high.
 fn schedule(draw: &mut Draw, around: u64) -> Vec<u8> {
     let records = match draw.below(40) {
         0 => 4_096,
@@ -172,12 +224,15 @@ fn schedule(draw: &mut Draw, around: u64) -> Vec<u8> {
     };
     let gap = draw.of(&[1, 2, 20, 200]);
     let mut cycle = around.saturating_sub(draw.below(2 * gap));
+    let resets = draw.one_in(2);
     let mut schedule = Vec::new();
     for _ in 0..records {
         if cycle > LAST_CYCLE {
             break;
         }
-        schedule.extend(record(cycle, draw.byte(), draw.byte(), draw.upto(1)));
+        let res = u8::from(resets && draw.one_in(3));
+        let (ab, cd, int) = (draw.byte(), draw.byte(), draw.upto(1));
+        schedule.extend(reset_record(cycle, ab, cd, int, res));
         cycle += 1 + draw.below(gap);
     }
     schedule
@@ -186,7 +241,7 @@ fn schedule(draw: &mut Draw, around: u64) -> Vec<u8> {
 fn damage_image(draw: &mut Draw, image: &mut Vec<u8>) {
     let length = image.len() as u64;
     match draw.below(8) {
-        0 => image.resize(draw.of(&[0, 80, 82, 2 * IMAGE]), 0),
+        0 => image.resize(draw.of(&[0, 80, 81, 82, 83, 2 * IMAGE]), 0),
         1 => *image = bytes(draw, 150),
         2 if length > 2 => image[draw.below(3) as usize] = draw.byte(),
         3 if length > 4 => image[3 + draw.below(2) as usize] = draw.upto(3),
@@ -197,7 +252,7 @@ fn damage_image(draw: &mut Draw, image: &mut Vec<u8>) {
         _ => {
             // Bits, mostly past mark and version.
             for _ in 0..1 + draw.below(3) {
-                let at = 5 + draw.below(76) as usize;
+                let at = 5 + draw.below(77) as usize;
                 if let Some(byte) = image.get_mut(at) {
                     *byte ^= 1 << draw.below(8);
                 }
@@ -207,7 +262,7 @@ fn damage_image(draw: &mut Draw, image: &mut Vec<u8>) {
     // A cycle number near the limit.
     if draw.one_in(12) && restore(image).0 == 0 {
         let cycle = LAST_CYCLE - draw.below(60);
-        image[75..IMAGE].copy_from_slice(&cycle.to_be_bytes()[2..]);
+        image[75..81].copy_from_slice(&cycle.to_be_bytes()[2..]);
     }
 }
 
@@ -279,11 +334,11 @@ fn cycles(draw: &mut Draw, image: &[u8]) -> u64 {
 
 /// As long as n cycles may need, or shorter, or none.
 fn log_length(draw: &mut Draw, n: u64) -> usize {
-    let whole = if n < 3_000 { 8 * n + 8 } else { 64 };
+    let whole = if n < 3_000 { 16 * n } else { 64 };
     match draw.below(8) {
         0 => 0,
         1 => draw.below(40) as usize,
-        2 => draw.below(whole) as usize,
+        2 => draw.below(whole + 1) as usize,
         3 => (whole + draw.below(40)) as usize,
         _ => whole as usize,
     }

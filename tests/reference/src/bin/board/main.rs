@@ -11,7 +11,7 @@
 //!
 //! | number | what |
 //! |---|---|
-//! | 0 | 1 for `wharfnettle_fresh`, else 0; plus 2 where a ROM follows, 4 where a schedule follows, 8 where a part of length 0 has a null pointer |
+//! | 0 | 1 for `wharfnettle_fresh`, 16 for `wharfnettle_convert`, else 0; plus 2 where a ROM follows, 4 where a schedule follows, 8 where a part of length 0 has a null pointer |
 //! | 1 to 5 | lengths of image, ROM, schedule, log and report |
 //! | 6, 7 | n, runner |
 //! | 8 | f: before the call, byte i of log and report is (7 i + f) modulo 256 |
@@ -19,7 +19,8 @@
 //! | 10 | w: the log's bytes from w on are due as they were |
 //!
 //! The bytes are the image given; the ROM and the schedule, where they follow, else they are those of
-//! the call before; then what is due: the image, the report, the first w bytes of the log.
+//! the call before; then what is due: the image, the report, the first w bytes of the log. A conversion takes the
+//! image to the bytes of the report, and n is the version.
 
 mod drawn;
 
@@ -27,8 +28,8 @@ use std::env;
 use std::io::{self, BufWriter, Write};
 use std::process::ExitCode;
 
-use drawn::{Calls, Drawn};
-use reference::call::{call, fresh};
+use drawn::{Calls, Drawn, Function};
+use reference::call::{call, convert, fresh};
 use reference::lent::Lent;
 use reference::{restore, Runner};
 
@@ -51,10 +52,10 @@ fn due(drawn: &Drawn) -> Due {
     let mut image = drawn.image.clone();
     let mut log = filled(drawn.log, drawn.fill);
     let mut report = filled(drawn.report, drawn.fill);
-    let number = if drawn.fresh {
-        fresh(&mut image)
-    } else {
-        call(
+    let number = match drawn.function {
+        Function::Fresh => fresh(&mut image),
+        Function::Convert => convert(&image, &mut report, drawn.n),
+        Function::Call => call(
             &mut image,
             &drawn.rom,
             &drawn.schedule,
@@ -62,7 +63,7 @@ fn due(drawn: &Drawn) -> Due {
             drawn.n,
             drawn.runner,
             &mut report,
-        )
+        ),
     };
     Due {
         number,
@@ -92,10 +93,11 @@ fn write_calls(count: u64, seed: u64, out: &mut impl Write) -> io::Result<()> {
         put(
             out,
             &[
-                u64::from(drawn.fresh)
+                u64::from(drawn.function == Function::Fresh)
                     | u64::from(new_rom) << 1
                     | u64::from(new_schedule) << 2
-                    | u64::from(drawn.null) << 3,
+                    | u64::from(drawn.null) << 3
+                    | u64::from(drawn.function == Function::Convert) << 4,
                 drawn.image.len() as u64,
                 drawn.rom.len() as u64,
                 drawn.schedule.len() as u64,
@@ -140,10 +142,10 @@ fn told(seed: u64, place: u64) -> String {
     }
     let drawn = calls.next();
     let due = due(&drawn);
-    let name = if drawn.fresh {
-        "wharfnettle_fresh"
-    } else {
-        "wharfnettle_call"
+    let name = match drawn.function {
+        Function::Fresh => "wharfnettle_fresh",
+        Function::Convert => "wharfnettle_convert of the image to the report",
+        Function::Call => "wharfnettle_call",
     };
     let mut text = format!(
         "call {place} of seed {seed}: {name}, the number due is {}\n\
@@ -162,7 +164,7 @@ fn told(seed: u64, place: u64) -> String {
         hex(&due.report),
     );
     let (number, state) = restore(&drawn.image);
-    if !drawn.fresh && number == 0 {
+    if drawn.function == Function::Call && number == 0 {
         let runner = if drawn.runner == 0 {
             Runner::Plain
         } else {
@@ -225,9 +227,41 @@ mod tests {
             ended[usize::from(due.number)] += 1;
             calls.answered(&drawn, due.number, due.image);
         }
-        for number in [0, 1, 2, 3, 11, 12, 13, 14, 21, 22, 23, 31, 32, 33, 34] {
+        for number in [0, 1, 2, 3, 11, 12, 13, 14, 21, 22, 23, 31, 32, 33, 34, 54] {
             assert!(ended[number] >= 20, "{number}: {}", ended[number]);
         }
         assert!(ended[0] > 5_000, "{}", ended[0]);
+    }
+
+    /// Images with each count are run and converted, and resets are written.
+    #[test]
+    fn every_count_is_drawn() {
+        let mut calls = Calls::new(1);
+        let (mut called, mut converted, mut resets) = ([0; 5], [0; 5], 0);
+        for _ in 0..20_000 {
+            let drawn = calls.next();
+            let due = due(&drawn);
+            let (number, state) = restore(&drawn.image);
+            if number == 0 && matches!(due.number, 0 | 3 | 22 | 23 | 54) {
+                match drawn.function {
+                    Function::Call => called[usize::from(state.count)] += 1,
+                    Function::Convert => converted[usize::from(state.count)] += 1,
+                    Function::Fresh => {}
+                }
+            }
+            if drawn.function == Function::Call && due.number == 0 {
+                let written = due.report[16..24]
+                    .iter()
+                    .fold(0, |n, &b| n << 8 | usize::from(b));
+                resets += due.log[..written]
+                    .chunks(8)
+                    .filter(|record| record[6] == 0)
+                    .count();
+            }
+            calls.answered(&drawn, due.number, due.image);
+        }
+        assert!(called.iter().all(|&count| count > 100), "{called:?}");
+        assert!(converted.iter().all(|&count| count > 10), "{converted:?}");
+        assert!(resets > 300, "{resets}");
     }
 }

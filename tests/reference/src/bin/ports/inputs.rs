@@ -1,7 +1,7 @@
 //! The inputs: each refusal and each stop, and logs that are longer than trace's 16,384 bytes, than a
 //! buffer of 65,536 bytes, or fill it.
 
-use reference::case::{panel, record, Case, FEW_JCP, FEW_JUMPS, INSIDE, NO_STOPS};
+use reference::case::{lines, panel, record, Case, FEW_JCP, FEW_JUMPS, INSIDE, NO_STOPS};
 use reference::kinds::{all_of, Kind};
 use reference::maker::sample;
 
@@ -51,7 +51,7 @@ const OE_LOOP: [u8; 2] = [0x44, 0xC0];
 /// IA, OE and JCP 000: line A of every fifth cycle.
 const LINE_LOOP: [u8; 3] = [0x40, 0x44, 0xC0];
 
-pub const KINDS: [Kind<Input>; 7] = [
+pub const KINDS: [Kind<Input>; 8] = [
     ("samples", samples),
     ("short", short),
     ("finishes", finishes),
@@ -59,7 +59,56 @@ pub const KINDS: [Kind<Input>; 7] = [
     ("long_logs", long_logs),
     ("stops", stops),
     ("drawn", drawn),
+    ("resets", resets),
 ];
+
+/// Resets: a few, as many as a schedule can tell, and for ever; where a log of 65,536 bytes is full.
+fn resets() -> Vec<Input> {
+    let pulses = |high: u64, count: u64| {
+        let pulse = |k: u64| [(10 * k + 5, 0, 0, 1, 1), (10 * k + 5 + high, 0, 0, 1, 0)];
+        lines(&(0..count).flat_map(pulse).collect::<Vec<_>>())
+    };
+    let held = lines(&[(20, 0, 0, 1, 1)]);
+    let drawn = Case::new("any ROM 1039 with resets")
+        .made_rom(1_039, LASTING)
+        .made_schedule(40_000, 1_039, 40, 0)
+        .resets(9);
+    let bytes = [
+        200_000_u32.to_be_bytes().to_vec(),
+        drawn.made_rom_bytes(),
+        drawn.made_schedule_bytes(),
+    ];
+    vec![
+        input(
+            "no reset in three cycles",
+            panel(30_000, &[], &pulses(3, 2_048)),
+            End::Records(0, 0),
+        ),
+        input(
+            "2,048 resets",
+            panel(30_000, &[], &pulses(4, 2_048)),
+            End::Records(2_048, 0),
+        ),
+        // OCD C3, OCD 3C and JCP 002: six records behind each reset, and nine in all.
+        input(
+            "resets between OCDs",
+            panel(
+                30_000,
+                &[(0, &[0x1E, 0xC3, 0x1E, 0x3C, 0xC2])],
+                &pulses(4, 2_048),
+            ),
+            End::Many,
+        ),
+        input(
+            "held in reset",
+            panel(300_000, &[(0, &OE_LOOP)], &held),
+            End::Records(9, 0),
+        ),
+        input("sample reset", sample("reset.panel"), End::Records(8, 0)),
+        input("sample res", sample("res.panel"), End::Refused(13)),
+        input(&drawn.name, bytes.concat(), End::Many),
+    ]
+}
 
 pub fn all() -> Vec<Input> {
     all_of(&KINDS)
@@ -143,7 +192,7 @@ fn schedules() -> Vec<Input> {
     let falls = [record(256, 0, 0, 1), record(255, 0, 0, 0)].concat();
     let both = [record(7, 0, 0, 1), record(7, 0, 0, 9)].concat();
     let mut ended = record(7, 0, 0, 1);
-    ended[9] = 1;
+    ended[9] = 2;
     vec![
         of_length(10, End::Records(1_000, 0)),
         of_length(40_950, End::Records(1_000, 0)),
@@ -162,7 +211,7 @@ fn schedules() -> Vec<Input> {
             11,
         ),
         of("INT level 2", &record(0, 0, 0, 2), 13),
-        of("a last byte of 1", &ended, 13),
+        of("RES 2", &ended, 13),
         of("13 and 14 in one record", &both, 13),
         of("a cycle twice", &twice, 14),
         of("a cycle that falls", &falls, 14),

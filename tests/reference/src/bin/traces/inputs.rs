@@ -3,7 +3,7 @@
 //! 34 and 2 refuse no trace: the fresh state is sound, and its cycle number, 0, plus an n of 4 bytes
 //! stays far below 2^48 - 1.
 
-use reference::case::{panel, record, schedule};
+use reference::case::{lines as lines_of, panel, record, schedule, LinesFrom};
 use reference::kinds::Kind;
 use reference::maker;
 
@@ -17,7 +17,7 @@ pub struct Input {
 /// OCD, LI, OE and a code that is no instruction: document 01's example.
 const EXAMPLE: [u8; 5] = [0x1E, 0xA5, 0x93, 0x44, 0x1C];
 
-pub const KINDS: [Kind<Input>; 9] = [
+pub const KINDS: [Kind<Input>; 10] = [
     ("short", short),
     ("schedule_lengths", schedule_lengths),
     ("records", records),
@@ -27,7 +27,78 @@ pub const KINDS: [Kind<Input>; 9] = [
     ("lines", lines),
     ("samples", samples),
     ("long", long),
+    ("resets", resets),
 ];
+
+/// RES high for so many cycles, each so many cycles, from this one on.
+fn pulses(first: u64, each: u64, high: u64, count: u64) -> Vec<u8> {
+    let pulse = |k: u64| {
+        let from = first + each * k;
+        [(from, 0, 0, 1, 1), (from + high, 0, 0, 1, 0)]
+    };
+    let records: Vec<LinesFrom> = (0..count).flat_map(pulse).collect();
+    lines_of(&records)
+}
+
+/// The record of a reset has the letter R, and a full log stops a run before it.
+fn resets() -> Vec<Input> {
+    // LI 3, OE, and NOPs.
+    let of = |name: &str, n: u32, schedule: &[u8], last| {
+        input(name, n, &[(0, &[0x93, 0x44])], schedule, last)
+    };
+    // OCD C3, JCP 002: two records behind each reset.
+    let ocd: (usize, &[u8]) = (0, &[0x1E, 0xC3, 0xC2]);
+    let held = lines_of(&[(20, 0, 0, 1, 1)]);
+    vec![
+        of(
+            "RES high for three cycles",
+            50,
+            &pulses(10, 100, 3, 1),
+            "end 50 49 0",
+        ),
+        of(
+            "RES high for four cycles",
+            50,
+            &pulses(10, 100, 4, 1),
+            "end 50 47 0",
+        ),
+        of(
+            "RES high for five cycles",
+            50,
+            &pulses(10, 100, 5, 1),
+            "end 50 46 0",
+        ),
+        of(
+            "RES high from cycle 0 on",
+            9,
+            &pulses(0, 100, 5, 1),
+            "end 9 5 0",
+        ),
+        of(
+            "many resets",
+            5_000,
+            &pulses(10, 9, 4, 500),
+            "end 5000 3998 0",
+        ),
+        of("held in reset", 1_000_000, &held, "end 1000000 22 0"),
+        input(
+            "a reset meets a full log",
+            20_000,
+            &[ocd],
+            &pulses(5, 10, 4, 2_048),
+            "end 6828 5463 3",
+        ),
+        input(
+            "OE after a reset meets a full log",
+            20_000,
+            &[(0, &[0x44, 0xC2])],
+            &pulses(5, 10, 4, 2_048),
+            "end 10239 8191 3",
+        ),
+        sample("reset", "end 700 577 0"),
+        sample("res", "refused 13"),
+    ]
+}
 
 /// Schedules of 40 KB and more, some of them longer than the program's buffer of 65,536 bytes. The records
 /// rise, and no two neighbours are alike.
@@ -44,13 +115,13 @@ fn long() -> Vec<Input> {
         of(&name, &records[..length], last)
     };
     let mut damaged = records[..40_960].to_vec();
-    damaged[40_959] = 1;
+    damaged[40_959] = 2;
     vec![
         of_length(40_950, "end 5000 3000 0"),
         of_length(40_959, "refused 11"),
         of_length(40_960, "end 5000 3000 0"),
         of(
-            "a full schedule with a last byte of 1",
+            "a full schedule with a last byte of 2",
             &damaged,
             "refused 13",
         ),
@@ -175,7 +246,8 @@ fn records() -> Vec<Input> {
             "end 5 3 23",
         ),
         of("INT level 2", &[(0, 2, 0)], "refused 13"),
-        of("a last byte of 1", &[(0, 1, 0), (4, 0, 1)], "refused 13"),
+        of("a last byte of 2", &[(0, 1, 0), (4, 0, 2)], "refused 13"),
+        of("a last byte of 1", &[(0, 1, 0), (4, 0, 1)], "end 5 3 23"),
         of("a cycle twice", &[(7, 1, 0), (7, 0, 0)], "refused 14"),
         of(
             "a cycle that falls",

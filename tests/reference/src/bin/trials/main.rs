@@ -75,13 +75,19 @@ impl Trials {
                 items.push(Box::new(call));
             }
         }
-        for group in self.groups {
-            if let Some(calls) = images::Calls::of(group) {
+        for group in &self.groups {
+            if let Some(calls) = images::Calls::of(group.clone()) {
                 items.push(Box::new(calls));
+            }
+        }
+        for group in self.groups {
+            if let Some(converts) = images::Converts::of(group) {
+                items.push(Box::new(converts));
             }
         }
         if self.kinds.contains(&Kind::Drawn) {
             items.push(Box::new(images::Lengths));
+            items.push(Box::new(images::Versions));
         }
         for panel in self.panels {
             for runner in [Runner::Plain, Runner::Skipping] {

@@ -35,17 +35,19 @@
 //! | X | the image's byte at the place has the value |
 //! | K, B | the image is kept; the kept one is brought back |
 //! | F | `wharfnettle_fresh` on a buffer of this length, which is then the image: one more of a group, its number and the buffer |
+//! | T | `wharfnettle_convert` of the image to a buffer of this length, up to 512 bytes, and to the version n |
 //! | C | `wharfnettle_call` with n and the runner, on a log of this length and a report of as many bytes as the place says |
 //!
 //! A call's line has its number, the report's four counts, and digests of image, log and report, each as long
 //! as it was lent. In a group it leaves number, report, image and log. What a list keeps is the image. A
 //! refused call is one that answers no 0, 3, 22 or 23: image and log have to stay, and the report to be 32
-//! zeros, or to stay where it is shorter.
+//! zeros, or to stay where it is shorter. A conversion of a group leaves its number and the buffer, and the image
+//! stays. In a list the buffer is then the image, but a refused one has to leave the buffer, and the image stays.
 //!
 //! # test_values: runs, saves and restores of a state as a value
 //!
-//! A value is 132 bytes: PC (2), stack (6), Acc, C, C', DPH, DPL, INT, INTE, TM, level, mark, owed, register,
-//! counter, ports C to I, RAM (96), cycle number (8).
+//! A value is 133 bytes: PC (2), stack (6), Acc, C, C', DPH, DPL, INT, INTE, TM, level, mark, owed, register,
+//! counter, ports C to I, RAM (96), cycle number (8), count of cycles with RES high.
 //!
 //! | letter | what |
 //! |---|---|
@@ -55,7 +57,7 @@
 //! | I | the buffer of images, likewise, up to 512 bytes |
 //! | Y | its byte at the place has the value |
 //! | A | a run of n cycles by the runner, on a log of this length from the place on; its state is the next one's |
-//! | W | a save to the first bytes of the buffer, as many as the length says |
+//! | W | a save, of version 1 where the place is 1, else of version 2, to the first bytes of the buffer, as many as the length says |
 //! | O | a restore of so many bytes of it; its state is the next one's |
 //! | L | a list begins, with a log of this length; U and E name it too |
 //!
@@ -67,7 +69,7 @@
 //! which a list doesn't go on from.
 
 use reference::case::{digest_from, state_bytes};
-use reference::{Runner, State};
+use reference::{Runner, State, Version};
 
 /// What becomes of a call.
 #[derive(Clone, Copy, PartialEq, Eq, Debug)]
@@ -213,6 +215,16 @@ impl Stream {
         });
     }
 
+    pub fn convert(&mut self, of: Of, version: u64, length: usize) {
+        self.put(Command {
+            letter: b'T',
+            value: of.value(),
+            length: u32::try_from(length).expect("a length has four bytes"),
+            n: version,
+            ..Command::default()
+        });
+    }
+
     pub fn remember_call(&mut self) {
         self.put_letter(b'U');
     }
@@ -245,10 +257,11 @@ impl Stream {
         });
     }
 
-    pub fn save(&mut self, of: Of, length: usize) {
+    pub fn save(&mut self, of: Of, version: Version, length: usize) {
         self.put(Command {
             letter: b'W',
             value: of.value(),
+            place: version.number(),
             length: u32::try_from(length).expect("a length has four bytes"),
             ..Command::default()
         });

@@ -338,7 +338,8 @@ fn before_the_records() -> Vec<Case> {
         damage(&mut carried);
         for (what, record) in [
             ("a sound record", (2_000, 5, 0)),
-            ("port 0", (2_000, 0, 0)),
+            ("port 1", (2_000, 1, 0)),
+            ("a reset", (2_000, 0, 0)),
             ("16", (2_000, 5, 16)),
             ("a cycle that falls", (3, 5, 0)),
         ] {

@@ -135,7 +135,7 @@ fn damaged_log(draw: &mut Draw, from: u64) -> (Vec<u8>, Ground) {
     let (cycle, port, value) = &mut records[place];
     let ground = match draw.below(4) {
         0 => {
-            *port = draw.of(&[0, 1, 9, 16, 21, 255]);
+            *port = draw.of(&[10, 1, 9, 16, 21, 255]);
             *value &= 7;
             Ground::Port
         }

@@ -1,6 +1,6 @@
 //! What is wrong with the cases: an answer that isn't due, and a kind that is wanting.
 
-use reference::log::records;
+use reference::log::{records, RESET};
 use reference::waiting::{grounds, lamps_lit, Answer, Carried, Ground, LANDINGS, LARGEST};
 
 use crate::case::{Case, Due, Source};
@@ -61,7 +61,7 @@ fn waits(carried: &Carried, place: usize) -> i128 {
 type Kind = (&'static str, fn(&Case, &Carried, &Answer) -> bool);
 
 /// The kinds, besides each ground alone.
-const KINDS: [Kind; 11] = [
+const KINDS: [Kind; 14] = [
     ("accepted from an empty report", |case, _, answer| {
         case.from == Source::Empty && answer.number == 0
     }),
@@ -85,11 +85,11 @@ const KINDS: [Kind; 11] = [
         let mut landings = answer.carried.landings.iter();
         landings.any(|landing| landing.cycles > LARGEST)
     }),
-    ("a torn log with a port of 0", |case, _, _| {
-        case.due == Due::Alone(Ground::Length) && has_port_0(case)
+    ("a torn log with a port of 1", |case, _, _| {
+        case.due == Due::Alone(Ground::Length) && has_port_1(case)
     }),
-    ("lamps above 15 and a port of 0", |case, _, _| {
-        case.due == Due::Alone(Ground::Lamps) && has_port_0(case)
+    ("lamps above 15 and a port of 1", |case, _, _| {
+        case.due == Due::Alone(Ground::Lamps) && has_port_1(case)
     }),
     ("a wait of 0 cycles", |_, carried, answer| {
         let mut landings = answer.carried.landings.iter().zip(carried.landings);
@@ -99,10 +99,25 @@ const KINDS: [Kind; 11] = [
     ("four waits that are open", |_, _, answer| {
         answer.carried.lamps == 15
     }),
+    ("a reset that closes four waits", |case, carried, answer| {
+        let reset = records(&case.log)
+            .next()
+            .is_some_and(|record| record.port == RESET);
+        carried.lamps == 15 && reset && answer.number == 0
+    }),
+    ("a reset as the last record", |case, _, answer| {
+        let last = records(&case.log).last();
+        last.is_some_and(|record| record.port == RESET) && answer.number == 0
+    }),
+    ("1 on the port of a reset", |case, _, _| {
+        let mut records = records(&case.log);
+        let wrong = records.any(|record| (record.port, record.value) == (RESET, 1));
+        wrong && case.due == Due::Alone(Ground::Value)
+    }),
 ];
 
-fn has_port_0(case: &Case) -> bool {
-    records(&case.log).any(|record| record.port == 0)
+fn has_port_1(case: &Case) -> bool {
+    records(&case.log).any(|record| record.port == 1)
 }
 
 /// The kinds of which there is no case.

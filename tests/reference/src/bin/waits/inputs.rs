@@ -29,11 +29,12 @@ const FULL: usize = BUFFER / RECORD;
 /// The longest log.
 const LONG: usize = 200_000;
 
-pub const KINDS: [Kind<Input>; 6] = [
+pub const KINDS: [Kind<Input>; 7] = [
     ("short", short),
     ("samples", samples),
     ("torn", torn),
     ("wrong_records", wrong_records),
+    ("resets", resets),
     ("long", long),
     ("long_and_wrong", long_and_wrong),
 ];
@@ -144,12 +145,22 @@ fn torn() -> Vec<Input> {
 
 fn wrong_records() -> Vec<Input> {
     let mut inputs = Vec::new();
-    for port in [0, 1, 9, 255] {
+    for port in [1, 9, 255] {
         let name = format!("port {port}");
         let log = log(&[(3, 5, 1), (9, port, 1), (12, 5, 0)]);
         inputs.push(alone(name, log, Ground::Port));
     }
-    for (port, value) in [(2, 16), (5, 16), (5, 255), (7, 128), (8, 8), (8, 15)] {
+    for (port, value) in [
+        (0, 1),
+        (0, 15),
+        (0, 255),
+        (2, 16),
+        (5, 16),
+        (5, 255),
+        (7, 128),
+        (8, 8),
+        (8, 15),
+    ] {
         let name = format!("{value} on port {port}");
         let log = log(&[(3, 5, 1), (9, port, value), (12, 5, 0)]);
         inputs.push(alone(name, log, Ground::Value));
@@ -166,9 +177,34 @@ fn wrong_records() -> Vec<Input> {
             log(&[(9, 5, 1), (8, 9, 16), (12, 5, 0)]),
         )
     });
-    inputs.push(alone("8 zeros", vec![0; 8], Ground::Port));
-    inputs.push(alone("65,536 zeros", vec![0; BUFFER], Ground::Port));
+    inputs.push(alone("8 ones", vec![1; 8], Ground::Port));
+    inputs.push(alone("65,536 ones", vec![1; BUFFER], Ground::Port));
     inputs
+}
+
+/// Records of resets: also as many zeros as make some. In the long log a reset stands at and behind the end of
+/// each buffer, instead of the two records that darken the lamps.
+fn resets() -> Vec<Input> {
+    let mut log_of = long_log();
+    for place in [FULL - 1, 2 * FULL, 2 * FULL + 1, 3_000, LONG / RECORD - 1] {
+        log_of[place * RECORD + 6..place * RECORD + 8].fill(0);
+    }
+    vec![
+        input("8 zeros", vec![0; 8]),
+        input("65,536 zeros", vec![0; BUFFER]),
+        input("65,544 zeros", vec![0; BUFFER + 8]),
+        input("a reset of a lit lamp", log(&[(7, 5, 1), (20, 0, 0)])),
+        input(
+            "a reset, and lit again",
+            log(&[(7, 5, 5), (20, 0, 0), (20, 5, 4), (31, 5, 0)]),
+        ),
+        input(
+            "a reset of dark lamps",
+            log(&[(7, 5, 0), (20, 0, 0), (30, 0, 0)]),
+        ),
+        input("a long log with resets", log_of),
+        input("the log of sample reset", ports(&sample("reset.panel"))),
+    ]
 }
 
 /// 200,000 bytes. The last record of a full buffer lights all lamps, and the second one after it
@@ -249,7 +285,7 @@ fn long_and_wrong() -> Vec<Input> {
     let last = LONG / RECORD - 1;
     let mut inputs = Vec::new();
     for (place, byte, wrong, ground) in [
-        (0, 6, 0, Ground::Port),
+        (0, 6, 1, Ground::Port),
         (0, 7, 16, Ground::Value),
         (1, 0, 255, Ground::Cycle),
         (5_000, 6, 9, Ground::Port),
@@ -263,7 +299,7 @@ fn long_and_wrong() -> Vec<Input> {
         (2 * FULL, 3, 0, Ground::Cycle),
         (2 * FULL, 7, 16, Ground::Value),
         (last, 3, 0, Ground::Cycle),
-        (last, 6, 0, Ground::Port),
+        (last, 6, 1, Ground::Port),
     ] {
         let mut log = whole.clone();
         log[place * RECORD + byte] = wrong;
@@ -275,11 +311,11 @@ fn long_and_wrong() -> Vec<Input> {
     }
     // The same where the log ends with the first buffer, or 3 bytes after it.
     let mut log = whole[..BUFFER].to_vec();
-    log[6] = 0;
+    log[6] = 1;
     let torn = [&log[..], &[0, 0, 0]].concat();
-    inputs.push(alone("65,536 bytes, the first port 0", log, Ground::Port));
+    inputs.push(alone("65,536 bytes, the first port 1", log, Ground::Port));
     inputs.push(alone(
-        "65,539 bytes, the first port 0",
+        "65,539 bytes, the first port 1",
         torn,
         Ground::Length,
     ));

@@ -34,7 +34,7 @@ pub fn cases() -> Vec<Case> {
 
 /// The unbroken run's log; then the log of each slice, by both runners in turn, read on from the slice
 /// before. The last slice is of the cycles that are left.
-fn sliced(name: &str, from: Source, panel: &Lent, slices: &[u64]) -> Vec<Case> {
+pub fn sliced(name: &str, from: Source, panel: &Lent, slices: &[u64]) -> Vec<Case> {
     let log_of = |lent: Lent| {
         let (answer, mut log) = lent.with_room().run();
         assert!(!answer.refused && answer.number != LOG_FULL, "{name}");
@@ -222,7 +222,7 @@ fn roms() -> Vec<Case> {
     cases
 }
 
-fn tells_enough(log: &[u8]) -> bool {
+pub fn tells_enough(log: &[u8]) -> bool {
     let lit = lamps_lit(0, log);
     let others =
         (2..=8).filter(|&port| port != 5 && records(log).any(|record| record.port == port));

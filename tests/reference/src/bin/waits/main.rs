@@ -36,6 +36,7 @@ mod faults;
 mod inputs;
 mod machine;
 mod records;
+mod resets;
 mod splits;
 #[cfg(test)]
 mod tests;
@@ -55,12 +56,13 @@ use reference::waiting::{read_on, report_text, Answer, Carried, LANDINGS};
 const STDIN: usize = 450_000;
 const STDOUT: usize = 350_000;
 
-const KINDS: [Kind<Case>; 5] = [
+const KINDS: [Kind<Case>; 6] = [
     ("records", records::cases),
     ("splits", splits::cases),
     ("carried", carried::cases),
     ("machine", machine::cases),
     ("drawn", drawn::cases),
+    ("resets", resets::cases),
 ];
 
 fn all_cases() -> Vec<Case> {

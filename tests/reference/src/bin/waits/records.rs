@@ -122,10 +122,11 @@ fn by_hand() -> Vec<Case> {
 fn ports() -> Vec<Case> {
     let one = |port: u8| {
         let case = empty(format!("port {port}"), &[(1, port, 1)]);
-        if (2..=8).contains(&port) {
-            case
-        } else {
-            case.alone(Ground::Port)
+        match port {
+            2..=8 => case,
+            // The record of a reset, which has value 0.
+            0 => case.alone(Ground::Value),
+            _ => case.alone(Ground::Port),
         }
     };
     (0..=255).map(one).collect()
@@ -222,7 +223,7 @@ fn damaged() -> Vec<Case> {
         cases.push(empty(format!("record {place}: {what}"), &records).due(due));
     };
     for (place, (cycle, port, value)) in sound.into_iter().enumerate() {
-        for wrong in [0, 1, 9, 10, 13, 128, 255] {
+        for wrong in [1, 9, 10, 13, 128, 255] {
             let due = Due::Alone(Ground::Port);
             push(
                 place,
@@ -235,6 +236,13 @@ fn damaged() -> Vec<Case> {
             let due = Due::Alone(Ground::Value);
             push(place, format!("value {wrong}"), (cycle, port, wrong), due);
         }
+        push(place, String::from("a reset"), (cycle, 0, 0), Due::Accepted);
+        push(
+            place,
+            String::from("1 on port 0"),
+            (cycle, 0, 1),
+            Due::Alone(Ground::Value),
+        );
         push(
             place,
             String::from("8 on I"),
@@ -282,7 +290,7 @@ fn damaged() -> Vec<Case> {
         push(
             place,
             String::from("port and value"),
-            (cycle, 0, 200),
+            (cycle, 1, 200),
             Due::Refused(42),
         );
     }
@@ -293,7 +301,7 @@ fn damaged() -> Vec<Case> {
 fn lengths() -> Vec<Case> {
     let sound = log(&[(3, 5, 5), (3, 2, 5), (4, 5, 15), (9, 8, 7), (10, 5, 0)]);
     let mut first = sound.clone();
-    first[6] = 0;
+    first[6] = 1;
     let mut third = sound.clone();
     third[2 * RECORD + 7] = 16;
     let mut cases = Vec::new();
@@ -315,7 +323,7 @@ fn lengths() -> Vec<Case> {
             }
         };
         cases.push(of("a sound log", &sound, Due::Accepted));
-        cases.push(of("port 0 at first", &first, wrong(0, Ground::Port)));
+        cases.push(of("port 1 at first", &first, wrong(0, Ground::Port)));
         cases.push(of(
             "16 in the third record",
             &third,

@@ -36,7 +36,7 @@ pub fn cases() -> Vec<Case> {
 
 /// The joined log, and the record that it is refused for; then for each place its first part, and the
 /// rest read on from there. The rest of a refused part isn't read.
-fn at_every_record(
+pub fn at_every_record(
     name: &str,
     from: Source,
     log: &[u8],

@@ -41,7 +41,7 @@ fn a_kind_that_is_wanting_is_a_fault() {
         assert!(wanting.contains(&format!("no case of {ground:?} alone")));
     }
     // Without a case all are wanting.
-    assert_eq!(faults::wanting(&[], &[]).len(), 9 + 11);
+    assert_eq!(faults::wanting(&[], &[]).len(), 9 + 14);
     let mut inputs = inputs::all();
     inputs.retain(|input| input.due != Due::Alone(Ground::Value));
     assert_eq!(inputs::faults(&inputs), ["no input: Alone(Value)"]);

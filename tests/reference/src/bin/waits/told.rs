@@ -1,6 +1,6 @@
 //! A log told in full: what is carried, the records and the answer.
 
-use reference::log::{records, RECORD};
+use reference::log::{records, RECORD, RESET};
 use reference::waiting::{grounds, read_on, Carried};
 
 pub fn all(carried: &Carried, log: &[u8]) -> String {
@@ -38,6 +38,7 @@ fn told_log(log: &[u8]) -> String {
     let mut text = String::from("  cycle port value\n");
     for record in records(log) {
         let port = match record.port {
+            RESET => String::from("R"),
             port @ 2..=8 => char::from(b'A' + port).to_string(),
             port => port.to_string(),
         };

@@ -8,6 +8,7 @@ mod edges;
 mod keys;
 mod loads;
 mod refusals;
+mod resets;
 mod roms;
 mod starts;
 mod stops;
@@ -17,7 +18,7 @@ use reference::call::{call, REPORT};
 use reference::case::{digest, state_bytes, Case};
 use reference::codes::{always_skips, can_skip, is_none};
 use reference::kinds::{all_of, counts_of, Count, Kind};
-use reference::{run, save, Coverage, Runner};
+use reference::{run, save, Coverage, Runner, Version};
 
 use crate::stream::{pattern, Chain, Of, Stream};
 use crate::Item;
@@ -39,9 +40,9 @@ const KINDS: [Kind<Case>; 10] = [
     ("loads", loads::cases),
 ];
 
-/// Kinds that were added. The call of a case hangs on its place (`Call::of`), so they stand behind the others, on both runners, and
-/// change no line of theirs.
-const ADDED: [Kind<Case>; 1] = [("bounds", bounds::cases)];
+/// Kinds that were added. The call of a case hangs on its place (`Call::of`), so each stands behind the others, on both runners, and
+/// changes no line of theirs.
+const ADDED: [Kind<Case>; 2] = [("bounds", bounds::cases), ("resets", resets::cases)];
 
 fn on_both(mut cases: Vec<Case>) -> Vec<Case> {
     let skipping: Vec<Case> = cases.iter().map(Case::skipping).collect();
@@ -52,7 +53,9 @@ fn on_both(mut cases: Vec<Case>) -> Vec<Case> {
 /// Each case on both runners.
 pub fn all() -> Vec<Case> {
     let mut cases = on_both(all_of(&KINDS));
-    cases.extend(on_both(all_of(&ADDED)));
+    for (_, make) in ADDED {
+        cases.extend(on_both(make()));
+    }
     cases
 }
 
@@ -203,9 +206,9 @@ pub struct Call {
 
 impl Call {
     pub fn of(place: usize, case: Case) -> Option<Call> {
-        let mut image = vec![0; 81];
+        let mut image = vec![0; Version::Two.length()];
         let lent = case.lent();
-        if save(&lent.state, &mut image) != 0 {
+        if save(Version::Two, &lent.state, &mut image) != 0 {
             return None;
         }
         let runner = match lent.runner {

@@ -73,7 +73,7 @@ fn records() -> Vec<Case> {
         schedule("four records", 0, &[]),
         schedule("INT 2 in the first", 13, &[(8, 2)]),
         schedule("INT 255 in the last", 13, &[(38, 255)]),
-        schedule("last byte 1 in the first", 13, &[(9, 1)]),
+        schedule("last byte 2 in the first", 13, &[(9, 2)]),
         schedule("last byte 255 in the last", 13, &[(39, 255)]),
         schedule("the first cycle again", 14, &[(15, 0)]),
         schedule("a cycle that falls", 14, &[(24, 0), (25, 4)]),

@@ -13,7 +13,7 @@ pub enum Refused {
     Rom,
     /// A schedule of 7 bytes: 11.
     Schedule,
-    /// A save to 80 bytes; of the board's call, a report of 31: 1.
+    /// A save to 81 bytes; of the board's call, a report of 31: 1.
     Buffer,
     /// An image of 80 bytes: 31.
     Length,
@@ -21,7 +21,7 @@ pub enum Refused {
     Cycles,
     /// An image that doesn't begin with `U43`: 32.
     Mark,
-    /// An image of version 2: 33.
+    /// An image of version 1 with 82 bytes: 33.
     Version,
     /// An image with an Acc of 16: 34.
     Field,
@@ -56,7 +56,7 @@ impl Refused {
     pub fn damage(self) -> Option<(usize, u8)> {
         match self {
             Refused::Mark => Some((0, b'V')),
-            Refused::Version => Some((4, 2)),
+            Refused::Version => Some((4, 1)),
             Refused::Field => Some((14, 16)),
             _ => None,
         }
@@ -75,6 +75,8 @@ pub struct Slice {
     pub runner: Runner,
     pub cycles: u64,
     pub refused: Option<Refused>,
+    /// Whether the image goes by way of version 1 to the next slice, where its count is 0; else that is refused.
+    pub old: bool,
 }
 
 fn runner(bit: u64) -> Runner {
@@ -95,11 +97,13 @@ pub fn cut(n: u64, k: u64) -> Vec<Slice> {
                 4 => [4, 6, 7, 8][k as usize / 6 % 4],
                 other => other,
             }),
+            old: k % 3 == 1,
         },
         Slice {
             runner: runner(k / 2 % 2),
             cycles: n - k,
             refused: None,
+            old: false,
         },
     ]
 }
@@ -133,6 +137,7 @@ fn one(n: u64, s: &mut u32) -> Vec<Slice> {
                 7 => 7 + x / 8 % 2,
                 other => other,
             }),
+            old: x / 64 % 2 == 1,
         });
     }
     slices

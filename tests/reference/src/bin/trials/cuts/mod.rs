@@ -4,16 +4,19 @@
 //! are made of the unbroken runs alone.
 //!
 //! In lists of the board's call the image is what is kept over a switch-off. In lists of runs a slice is a
-//! run, a save to 81 bytes and a restore of these; the runs write to one log of 8 N + 16 bytes.
+//! run, a save to 82 bytes and a restore of these; the runs write to one log of 16 N bytes. After some slices
+//! version 1 is wanted: of the board's call the image is converted to that and back, of runs it is saved and
+//! restored as that. Where the count isn't 0, that is one more refused call, 54, and the image is of version 2.
 //!
 //! The cut at k: a slice of k cycles by runner k % 2 (0 plain, 1 timer-skipping) with a refused call where k
-//! isn't a multiple of 6, then a slice of N - k cycles by runner k / 2 % 2 with none.
+//! isn't a multiple of 6, and version 1 wanted where k % 3 is 1; then a slice of N - k cycles by runner k / 2 % 2
+//! with neither.
 //!
 //! A drawn list: each number is the next one of the comparison's generator, which starts at the seed
 //! and goes on from list to list. x is the top eight bits of a number and w its top sixteen. One
 //! number says how many slices there are, m = 1 + x % 20. For each slice, one number gives the runner
-//! x / 128 and the refused call x % 8, none for 0, and one its cycles, w % (2 N / m + 1), but no more than are
-//! left; the last slice takes what is left.
+//! x / 128, whether version 1 is wanted, x / 64 % 2, and the refused call x % 8, none for 0, and one its cycles,
+//! w % (2 N / m + 1), but no more than are left; the last slice takes what is left.
 
 mod list;
 mod roms;
@@ -24,18 +27,22 @@ use reference::call::{call, REPORT};
 use reference::case::{digest, state_bytes, Case};
 use reference::kinds::{counts_of, Count};
 use reference::lent::Lent;
-use reference::{save, Runner, State};
+use reference::{run, save, Runner, State, Version};
 
 use crate::cases::call_line;
 use crate::stream::{pattern, Of, PanelLine, Stream};
 use crate::Item;
 use list::{Refused, Slice};
 
-/// Bytes of an image.
-const IMAGE: usize = 81;
+/// Bytes of an image of each version.
+const IMAGE: usize = 82;
+const OLD: usize = 81;
 
-/// The longest run whose log of 8 n + 8 bytes a reader has.
-const LONGEST: u64 = 8_191;
+/// The longest run whose log of 16 n bytes a reader has.
+const LONGEST: u64 = 4_096;
+
+/// "54, in a save between 34 and 1, a version 1 image wanted while the count isn't 0"
+const COUNT_LOST: u64 = 54;
 
 /// Drawn lists of a panel.
 const LISTS: u16 = 150;
@@ -76,12 +83,12 @@ pub fn all() -> Vec<Panel> {
 /// The log that a run of so many cycles is lent.
 pub fn lent_log(n: u64) -> Vec<u8> {
     assert!(n <= LONGEST);
-    pattern(8 * n as usize + 8)
+    pattern(16 * n as usize)
 }
 
 fn image_of(state: &State) -> Vec<u8> {
     let mut image = vec![0; IMAGE];
-    assert_eq!(save(state, &mut image), 0);
+    assert_eq!(save(Version::Two, state, &mut image), 0);
     image
 }
 
@@ -127,14 +134,51 @@ impl Panel {
         }
     }
 
+    /// The count after each number of cycles of the unbroken run; behind a stop, that of the stop.
+    pub fn counts(&self) -> Vec<u8> {
+        let lent = self.whole(Runner::Plain);
+        let mut state = lent.state;
+        let mut counts = vec![state.count];
+        for _ in 0..lent.n {
+            let mut log = [0; 16];
+            state = run(
+                Runner::Plain,
+                &lent.rom,
+                &lent.schedule,
+                &state,
+                &mut log,
+                1,
+            )
+            .state;
+            counts.push(state.count);
+        }
+        counts
+    }
+
+    /// The counts wherever version 1 is wanted, in all lists.
+    fn counts_at_old(&self) -> Vec<u8> {
+        let counts = self.counts();
+        let mut found = Vec::new();
+        for slices in self.cut_lists().iter().chain(&self.drawn_lists()) {
+            let mut done = 0;
+            for slice in slices {
+                done += slice.cycles as usize;
+                if slice.old {
+                    found.push(counts[done]);
+                }
+            }
+        }
+        found
+    }
+
     /// What is lent to all its runs.
     fn put_lent(&self, stream: &mut Stream) {
         stream.rom(&self.case.made_rom_bytes());
         stream.schedule(&self.case.made_schedule_bytes());
     }
 
-    /// The line of some lists, whose calls are so many.
-    fn line(&self, lists: &[Vec<Slice>], calls: usize, kept: u64, log: u64) -> String {
+    /// The line of some lists, whose calls are so many, so many of them refused because of a count.
+    fn line(&self, lists: &[Vec<Slice>], calls: Tally, kept: u64, log: u64) -> String {
         let (end, _) = self.unbroken(Runner::Plain);
         let refused = list::refused(lists);
         let numbers = refused.iter().map(|call| u64::from(call.number()));
@@ -146,12 +190,20 @@ impl Panel {
             kept,
             log,
             lists: lists.len(),
-            calls: calls as u64,
-            refused: refused.len() as u64,
-            numbers: numbers.sum(),
+            calls: calls.all,
+            refused: refused.len() as u64 + calls.lost,
+            numbers: numbers.sum::<u64>() + COUNT_LOST * calls.lost,
         }
         .text()
     }
+}
+
+/// How many calls lists have, and how many of them are refused because version 1 is wanted of an image with a
+/// count.
+#[derive(Clone, Copy, Default)]
+struct Tally {
+    all: u64,
+    lost: u64,
 }
 
 /// The panels that don't end with the number that they have to.
@@ -166,10 +218,15 @@ pub fn faults(panels: &[Panel]) -> Vec<String> {
     faults
 }
 
-/// How many panels there are of each kind, and of all panels the cuts, the drawn lists, their slices, and the refused calls of both.
+/// How many panels there are of each kind, and of all panels the cuts, the drawn lists, their slices, and of both the refused calls, the
+/// images that went by way of version 1 and those of which that was refused.
 pub fn counts() -> Vec<Count> {
-    let (mut cuts, mut drawn) = (Vec::new(), Vec::new());
+    let (mut cuts, mut drawn, mut old, mut lost) = (Vec::new(), Vec::new(), 0, 0);
     for panel in all() {
+        for wanted in panel.counts_at_old() {
+            old += usize::from(wanted == 0);
+            lost += usize::from(wanted != 0);
+        }
         cuts.extend(panel.cut_lists());
         drawn.extend(panel.drawn_lists());
     }
@@ -180,8 +237,10 @@ pub fn counts() -> Vec<Count> {
         ("slices", drawn.iter().flatten().count()),
         (
             "refused",
-            list::refused(&cuts).len() + list::refused(&drawn).len(),
+            list::refused(&cuts).len() + list::refused(&drawn).len() + lost,
         ),
+        ("old", old),
+        ("lost", lost),
     ] {
         counts.push((format!("lists/{name}"), count));
     }
@@ -259,15 +318,21 @@ impl Item for Calls {
         put_call(stream, Runner::Plain, panel.case.cycles());
         stream.remember_call();
         let lists = panel.lists(self.1);
-        let mut calls = 0;
+        let counts = panel.counts();
+        let mut calls = Tally::default();
         for slices in &lists {
             stream.image(&start);
+            let mut done = 0;
             for slice in slices {
                 put_call(stream, slice.runner, slice.cycles);
-                calls += 1;
+                done += slice.cycles as usize;
+                calls.all += 1;
                 if let Some(refused) = slice.refused {
                     put_refused_call(stream, panel, refused, slice.runner);
-                    calls += 1;
+                    calls.all += 1;
+                }
+                if slice.old {
+                    put_old_image(stream, counts[done], &mut calls);
                 }
             }
             stream.end_calls();
@@ -287,22 +352,37 @@ impl Item for Calls {
     }
 }
 
+/// The image by way of version 1, where its count allows it.
+fn put_old_image(stream: &mut Stream, count: u8, calls: &mut Tally) {
+    stream.convert(Of::List, 1, OLD);
+    calls.all += 1;
+    if count == 0 {
+        stream.convert(Of::List, 2, IMAGE);
+        calls.all += 1;
+    } else {
+        calls.lost += 1;
+    }
+}
+
 /// The lists, and the unbroken run in full.
 fn shown(panel: &Panel, lists: &[Vec<Slice>]) -> String {
-    let mut text = String::from("cycles, runner and refused call of each slice\n");
+    let mut text = String::from(
+        "cycles, runner and refused call of each slice, `old` where version 1 is wanted\n",
+    );
     for (place, slices) in lists.iter().enumerate() {
         text.push_str(&format!("list {place}:"));
         for Slice {
             cycles,
             runner,
             refused,
+            old,
         } in slices
         {
             text.push_str(&format!(" {cycles} {runner:?}"));
             if let Some(refused) = refused {
                 text.push_str(&format!(" {refused:?}"));
             }
-            text.push(';');
+            text.push_str(if *old { " old;" } else { ";" });
         }
         text.push('\n');
     }
@@ -330,7 +410,7 @@ fn put_refused_call(stream: &mut Stream, panel: &Panel, refused: Refused, runner
         }
         Refused::Buffer => call(stream, 9, REPORT - 1),
         Refused::Length => {
-            stream.image_length(IMAGE - 1);
+            stream.image_length(OLD - 1);
             call(stream, 9, REPORT);
             stream.image_length(IMAGE);
         }
@@ -356,7 +436,7 @@ impl Item for Runs {
     fn put(&self, stream: &mut Stream) -> String {
         let panel = &self.0;
         let n = panel.case.cycles();
-        let room = 8 * n as usize + 16;
+        let room = lent_log(n).len();
         panel.put_lent(stream);
         stream.value(&panel.case.start());
         stream.keep();
@@ -364,18 +444,20 @@ impl Item for Runs {
         stream.run(Of::List, n, Runner::Plain, room, 0);
         stream.remember_runs(room);
         let lists = panel.lists(self.1);
-        let mut calls = 0;
+        let counts = panel.counts();
+        let mut calls = Tally::default();
         for slices in &lists {
             stream.bring_back();
             stream.begin_runs(room);
+            let mut done = 0;
             for slice in slices {
                 stream.run(Of::List, slice.cycles, slice.runner, room, 0);
+                done += slice.cycles as usize;
+                calls.all += 1;
                 if let Some(refused) = slice.refused {
-                    calls += put_refused(stream, panel, refused, slice.runner, room);
+                    calls.all += put_refused(stream, panel, refused, slice.runner, room);
                 }
-                stream.save(Of::List, IMAGE);
-                stream.restore(Of::List, IMAGE);
-                calls += 3;
+                put_kept(stream, slice.old, counts[done], &mut calls);
             }
             stream.end_runs(room);
         }
@@ -392,6 +474,23 @@ impl Item for Runs {
     }
 }
 
+/// A save and a restore, of version 1 where that is wanted and the count allows it.
+fn put_kept(stream: &mut Stream, old: bool, count: u8, calls: &mut Tally) {
+    if old {
+        stream.save(Of::List, Version::One, OLD);
+        calls.all += 1;
+        if count == 0 {
+            stream.restore(Of::List, OLD);
+            calls.all += 1;
+            return;
+        }
+        calls.lost += 1;
+    }
+    stream.save(Of::List, Version::Two, IMAGE);
+    stream.restore(Of::List, IMAGE);
+    calls.all += 2;
+}
+
 /// How many calls it takes.
 fn put_refused(
     stream: &mut Stream,
@@ -399,7 +498,7 @@ fn put_refused(
     refused: Refused,
     runner: Runner,
     room: usize,
-) -> usize {
+) -> u64 {
     match refused {
         Refused::Rom => {
             stream.rom_length(1_999);
@@ -411,12 +510,12 @@ fn put_refused(
             stream.run(Of::List, 9, runner, room, 0);
             stream.schedule_length(panel.case.made_schedule_bytes().len());
         }
-        Refused::Buffer => stream.save(Of::List, IMAGE - 1),
-        Refused::Length => stream.restore(Of::List, IMAGE - 1),
+        Refused::Buffer => stream.save(Of::List, Version::Two, IMAGE - 1),
+        Refused::Length => stream.restore(Of::List, OLD - 1),
         Refused::Cycles => stream.run(Of::List, u64::MAX, runner, room, 0),
         Refused::Mark | Refused::Version | Refused::Field => {
             let (place, value) = refused.damage().expect("a byte is changed");
-            stream.save(Of::List, IMAGE);
+            stream.save(Of::List, Version::Two, IMAGE);
             stream.buffer_byte(place, value);
             stream.restore(Of::List, IMAGE);
             return 2;

@@ -1,6 +1,6 @@
 //! The panels that are cut: a program, its lines and the cycles of its unbroken run.
 
-use reference::case::{Case, FEW_JCP, FEW_JUMPS, INSIDE, NO_STOPS};
+use reference::case::{Case, LinesFrom, FEW_JCP, FEW_JUMPS, INSIDE, NO_STOPS};
 use reference::kinds::{all_of, Kind};
 
 /// A ROM on which a run goes on and comes round by many ways.
@@ -9,7 +9,7 @@ const LASTING: u8 = NO_STOPS | FEW_JCP | INSIDE | FEW_JUMPS;
 /// At 03C: INC Z, OE, EI, RT.
 const ANSWER: [u8; 7] = [0x4A, 0x0D, 0x00, 0x4A, 0x44, 0x31, 0x48];
 
-pub const KINDS: [Kind<Case>; 9] = [
+pub const KINDS: [Kind<Case>; 11] = [
     ("waits", waits),
     ("interrupts", interrupts),
     ("instructions", instructions),
@@ -19,6 +19,8 @@ pub const KINDS: [Kind<Case>; 9] = [
     ("marked_waits", marked_waits),
     ("read_back", || vec![read_back()]),
     ("load_strings", load_strings),
+    ("resets", resets),
+    ("reset_ends", reset_ends),
 ];
 
 pub fn panels() -> Vec<Case> {
@@ -40,7 +42,7 @@ fn waits() -> Vec<Case> {
                 (1_401, 0x56, 0x78, 0),
                 (2_800, 0, 0, 1),
             ])
-            .n(4_101)
+            .n(4_096)
             .ends(0),
         Case::new("waits with records close together")
             .rom(0, &[0x14, 0x84, 0x05, 0xC2, 0x40, 0x44, 0x1D, 0x00, 0xC0])
@@ -264,6 +266,138 @@ fn load_strings() -> Vec<Case> {
             .ends(0),
     ]
 }
+
+/// Pulses of RES of one to six cycles in turn, so many, one each so many cycles from the first on; INT is low in every third of them.
+fn pulses(first: u64, each: u64, count: u64) -> Vec<LinesFrom> {
+    let pulse = |k: u64| {
+        let (from, high) = (first + each * k, 1 + k % 6);
+        let int = u8::from(k % 3 != 2);
+        [(from, 0x5A, 0xC3, int, 1), (from + high, 0xA5, 0x3C, 1, 0)]
+    };
+    (0..count).flat_map(pulse).collect()
+}
+
+/// Pulses of RES that drift through every kind of cycle: some are resets and some too short for one. A count that is lost at a cut makes
+/// a reset come late or not at all, a count that is kept too long makes one out of two short pulses.
+fn resets() -> Vec<Case> {
+    vec![
+        Case::new("resets of interrupts, skips and OCD")
+            .rom(
+                0,
+                &[0x31, 0x1B, 0x04, 0x17, 0x33, 0x1E, 0x5A, 0x44, 0x15, 0x23],
+            )
+            .rom(
+                10,
+                &[
+                    0x15, 0x45, 0x95, 0x99, 0x0D, 0x00, 0x14, 0x80, 0x05, 0xC1, 0xC1,
+                ],
+            )
+            .rom(0x3C, &ANSWER)
+            .made_ram(5)
+            .lines(&pulses(3, 13, 110))
+            .n(1_500)
+            .ends(0),
+        // Landing lamps on port F follow line A, and resets darken them.
+        Case::new("resets of lit lamps")
+            .rom(0, &[0x85, 0x40, 0x0E, 0xC1])
+            .lines(&pulses(20, 37, 38))
+            .n(1_500)
+            .ends(0),
+        // STM 4, TTM, JCP 002, INM, OE, JCP 000; INM counts the waits, and a reset begins a new one.
+        Case::new("waits with resets")
+            .rom(0, &[0x14, 0x84, 0x05, 0xC2, 0x1D, 0x00, 0x44, 0xC0])
+            .lines(&pulses(150, 211, 9))
+            .n(2_000)
+            .ends(0),
+        // OCD for ever, cut short by a reset in its second cycle.
+        Case::new("OCD and resets")
+            .rom(0, &[0x1E, 0x5A, 0x1E, 0xC3, 0xC0])
+            .lines(&pulses(1, 9, 160))
+            .n(1_500)
+            .ends(0),
+        // High for 90 cycles and low for 60, other lines changing.
+        Case::new("held in reset now and then")
+            .rom(0, &[0x31, 0x40, 0x44, 0x82, 0x32, 0x44, 0xC1])
+            .rom(0x3C, &ANSWER)
+            .lines(&held())
+            .n(1_500)
+            .ends(0),
+        Case::new("any ROM with resets")
+            .made_rom(2_003, LASTING)
+            .made_ram(2_003)
+            .made_schedule(6_000, 101, 6, 0)
+            .resets(3)
+            .n(1_500)
+            .ends(0),
+        // STM 0, TTM, JCP 005, JCP 008, NOP, JCP 002, NOP, OE, JCP 000: pulses of one to three cycles as a rule, also where the timer ends.
+        Case::new("the timer's end and short pulses")
+            .rom(
+                0,
+                &[0x14, 0x80, 0x05, 0xC5, 0xC8, 0x00, 0xC2, 0x00, 0x44, 0xC0],
+            )
+            .made_schedule(12_000, 107, 2, 0)
+            .resets(4)
+            .n(1_500)
+            .ends(0),
+        Case::new("resets of few cycles")
+            .rom(0, &[0x31, 0x44, 0x0D, 0x00, 0xC1])
+            .rom(0x3C, &ANSWER)
+            .lines(&pulses(4, 11, 11))
+            .n(130)
+            .ends(0),
+    ]
+}
+
+fn held() -> Vec<LinesFrom> {
+    (0..150)
+        .map(|k| {
+            (
+                10 * k,
+                (k % 7) as u8,
+                0x21,
+                u8::from(k % 4 != 1),
+                u8::from(k % 15 < 9),
+            )
+        })
+        .collect()
+}
+
+/// Starts with a count, an end in reset, and stops while RES is high: their count stays.
+fn reset_ends() -> Vec<Case> {
+    vec![
+        Case::new("a count of 3 at the start, held at the end")
+            .rom(0, &[0x44, 0x0D, 0x00, 0xC0])
+            .with(|state| (state.pc, state.count, state.owed) = (0x300, 3, 2))
+            .lines(&[(0, 0, 0, 1, 1), (40, 0, 0, 1, 0), (900, 0, 0, 1, 1)])
+            .n(1_000)
+            .ends(0),
+        Case::new("a wait with a count of 4 at the start, RES low")
+            .rom(0, &[0x14, 0x84, 0x05, 0xC2, 0x44, 0xC0])
+            .with(|state| (state.pc, state.register, state.counter, state.count) = (2, 1, 4, 4))
+            .lines(&pulses(500, 3, 2))
+            .n(700)
+            .ends(0),
+        // 1C in the third cycle with RES high: the clock stands, and the count is 2.
+        Case::new("1C with RES high")
+            .rom(0, &[0x80, 0x1D, 0xC0, 0x81, 0x1D, 0xC0, 0x44, 0x1C])
+            .lines(&[
+                (100, 0, 0, 1, 1),
+                (110, 0, 0, 1, 0),
+                (ONE_C - 2, 0, 0, 1, 1),
+            ])
+            .n(1_200)
+            .ends(23),
+        Case::new("JMP above the ROM with RES high")
+            .rom(0, &[0x44, 0x0D, 0xC0, 0xA7, 0xD1])
+            .lines(&[(JUMPED - 1, 0, 0, 1, 1)])
+            .n(200)
+            .ends(22),
+    ]
+}
+
+/// The cycles in which these two stop.
+const ONE_C: u64 = 917;
+const JUMPED: u64 = 66;
 
 /// So many falls of INT, one each so many cycles; it is high again two cycles later.
 fn falls(each: u64, count: u64) -> Vec<(u64, u8, u8, u8)> {

@@ -2,7 +2,8 @@
 
 use std::collections::BTreeSet;
 
-use reference::{restore, run};
+use reference::call::convert;
+use reference::restore;
 
 use super::*;
 
@@ -28,8 +29,9 @@ impl Lent {
             Refused::Cycles => refused_run(2, runner, &self.rom, &self.schedule, state, u64::MAX),
             Refused::Buffer => {
                 let mut buffer = lent_log(9);
-                assert_eq!(save(state, &mut buffer), 1);
-                assert_eq!(buffer, lent_log(9));
+                buffer.truncate(IMAGE - 1);
+                assert_eq!(save(Version::Two, state, &mut buffer), 1);
+                assert_eq!(buffer, lent_log(9)[..IMAGE - 1]);
             }
             Refused::Length => assert_eq!(restore(&[0; 80]), (31, State::fresh())),
             Refused::Mark | Refused::Version | Refused::Field => {
@@ -43,7 +45,6 @@ impl Lent {
 
     fn run_list(&self, start: &State, slices: &[Slice]) -> End {
         let mut state = start.clone();
-        let mut image = [0; IMAGE];
         let mut joined = Vec::new();
         let (mut number, mut cycles, mut begun) = (0, 0, 0);
         for slice in slices {
@@ -73,8 +74,7 @@ impl Lent {
             if let Some(call) = slice.refused {
                 self.check_refused(call, slice.runner, &answer.state);
             }
-            assert_eq!(save(&answer.state, &mut image), 0);
-            let (restored, again) = restore(&image);
+            let (restored, again) = restore(&kept(slice, &answer.state));
             assert_eq!(restored, 0);
             state = again;
         }
@@ -86,6 +86,23 @@ impl Lent {
             state,
         }
     }
+}
+
+/// The image that is kept behind a slice, which is converted to version 1 and back alike.
+fn kept(slice: &Slice, state: &State) -> Vec<u8> {
+    let (two, mut one, mut again) = (image_of(state), vec![0; OLD], vec![0; IMAGE]);
+    if !slice.old {
+        return two;
+    }
+    let due = if state.count == 0 { 0 } else { 54 };
+    assert_eq!(convert(&two, &mut one, 1), due);
+    assert_eq!(save(Version::One, state, &mut one), due);
+    if due != 0 {
+        return two;
+    }
+    assert_eq!(convert(&one, &mut again, 2), 0);
+    assert_eq!(again, two);
+    one
 }
 
 fn refused_run(number: u8, runner: Runner, rom: &[u8], schedule: &[u8], state: &State, n: u64) {
@@ -183,6 +200,16 @@ fn cuts_fall_everywhere() {
     falls("level low", &|s| s.level == 0);
     falls("C and C' set", &|s| s.carry == 1 && s.saved == 1);
     falls("PC above 7CF", &|s| s.pc > 0x7CF);
+    for count in 1..=4 {
+        falls("a count", &|s| s.count == count);
+    }
+    falls("a count with cycles owed", &|s| s.count == 3 && s.owed > 0);
+    falls("a count with an interrupt to be accepted", &|s| {
+        s.count == 3 && s.int == 1 && s.inte == 1 && s.owed == 0 && matches!(s.mark, 0 | 3)
+    });
+    let last_step = |s: &&State| s.count > 0 && s.register == 32 && s.counter == 0;
+    assert!(states.iter().filter(last_step).count() >= 5);
+    falls("a count with a mark", &|s| s.count == 3 && s.mark > 0);
 }
 
 #[test]
@@ -295,6 +322,33 @@ fn a_mark_that_is_lost_shows_in_what_is_loaded() {
         assert!(held > 200, "{name}: {held} cuts");
         assert!(2 * seen > held, "{name}: {seen} of {held} cuts");
     }
+}
+
+#[test]
+fn a_count_that_is_lost_or_kept_shows_in_the_log() {
+    let panel = named("resets of interrupts, skips and OCD");
+    let Lent { rom, schedule } = Lent::of(&panel);
+    let n = panel.case.cycles();
+    let log_from = |state: &State, k: u64| {
+        let mut log = lent_log(n - k);
+        run(Runner::Plain, &rom, &schedule, state, &mut log, n - k);
+        log
+    };
+    let (mut lost, mut kept) = (0, 0);
+    for (state, k) in states(&panel).iter().zip(0..=n) {
+        let with = |count: u8| State {
+            count,
+            ..state.clone()
+        };
+        // A cut within a pulse that forgets it, and one that makes it out of nothing.
+        if (1..4).contains(&state.count) {
+            lost += u64::from(log_from(state, k) != log_from(&with(0), k));
+        }
+        if state.count == 0 {
+            kept += u64::from(log_from(state, k) != log_from(&with(3), k));
+        }
+    }
+    assert!(lost > 80 && kept > 80, "{lost} and {kept} cuts");
 }
 
 #[test]

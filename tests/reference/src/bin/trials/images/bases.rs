@@ -2,14 +2,15 @@
 //! that are none, and shapes of images.
 
 use reference::case::{highest, Case, INSIDE, NO_STOPS};
-use reference::{save, Coverage, State};
+use reference::{save, Coverage, State, Version};
 
-/// Bytes of an image.
-pub const IMAGE: usize = 81;
+/// Bytes of an image of version 2.
+pub const IMAGE: usize = 82;
 
-/// The places of a value: the RAM, and the cycle number behind it.
+/// The places of a value: the RAM, the cycle number behind it, and the count.
 pub const RAM: std::ops::Range<usize> = 28..124;
-pub const VALUE: usize = 132;
+pub const CYCLE: std::ops::Range<usize> = 124..132;
+pub const VALUE: usize = 133;
 
 /// A program that sets the timer, fills a row, writes ports, takes interrupts and calls.
 const PROGRAM: [u8; 32] = [
@@ -27,6 +28,15 @@ fn program() -> Case {
         .made_ram(43)
         .made_schedule(2_000, 546, 90, 5)
         .log(60_000)
+}
+
+/// The same program, reset every 100 cycles or so for six.
+fn program_with_resets() -> Case {
+    let pulses: Vec<_> = (0..400)
+        .flat_map(|k| [(50 + 100 * k, k % 2, 1), (56 + 100 * k, 1, 0)])
+        .map(|(cycle, int, res)| (cycle, 0x35, 0x0A, int as u8, res))
+        .collect();
+    program().lines(&pulses)
 }
 
 /// The state of the run at the first cycle from this one on where the condition holds.
@@ -50,9 +60,10 @@ fn above_the_rom() -> State {
     answer.state
 }
 
-/// The legal states, by name.
+/// The legal states, by name; those with a count behind the others.
 pub fn states() -> Vec<(&'static str, State)> {
     let run = program();
+    let resets = program_with_resets();
     vec![
         ("fresh", State::fresh()),
         (
@@ -71,7 +82,31 @@ pub fn states() -> Vec<(&'static str, State)> {
             "timer ended",
             first(&run, 200, |s| s.tm == 1 && s.register == 0),
         ),
+        (
+            "count 1, running timer",
+            first(&resets, 700, |s| s.count == 1 && s.register > 1),
+        ),
+        (
+            "count 2, level low",
+            first(&resets, 900, |s| s.count == 2 && s.level == 0),
+        ),
+        (
+            "count 3, owed cycles",
+            first(&resets, 1_100, |s| s.count == 3 && s.owed > 0),
+        ),
+        ("count 4, in reset", first(&resets, 1_300, |s| s.count == 4)),
     ]
+}
+
+/// How many of the states have a count of 0, at the front but for the highest.
+pub const UNCOUNTED: usize = 9;
+
+/// The same state with a count of 0, of which there is an image of version 1.
+pub fn uncounted(state: &State) -> State {
+    State {
+        count: 0,
+        ..state.clone()
+    }
 }
 
 /// States that are refused, by name: one field of this state above its width or rule. Its timer runs.
@@ -91,6 +126,7 @@ pub fn faulty_states(state: &State) -> Vec<(&'static str, State)> {
         ("port I 8", with(|s| s.ports[6] = 8)),
         ("last RAM word 16", with(|s| s.ram[95] = 16)),
         ("cycle number 2^48", with(|s| s.cycle = 1 << 48)),
+        ("count 5", with(|s| s.count = 5)),
         ("everything", {
             let mut all = state.clone();
             all.pc = 0xFFFF;
@@ -102,26 +138,30 @@ pub fn faulty_states(state: &State) -> Vec<(&'static str, State)> {
     ]
 }
 
-/// Bytes that are no images, by name; some have one byte other than the image of this state.
-pub fn others(state: &State) -> Vec<(&'static str, Vec<u8>)> {
-    let image = image(state);
+/// Bytes that are no images, by name; some have one byte other than the image of this state in a version.
+pub fn others(version: Version, state: &State) -> Vec<(&'static str, Vec<u8>)> {
+    let image = image_in(version, state);
     let with = |place: usize, value: u8| {
         let mut bytes = image.clone();
         bytes[place] = value;
         bytes
     };
     vec![
-        ("all 00", vec![0; IMAGE]),
-        ("all FF", vec![0xFF; IMAGE]),
+        ("all 00", vec![0; version.length()]),
+        ("all FF", vec![0xFF; version.length()]),
         ("mark U44", with(2, b'4')),
-        ("version 2", with(4, 2)),
+        ("the other version", with(4, 3 - image[4])),
         ("port I 8", with(26, 8)),
     ]
 }
 
 pub fn image(state: &State) -> Vec<u8> {
-    let mut image = vec![0; IMAGE];
-    assert_eq!(save(state, &mut image), 0);
+    image_in(Version::Two, state)
+}
+
+pub fn image_in(version: Version, state: &State) -> Vec<u8> {
+    let mut image = vec![0; version.length()];
+    assert_eq!(save(version, state, &mut image), 0);
     image
 }
 
@@ -146,16 +186,18 @@ pub fn state_of(value: &[u8]) -> State {
         counter: value[20],
         ports: [0; 7],
         ram: [0; 96],
-        cycle: value[RAM.end..VALUE]
+        cycle: value[CYCLE]
             .iter()
             .fold(0, |cycle, &byte| cycle << 8 | u64::from(byte)),
+        count: value[CYCLE.end],
     };
     state.ports.copy_from_slice(&value[21..RAM.start]);
     state.ram.copy_from_slice(&value[RAM]);
     state
 }
 
-/// For each byte of an image its lowest value and how many it can take, 0 for any.
+/// For each byte of an image its lowest value and how many it can take, 0 for any. One of version 1 has no
+/// use for the last.
 pub type Shape = [(u8, u8); IMAGE];
 
 /// Bytes that need not be an image.
@@ -172,17 +214,17 @@ pub fn marked() -> Shape {
     shape
 }
 
-/// The mark and version 1, then any bytes.
-pub fn versioned() -> Shape {
+/// The mark and the version, then any bytes.
+pub fn versioned(version: Version) -> Shape {
     let mut shape = marked();
     shape[3] = (0, 1);
-    shape[4] = (1, 1);
+    shape[4] = (version.number() as u8, 1);
     shape
 }
 
-/// The mark and version 1, then every byte within its width; so many values more.
-pub fn narrow(more: u8) -> Shape {
-    let mut shape = versioned();
+/// The mark and the version, then every byte within its width; so many values more.
+pub fn narrow(version: Version, more: u8) -> Shape {
+    let mut shape = versioned(version);
     let mut count = |place: usize, count: u8| shape[place] = (0, count + more);
     for place in [5, 7, 9, 11, 26] {
         count(place, 8);
@@ -196,13 +238,15 @@ pub fn narrow(more: u8) -> Shape {
         count(place, 64);
     }
     count(13, 128);
+    count(81, 5);
     shape
 }
 
 /// Close to an image in every byte: the mark, the version and the fields are one off at times.
-pub fn near() -> Shape {
-    let mut shape = narrow(1);
-    for (byte, lowest) in shape.iter_mut().zip(*b"U43\0\0") {
+pub fn near(version: Version) -> Shape {
+    let mut shape = narrow(version, 1);
+    let below = version.number() as u8 - 1;
+    for (byte, lowest) in shape.iter_mut().zip([b'U', b'4', b'3', 0, below]) {
         *byte = (lowest, 2);
     }
     shape

@@ -1,12 +1,11 @@
 //! One group of trials: its variants, and what they give.
 
 use reference::case::{next, top};
-use reference::{restore, save, State};
+use reference::{restore, save, State, Version};
 
-use super::bases::{state_of, Shape, IMAGE};
+use super::bases::{state_of, Shape};
 
-/// Buffers of a save of a value.
-const SHORT: usize = 80;
+/// The long buffer of a save of a value; the short one lacks a byte.
 const LONG: usize = 90;
 
 /// The bytes that variants are made of: an image, a value.
@@ -30,14 +29,15 @@ pub enum Trial {
         lengths: u8,
         seed: u32,
     },
-    /// Bytes of a state as a value at all their values, saved to a short buffer and to a long one.
+    /// Bytes of a state as a value at all their values, saved to a short buffer and to a long one, in both
+    /// versions.
     Value {
         state: Base,
         place: usize,
         count: usize,
     },
-    /// A state saved to buffers of each length from 0 to 200.
-    Buffer { state: Base },
+    /// A state saved in a version to buffers of each length from 0 to 200.
+    Buffer { state: Base, version: Version },
 }
 
 /// A trial with the numbers that its tries have to be answered by, no more and no fewer; the place of its
@@ -54,7 +54,7 @@ pub struct Group {
 /// One try.
 pub enum Variant {
     Restore(Vec<u8>),
-    Save(State, usize),
+    Save(Version, State, usize),
 }
 
 /// What the tries of a group gave.
@@ -84,7 +84,7 @@ impl Group {
         for variant in self.trial.variants() {
             let (number, same) = match variant {
                 Variant::Restore(bytes) => tried_restore(&bytes),
-                Variant::Save(state, room) => tried_save(&state, room),
+                Variant::Save(version, state, room) => tried_save(version, &state, room),
             };
             tally.add(number, same);
         }
@@ -120,7 +120,7 @@ impl Trial {
                 .map(|value| Variant::Restore(with(image, *place, &value.to_be_bytes())))
                 .collect(),
             Trial::Length { image, seed } => lengths(image, *seed),
-            Trial::Torn { first, rest } => (0..=IMAGE)
+            Trial::Torn { first, rest } => (0..=first.len())
                 .map(|place| Variant::Restore([&first[..place], &rest[place..]].concat()))
                 .collect(),
             Trial::Drawn {
@@ -135,8 +135,8 @@ impl Trial {
                 place,
                 count,
             } => values(state, *place, *count),
-            Trial::Buffer { state } => (0..=200)
-                .map(|room| Variant::Save(state_of(state), room))
+            Trial::Buffer { state, version } => (0..=200)
+                .map(|room| Variant::Save(*version, state_of(state), room))
                 .collect(),
         }
     }
@@ -189,25 +189,33 @@ fn values(state: &[u8], place: usize, count: usize) -> Vec<Variant> {
     for place in place..place + count {
         for value in 0..=255 {
             let state = state_of(&with(state, place, &[value]));
-            variants.push(Variant::Save(state.clone(), SHORT));
-            variants.push(Variant::Save(state, LONG));
+            for version in Version::BOTH {
+                for room in [version.length() - 1, LONG] {
+                    variants.push(Variant::Save(version, state.clone(), room));
+                }
+            }
         }
     }
     variants
 }
 
-/// Number, and whether a save of the state writes the same bytes.
+/// Number, and whether a save of the state in the image's version writes the same bytes.
 fn tried_restore(bytes: &[u8]) -> (u8, bool) {
     let (number, state) = restore(bytes);
-    let mut again = [0; IMAGE];
-    let same = number == 0 && save(&state, &mut again) == 0 && again == *bytes;
-    (number, same)
+    let version = Version::BOTH
+        .into_iter()
+        .find(|version| version.length() == bytes.len());
+    let saved_again = |version: Version| {
+        let mut again = vec![0; version.length()];
+        save(version, &state, &mut again) == 0 && again == *bytes
+    };
+    (number, number == 0 && version.is_some_and(saved_again))
 }
 
 /// Number, and whether a restore of its image answers the same state.
-fn tried_save(state: &State, room: usize) -> (u8, bool) {
+fn tried_save(version: Version, state: &State, room: usize) -> (u8, bool) {
     let mut buffer = vec![0; room];
-    let number = save(state, &mut buffer);
-    let same = number == 0 && restore(&buffer[..IMAGE]) == (0, state.clone());
+    let number = save(version, state, &mut buffer);
+    let same = number == 0 && restore(&buffer[..version.length()]) == (0, state.clone());
     (number, same)
 }

@@ -8,31 +8,64 @@ mod tests;
 
 use std::collections::BTreeMap;
 
-use reference::call::{call, fresh, REPORT};
+use reference::call::{call, convert, fresh, REPORT};
 use reference::case::{state_bytes, Case, FEW_JCP, FEW_JUMPS, INSIDE, NO_STOPS};
 use reference::kinds::Count;
-use reference::{restore, save, State};
+use reference::{restore, save, State, Version};
 
 use crate::stream::{pattern, Chain, Of, Stream};
 use crate::Item;
-use bases::{Shape, IMAGE, RAM, VALUE};
+use bases::{Shape, CYCLE, IMAGE, RAM, UNCOUNTED, VALUE};
 pub use group::Group;
 use group::{Tally, Trial, Variant};
 
 /// A row of the RAM.
 const ROW: usize = 16;
 
+/// A state with its name.
+type Named = (&'static str, State);
+
 pub fn all() -> Vec<Group> {
     let states = bases::states();
     let mut groups = bytes(&states);
     groups.extend(pairs(&states));
-    groups.extend(lengths(&states));
-    groups.extend(torn(&states));
-    groups.extend(torn_with_others(&states));
-    groups.extend(drawn());
-    groups.extend(values(&states[..3]));
+    for version in [Version::Two, Version::One] {
+        let states = states_in(version, &states);
+        groups.extend(lengths(version, &states));
+        groups.extend(torn(version, &states));
+        groups.extend(torn_with_others(version, &states));
+        groups.extend(drawn(version));
+    }
+    groups.extend(torn_between_versions(&states));
+    groups.extend(values(&value_states(&states)));
     groups.extend(buffers(&states));
     groups
+}
+
+/// The states that have an image of this version: all; of version 1 the first three and that of mark LI, with a
+/// count of 0.
+fn states_in(version: Version, states: &[Named]) -> Vec<Named> {
+    match version {
+        Version::Two => states.to_vec(),
+        Version::One => [0, 1, 2, 6]
+            .map(|base| (states[base].0, bases::uncounted(&states[base].1)))
+            .to_vec(),
+    }
+}
+
+/// The states whose bytes are tried as values: the first three with a count of 0, and one with a count of 3.
+fn value_states(states: &[Named]) -> Vec<Named> {
+    let mut bases = states_in(Version::One, states);
+    bases[3] = states[UNCOUNTED + 2].clone();
+    bases
+}
+
+/// What is put before the names of version 1's groups.
+fn prefix(version: Version) -> &'static str {
+    match version {
+        Version::One => "version 1, ",
+        Version::Two => "",
+    }
 }
 
 /// How many values a byte of an image can take in the fresh image, 256 where every one is taken.
@@ -41,7 +74,7 @@ fn width(place: usize) -> usize {
         0..=4 | 19 => 1,
         5 | 7 | 9 | 11 | 26 => 8,
         14 | 20..=25 => 16,
-        16 => 5,
+        16 | 81 => 5,
         17 => 4,
         15 | 18 => 64,
         13 => 128,
@@ -66,43 +99,55 @@ fn byte_numbers(place: usize) -> Vec<u8> {
     }
 }
 
-fn bytes(states: &[(&str, State)]) -> Vec<Group> {
+/// Every byte at every value: of version 2 in the states without a count, the highest and one with a count of
+/// 3; of version 1 in its own.
+fn bytes(states: &[Named]) -> Vec<Group> {
     let mut groups = Vec::new();
-    for (base, (name, state)) in states.iter().enumerate() {
-        for place in 0..IMAGE {
-            groups.push(Group {
-                name: format!("{name}: byte {place}"),
-                trial: Trial::Byte {
-                    image: bases::image(state),
-                    place,
-                },
-                base: base as u8,
-                at: place as u8,
-                numbers: byte_numbers(place),
-            });
+    for version in [Version::Two, Version::One] {
+        let mut states = states_in(version, states);
+        if version == Version::Two {
+            states.swap(UNCOUNTED, UNCOUNTED + 2);
+            states.truncate(UNCOUNTED + 1);
+        }
+        for (base, (name, state)) in states.iter().enumerate() {
+            for place in 0..version.length() {
+                groups.push(Group {
+                    name: format!("{}{name}: byte {place}", prefix(version)),
+                    trial: Trial::Byte {
+                        image: bases::image_in(version, state),
+                        place,
+                    },
+                    base: base as u8,
+                    at: place as u8,
+                    numbers: byte_numbers(place),
+                });
+            }
         }
     }
     groups
 }
 
-/// Mark, version, PC and stack, flags with mark, register with counter, ports H and I.
-fn pairs(states: &[(&str, State)]) -> Vec<Group> {
+/// Mark, version, PC and stack, flags with mark, register with counter, ports H and I, the cycle number's last
+/// byte with the count. Of version 1 the version.
+fn pairs(states: &[Named]) -> Vec<Group> {
     let mut groups = Vec::new();
-    for (place, base) in [
-        (0, 1),
-        (3, 1),
-        (5, 1),
-        (11, 1),
-        (15, 1),
-        (18, 1),
-        (18, 0),
-        (25, 2),
+    for (version, place, base) in [
+        (Version::Two, 0, 1),
+        (Version::Two, 3, 1),
+        (Version::Two, 5, 1),
+        (Version::Two, 11, 1),
+        (Version::Two, 15, 1),
+        (Version::Two, 18, 1),
+        (Version::Two, 18, 0),
+        (Version::Two, 25, 2),
+        (Version::Two, 80, 2),
+        (Version::One, 3, 1),
     ] {
         let (name, state) = &states[base];
         groups.push(Group {
-            name: format!("{name}: bytes {place} and {}", place + 1),
+            name: format!("{}{name}: bytes {place} and {}", prefix(version), place + 1),
             trial: Trial::Pair {
-                image: bases::image(state),
+                image: bases::image_in(version, state),
                 place,
             },
             base: base as u8,
@@ -113,27 +158,48 @@ fn pairs(states: &[(&str, State)]) -> Vec<Group> {
     groups
 }
 
-/// 31 comes before all others.
-fn lengths(states: &[(&str, State)]) -> Vec<Group> {
-    let images = states
-        .iter()
-        .map(|(name, state)| (*name, bases::image(state), 0));
-    let others = bases::others(&states[1].1)
+/// 31 comes before all others. An image of one version that gets the length of the other is 33; with the
+/// other's number it is that, whose count is 0 or what the generator draws.
+fn lengths(version: Version, states: &[Named]) -> Vec<Group> {
+    let images = states.iter().map(|(name, state)| {
+        (
+            *name,
+            bases::image_in(version, state),
+            [vec![0, 33], vec![0, 33]],
+        )
+    });
+    let numbers: [[&[u8]; 2]; 5] = match version {
+        Version::Two => [
+            [&[32]; 2],
+            [&[32]; 2],
+            [&[32]; 2],
+            [&[0, 33]; 2],
+            [&[33, 34]; 2],
+        ],
+        Version::One => [
+            [&[32]; 2],
+            [&[32]; 2],
+            [&[32]; 2],
+            [&[0, 33], &[33, 34]],
+            [&[33, 34]; 2],
+        ],
+    };
+    let others = bases::others(version, &states[1].1)
         .into_iter()
-        .zip([32, 32, 32, 33, 34])
-        .map(|((name, bytes), number)| (name, bytes, number));
+        .zip(numbers)
+        .map(|((name, bytes), numbers)| (name, bytes, numbers.map(<[u8]>::to_vec)));
     let mut groups = Vec::new();
-    for (base, (name, image, number)) in images.chain(others).enumerate() {
-        for seed in [0, 1_000 + base as u32] {
+    for (base, (name, image, numbers)) in images.chain(others).enumerate() {
+        for (seed, numbers) in [0, 1_000 + base as u32].into_iter().zip(numbers) {
             groups.push(Group {
-                name: format!("{name}: every length, seed {seed}"),
+                name: format!("{}{name}: every length, seed {seed}", prefix(version)),
                 trial: Trial::Length {
                     image: image.clone(),
                     seed,
                 },
                 base: base as u8,
                 at: 0,
-                numbers: vec![number, 31],
+                numbers: [numbers, vec![31]].concat(),
             });
         }
     }
@@ -141,7 +207,7 @@ fn lengths(states: &[(&str, State)]) -> Vec<Group> {
 }
 
 /// Between register and counter a stopped timer can get a counter.
-fn torn(states: &[(&str, State)]) -> Vec<Group> {
+fn torn(version: Version, states: &[Named]) -> Vec<Group> {
     let mut groups = Vec::new();
     for (base, (name, state)) in states.iter().enumerate() {
         for (other, (rest_name, rest)) in states.iter().enumerate() {
@@ -153,10 +219,10 @@ fn torn(states: &[(&str, State)]) -> Vec<Group> {
                 numbers.push(34);
             }
             groups.push(Group {
-                name: format!("{name}, then {rest_name}"),
+                name: format!("{}{name}, then {rest_name}", prefix(version)),
                 trial: Trial::Torn {
-                    first: bases::image(state),
-                    rest: bases::image(rest),
+                    first: bases::image_in(version, state),
+                    rest: bases::image_in(version, rest),
                 },
                 base: base as u8,
                 at: other as u8,
@@ -168,7 +234,7 @@ fn torn(states: &[(&str, State)]) -> Vec<Group> {
 }
 
 /// An image over bytes that are none, and the other way round: the numbers of both.
-fn torn_with_others(states: &[(&str, State)]) -> Vec<Group> {
+fn torn_with_others(version: Version, states: &[Named]) -> Vec<Group> {
     let expected: [[&[u8]; 2]; 5] = [
         [&[0, 32, 33], &[0, 32]],
         [&[0, 32, 33, 34], &[0, 32]],
@@ -177,14 +243,16 @@ fn torn_with_others(states: &[(&str, State)]) -> Vec<Group> {
         [&[0, 34], &[0, 34]],
     ];
     let (_, state) = &states[1];
-    let image = bases::image(state);
+    let image = bases::image_in(version, state);
     let mut groups = Vec::new();
-    for (place, ((name, bytes), numbers)) in
-        bases::others(state).into_iter().zip(expected).enumerate()
+    for (place, ((name, bytes), numbers)) in bases::others(version, state)
+        .into_iter()
+        .zip(expected)
+        .enumerate()
     {
         let other = (states.len() + place) as u8;
         groups.push(Group {
-            name: format!("an image, then {name}"),
+            name: format!("{}an image, then {name}", prefix(version)),
             trial: Trial::Torn {
                 first: image.clone(),
                 rest: bytes.clone(),
@@ -194,7 +262,7 @@ fn torn_with_others(states: &[(&str, State)]) -> Vec<Group> {
             numbers: numbers[0].to_vec(),
         });
         groups.push(Group {
-            name: format!("{name}, then an image"),
+            name: format!("{}{name}, then an image", prefix(version)),
             trial: Trial::Torn {
                 first: bytes,
                 rest: image.clone(),
@@ -207,8 +275,52 @@ fn torn_with_others(states: &[(&str, State)]) -> Vec<Group> {
     groups
 }
 
-fn drawn() -> Vec<Group> {
-    let image = IMAGE as u8;
+/// An image of version 2 over one of version 1 with a byte behind it, and the other way round: the version goes
+/// with the length or not. The other way round at 81 bytes, where version 2 lacks its last.
+fn torn_between_versions(states: &[Named]) -> Vec<Group> {
+    let mut groups = Vec::new();
+    for (base, (name, state)) in states[..UNCOUNTED].iter().enumerate() {
+        let two = bases::image(state);
+        let one = bases::image_in(Version::One, &bases::uncounted(state));
+        let longer = [&one[..], &[0]].concat();
+        let shorter = two[..one.len()].to_vec();
+        for (name, first, rest) in [
+            (
+                format!("{name}: version 2, then 1"),
+                two.clone(),
+                longer.clone(),
+            ),
+            (format!("{name}: version 1, then 2"), longer, two),
+            (
+                format!("{name}: version 2 of 81 bytes, then 1"),
+                shorter.clone(),
+                one.clone(),
+            ),
+            (
+                format!("{name}: version 1, then 2 of 81 bytes"),
+                one,
+                shorter,
+            ),
+        ] {
+            groups.push(Group {
+                name,
+                trial: Trial::Torn { first, rest },
+                base: base as u8,
+                at: 0,
+                numbers: vec![0, 33],
+            });
+        }
+    }
+    groups
+}
+
+fn drawn(version: Version) -> Vec<Group> {
+    let image = version.length() as u8;
+    // Some 40 of any length have an image's; of version 2 one of these has a stopped timer with a counter.
+    let of_widths: &[u8] = match version {
+        Version::One => &[0, 31, 33],
+        Version::Two => &[0, 31, 33, 34],
+    };
     let parts: [(&str, Shape, u32, u8, u8, &[u8]); 12] = [
         ("any bytes", bases::any(), 2_000, image, 1, &[32]),
         (
@@ -221,54 +333,82 @@ fn drawn() -> Vec<Group> {
         ),
         ("sound mark", bases::marked(), 2_000, image, 1, &[33]),
         (
-            "sound mark, 79 to 83",
+            "sound mark, 79 to 84",
             bases::marked(),
             2_000,
             79,
-            5,
+            6,
             &[31, 33],
         ),
-        ("sound version", bases::versioned(), 4_000, image, 1, &[34]),
         (
-            "sound version, 79 to 83",
-            bases::versioned(),
+            "sound version",
+            bases::versioned(version),
+            4_000,
+            image,
+            1,
+            &[34],
+        ),
+        (
+            "sound version, 79 to 84",
+            bases::versioned(version),
             2_000,
             79,
-            5,
-            &[31, 34],
+            6,
+            &[31, 33, 34],
         ),
-        ("within widths", bases::narrow(0), 4_000, image, 1, &[0, 34]),
+        (
+            "within widths",
+            bases::narrow(version, 0),
+            4_000,
+            image,
+            1,
+            &[0, 34],
+        ),
         (
             "within widths, any length",
-            bases::narrow(0),
+            bases::narrow(version, 0),
             8_000,
             0,
             201,
-            &[0, 31],
+            of_widths,
         ),
-        ("one above", bases::narrow(1), 8_000, image, 1, &[0, 34]),
         (
-            "one above, 79 to 83",
-            bases::narrow(1),
+            "one above",
+            bases::narrow(version, 1),
+            8_000,
+            image,
+            1,
+            &[0, 34],
+        ),
+        (
+            "one above, 79 to 84",
+            bases::narrow(version, 1),
             4_000,
             79,
-            5,
-            &[0, 31, 34],
+            6,
+            &[0, 31, 33, 34],
         ),
-        ("close", bases::near(), 8_000, image, 1, &[0, 32, 33, 34]),
         (
-            "close, 79 to 83",
-            bases::near(),
+            "close",
+            bases::near(version),
+            8_000,
+            image,
+            1,
+            &[0, 32, 33, 34],
+        ),
+        (
+            "close, 79 to 84",
+            bases::near(version),
             16_000,
             79,
-            5,
+            6,
             &[0, 31, 32, 33, 34],
         ),
     ];
     let mut groups = Vec::new();
     for (base, (name, shape, tries, shortest, lengths, numbers)) in parts.into_iter().enumerate() {
         groups.push(Group {
-            name: format!("drawn: {name}"),
+            name: format!("{}drawn: {name}", prefix(version)),
             trial: Trial::Drawn {
                 shape,
                 tries,
@@ -284,14 +424,14 @@ fn drawn() -> Vec<Group> {
     groups
 }
 
-/// Whether some value of a byte of a state is refused: all but the lower bytes of the cycle number,
+/// Whether some value of a byte of a state is refused by 34: all but the lower bytes of the cycle number,
 /// of PC and of the stack words.
 fn has_width(place: usize) -> bool {
     !matches!(place, 126..=131 | 1 | 3 | 5 | 7)
 }
 
 /// Each byte of a state as a value; the RAM by rows.
-fn values(states: &[(&str, State)]) -> Vec<Group> {
+fn values(states: &[Named]) -> Vec<Group> {
     let mut groups = Vec::new();
     for (base, (name, state)) in states.iter().enumerate() {
         let singles = (0..RAM.start).chain(RAM.end..VALUE).map(|place| (place, 1));
@@ -300,6 +440,10 @@ fn values(states: &[(&str, State)]) -> Vec<Group> {
             let mut numbers = vec![0, 1];
             if has_width(place) {
                 numbers.push(34);
+            }
+            // "a version 1 image wanted while the count isn't 0"
+            if state.count > 0 || place == CYCLE.end {
+                numbers.push(54);
             }
             groups.push(Group {
                 name: format!("{name} as a value: {count} from {place} on"),
@@ -317,23 +461,31 @@ fn values(states: &[(&str, State)]) -> Vec<Group> {
     groups
 }
 
-/// 34 comes before 1.
-fn buffers(states: &[(&str, State)]) -> Vec<Group> {
-    let sound = states.iter().cloned().map(|base| (base, vec![0, 1]));
-    let faulty = bases::faulty_states(&states[1].1)
-        .into_iter()
-        .map(|base| (base, vec![34]));
+/// 34 comes before 54, and 54 before 1.
+fn buffers(states: &[Named]) -> Vec<Group> {
     let mut groups = Vec::new();
-    for (base, ((name, state), numbers)) in sound.chain(faulty).enumerate() {
-        groups.push(Group {
-            name: format!("{name}: every buffer"),
-            trial: Trial::Buffer {
-                state: state_bytes(&state),
-            },
-            base: base as u8,
-            at: 0,
-            numbers,
+    for version in [Version::Two, Version::One] {
+        let sound = states.iter().cloned().map(|(name, state)| {
+            let lost = version == Version::One && state.count > 0;
+            let numbers = if lost { vec![54] } else { vec![0, 1] };
+            ((name, state), numbers)
         });
+        let faulty = [1, UNCOUNTED + 2]
+            .into_iter()
+            .flat_map(|base| bases::faulty_states(&states[base].1))
+            .map(|base| (base, vec![34]));
+        for (base, ((name, state), numbers)) in sound.chain(faulty).enumerate() {
+            groups.push(Group {
+                name: format!("{}{name}: every buffer", prefix(version)),
+                trial: Trial::Buffer {
+                    state: state_bytes(&state),
+                    version,
+                },
+                base: base as u8,
+                at: 0,
+                numbers,
+            });
+        }
     }
     groups
 }
@@ -367,7 +519,10 @@ pub fn counts() -> Vec<Count> {
         *counts.entry(group.trial.word()).or_insert(0) += 1;
     }
     counts.insert("all", groups.len());
-    counts.insert("restores", groups.into_iter().filter_map(Calls::of).count());
+    let converts = groups.iter().cloned().filter_map(Converts::of);
+    counts.insert("converts", converts.count());
+    let restores = groups.into_iter().filter_map(Calls::of);
+    counts.insert("restores", restores.count());
     let named = counts.into_iter();
     named
         .map(|(word, count)| (format!("groups/{word}"), count))
@@ -409,10 +564,15 @@ fn rom() -> Vec<u8> {
 }
 
 impl Calls {
-    /// The group, where it is of restores.
+    /// The group, where it is of restores, but for every value of the bytes of a version 1 image, which a call
+    /// refuses by its length.
     pub fn of(group: Group) -> Option<Calls> {
-        let saves = matches!(group.trial, Trial::Value { .. } | Trial::Buffer { .. });
-        (!saves).then_some(Calls(group))
+        let wanted = match &group.trial {
+            Trial::Value { .. } | Trial::Buffer { .. } => false,
+            Trial::Byte { image, .. } | Trial::Pair { image, .. } => image.len() == IMAGE,
+            _ => true,
+        };
+        wanted.then_some(Calls(group))
     }
 }
 
@@ -490,6 +650,113 @@ impl Item for Calls {
     }
 }
 
+/// A group's restores as conversions of the bytes to each version.
+pub struct Converts(pub Group);
+
+impl Converts {
+    /// The group, where it is of restores; of every value of the bytes of a version 2 image two states do.
+    pub fn of(group: Group) -> Option<Converts> {
+        let wanted = match &group.trial {
+            Trial::Value { .. } | Trial::Buffer { .. } => false,
+            Trial::Byte { image, .. } if image.len() == IMAGE => {
+                matches!(usize::from(group.base), 1 | UNCOUNTED)
+            }
+            Trial::Pair { image, .. } => image.len() != IMAGE,
+            _ => true,
+        };
+        wanted.then_some(Converts(group))
+    }
+}
+
+/// One conversion of a group, to a buffer of so many bytes.
+fn chain_convert(
+    stream: &mut Stream,
+    chain: &mut Chain,
+    image: &[u8],
+    version: u64,
+    length: usize,
+) {
+    stream.convert(Of::Group, version, length);
+    let mut buffer = pattern(length);
+    let number = convert(image, &mut buffer, version);
+    chain.called(number);
+    chain.bytes(&buffer);
+}
+
+impl Item for Converts {
+    fn name(&self) -> String {
+        format!("{}, converted", self.0.name)
+    }
+
+    fn put(&self, stream: &mut Stream) -> String {
+        let mut chain = Chain::default();
+        let mut sent = Sent(None);
+        for variant in self.0.trial.variants() {
+            let Variant::Restore(image) = variant else {
+                continue;
+            };
+            match sent.changes(&image) {
+                Some(changes) => changes
+                    .into_iter()
+                    .for_each(|(place, byte)| stream.image_byte(place, byte)),
+                None => stream.image(&image),
+            }
+            for version in Version::BOTH {
+                let (number, length) = (u64::from(version.number()), version.length());
+                chain_convert(stream, &mut chain, &image, number, length);
+            }
+            sent.0 = Some(image);
+        }
+        stream.tell_group();
+        chain.line()
+    }
+
+    fn show(&self) -> String {
+        self.0.told()
+    }
+}
+
+/// Images of both versions converted to versions of every kind, into buffers of many lengths.
+pub struct Versions;
+
+impl Item for Versions {
+    fn name(&self) -> String {
+        String::from("conversions to every version and length")
+    }
+
+    fn put(&self, stream: &mut Stream) -> String {
+        let mut chain = Chain::default();
+        for (_, state) in bases::states() {
+            let one = bases::image_in(Version::One, &bases::uncounted(&state));
+            for image in [one, bases::image(&state)] {
+                stream.image(&image);
+                for version in [
+                    0,
+                    1,
+                    2,
+                    3,
+                    256,
+                    257,
+                    258,
+                    1 << 32 | 1,
+                    1 << 63 | 2,
+                    u64::MAX,
+                ] {
+                    for length in (0..4).chain(76..=100) {
+                        chain_convert(stream, &mut chain, &image, version, length);
+                    }
+                }
+            }
+        }
+        stream.tell_group();
+        chain.line()
+    }
+
+    fn show(&self) -> String {
+        String::from("each legal state's images of version 1, with a count of 0, and 2, converted to versions 0 to 3 and wider numbers\n")
+    }
+}
+
 /// Fresh images in buffers of every length, and calls with reports of every length.
 pub struct Lengths;
 
@@ -550,7 +817,7 @@ impl Item for Values {
                     chain_restore(stream, &mut chain, &bytes);
                     sent.0 = Some(bytes);
                 }
-                Variant::Save(state, room) => {
+                Variant::Save(version, state, room) => {
                     let value = state_bytes(&state);
                     match sent.changes(&value) {
                         Some(changes) => changes
@@ -559,12 +826,12 @@ impl Item for Values {
                         None => stream.value(&state),
                     }
                     let mut buffer = pattern(room);
-                    let number = save(&state, &mut buffer);
-                    stream.save(Of::Group, room);
+                    let number = save(version, &state, &mut buffer);
+                    stream.save(Of::Group, version, room);
                     chain.called(number);
                     chain.bytes(&buffer);
                     if number == 0 {
-                        chain_restore(stream, &mut chain, &buffer[..IMAGE]);
+                        chain_restore(stream, &mut chain, &buffer[..version.length()]);
                     }
                     sent.0 = Some(value);
                 }

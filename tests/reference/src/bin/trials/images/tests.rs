@@ -33,8 +33,8 @@ fn every_trial_is_for_its_numbers() {
         ("length", vec![0, 31, 32, 33, 34]),
         ("torn", vec![0, 32, 33, 34]),
         ("drawn", vec![0, 31, 32, 33, 34]),
-        ("value", vec![0, 1, 34]),
-        ("buffer", vec![0, 1, 34]),
+        ("value", vec![0, 1, 34, 54]),
+        ("buffer", vec![0, 1, 34, 54]),
     ] {
         let expected: BTreeSet<u8> = expected.into_iter().collect();
         assert_eq!(numbers.remove(word), Some(expected), "{word}");
@@ -90,9 +90,24 @@ fn the_states_are_what_they_are_called() {
     assert!(state("PC above 7CF").pc > 0x7CF);
     let ended = state("timer ended");
     assert_eq!((ended.tm, ended.register, ended.counter), (1, 0, 0));
+    assert!(states[..UNCOUNTED]
+        .iter()
+        .all(|(name, state)| state.count == 0 || *name == "highest"));
+    for (count, name) in (1..).zip([
+        "count 1, running timer",
+        "count 2, level low",
+        "count 3, owed cycles",
+        "count 4, in reset",
+    ]) {
+        assert_eq!(state(name).count, count);
+        assert_eq!(states[UNCOUNTED + usize::from(count) - 1].0, name);
+    }
+    let reset = state("count 4, in reset");
+    assert_eq!((reset.pc, reset.owed, reset.ports), (0, 0, [0; 7]));
+    assert!(reset.ram != [0; 96] && reset.stack != [0; 3]);
     let highest = bases::image(state("highest"));
-    assert!(highest[27..].iter().all(|&byte| byte == 0xFF));
-    for place in 5..27 {
+    assert!(highest[27..81].iter().all(|&byte| byte == 0xFF));
+    for place in (5..27).chain([81]) {
         let mut above = highest.clone();
         above[place] = above[place].wrapping_add(1);
         // The lower bytes of PC and stack come round to 0.
@@ -111,6 +126,12 @@ fn every_byte_of_an_image_is_taken_up_to_its_width() {
     for (place, group) in bytes(&states)[..IMAGE].iter().enumerate() {
         assert_eq!(group.tally().count(0) as usize, width(place), "{place}");
     }
+    // Of version 1 likewise, behind those of version 2.
+    let old: Vec<Group> = bytes(&states).split_off((UNCOUNTED + 1) * IMAGE);
+    assert_eq!(old.len(), 4 * 81);
+    for (place, group) in old[..81].iter().enumerate() {
+        assert_eq!(group.tally().count(0) as usize, width(place), "{place}");
+    }
 }
 
 /// How many values a byte of a state has; a RAM word, by its row.
@@ -125,24 +146,33 @@ fn legal(state: &State, place: usize) -> u32 {
         19 if state.counter > 0 => 63,
         20 if state.register == 0 => 1,
         19 | 20 => 64,
+        132 => 5,
         _ => 256,
     }
 }
 
 #[test]
 fn every_field_of_a_value_is_taken_up_to_its_width() {
-    let states = bases::states();
-    let groups = values(&states[..3]);
+    let states = value_states(&bases::states());
+    let groups = values(&states);
     for group in &groups {
         let tally = group.tally();
         let (_, state) = &states[usize::from(group.base)];
-        let legal = legal(state, usize::from(group.at));
-        assert_eq!(tally.count(0), legal, "{}", group.name);
-        // The short buffer is refused by 1 only where the state isn't refused by 34.
-        assert_eq!(tally.count(1), legal, "{}", group.name);
-        assert_eq!(tally.count(34), tally.tries - 2 * legal, "{}", group.name);
+        let place = usize::from(group.at);
+        let legal = legal(state, place);
+        // Values without a count, which version 1 holds.
+        let old = match (place, state.count) {
+            (132, _) => 1,
+            (_, 0) => legal,
+            _ => 0,
+        };
+        assert_eq!(tally.count(0), legal + old, "{}", group.name);
+        // The short buffer is refused by 1 only where the state isn't refused by 34 or 54.
+        assert_eq!(tally.count(1), legal + old, "{}", group.name);
+        assert_eq!(tally.count(54), 2 * (legal - old), "{}", group.name);
+        assert_eq!(tally.count(34), tally.tries - 4 * legal, "{}", group.name);
     }
-    assert_eq!(groups.len(), 3 * (36 + 6));
+    assert_eq!(groups.len(), 4 * (37 + 6));
 }
 
 #[test]
@@ -165,7 +195,7 @@ fn variants_are_what_they_are_called() {
         first: image.clone(),
         rest: rest.clone(),
     });
-    assert_eq!((torn.len(), &torn[0], &torn[81]), (82, &rest, &image));
+    assert_eq!((torn.len(), &torn[0], &torn[82]), (83, &rest, &image));
     assert_eq!(torn[40][..40], image[..40]);
     assert_eq!(torn[40][40..], rest[40..]);
     for (seed, zeros) in [(0, true), (7, false)] {
@@ -176,9 +206,9 @@ fn variants_are_what_they_are_called() {
         assert_eq!(lengths.len(), 201);
         for (length, bytes) in lengths.iter().enumerate() {
             assert_eq!(bytes.len(), length);
-            assert_eq!(bytes[..length.min(81)], image[..length.min(81)]);
+            assert_eq!(bytes[..length.min(82)], image[..length.min(82)]);
         }
-        assert_eq!(lengths[200][81..].iter().all(|&byte| byte == 0), zeros);
+        assert_eq!(lengths[200][82..].iter().all(|&byte| byte == 0), zeros);
     }
     let pairs = restores(&Trial::Pair {
         image: image.clone(),
@@ -192,7 +222,7 @@ fn variants_are_what_they_are_called() {
 
 #[test]
 fn lengths_are_drawn_all_over() {
-    let shape = bases::narrow(0);
+    let shape = bases::narrow(Version::Two, 0);
     let drawn = restores(&Trial::Drawn {
         shape,
         tries: 8_000,
@@ -205,7 +235,7 @@ fn lengths_are_drawn_all_over() {
     let different: BTreeSet<&Vec<u8>> = drawn.iter().filter(|bytes| bytes.len() > 9).collect();
     assert!(different.len() > 7_000);
     for bytes in drawn.iter().filter(|bytes| bytes.len() > 19) {
-        assert_eq!(bytes[..5], *b"U43\0\x01");
+        assert_eq!(bytes[..5], *b"U43\0\x02");
         assert!(bytes[5] < 8 && bytes[13] < 128 && bytes[19] < 64);
     }
 }
