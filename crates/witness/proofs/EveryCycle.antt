@@ -11,11 +11,11 @@ use Rattle.upd546.specs.TheMachine.{fresh}
 use Rattle.upd546.specs.Instructions as chip
 use Rattle.upd546.specs.StateImage.{stateNumber}
 use Rattle.laws.specs.Reading.{ReadsEither}
-use Rattle.laws.specs.Strings.{Stand, Passed}
-use Rattle.laws.specs.Interval.{StmDue, withoutStm}
+use Rattle.claims.specs.Strings.{Stand, Passed}
+use Rattle.claims.specs.Interval.{StmDue, withoutStm}
 use Rattle.laws.proofs.Reading.{c-and-d-read-back}
-use Rattle.laws.proofs.Strings.{marks-hold-back, load-strings-hold-together}
-use Rattle.laws.proofs.Interval.{tm-set-after-stm}
+use Rattle.claims.proofs.Strings.{marks-hold-back, load-strings-hold-together}
+use Rattle.claims.proofs.Interval.{tm-set-after-stm}
 use Rattle.laws.proofs.Sound.{accepted-valid, valid-accepted}
 use Rattle.laws.proofs.Cycle.{debt-small, cycle-keeps}
 use Rattle.laws.proofs.Stops.{begins-one}

@@ -27,8 +27,8 @@ use Rattle.upd546.specs.TwoRunners.{upd546, panelNumber, jumpLength}
 use Rattle.laws.specs.Timer.{timerLeft}
 use Rattle.laws.specs.Jump.{stateAfterJump}
 use Rattle.laws.specs.Valid.{Valid}
-use Rattle.laws.specs.Strings.{Stand}
-use Rattle.laws.specs.Interval.{StmDue, withoutStm}
+use Rattle.claims.specs.Strings.{Stand}
+use Rattle.claims.specs.Interval.{StmDue, withoutStm}
 
 -- R-2, `CAndDReadBack`: a bit of C or D is the greater of line and latch
 pub record OfEveryPort (l : Lines) (ports : List ℕ) : Type 0 where

@@ -1,5 +1,4 @@
-// Numbers on standard output, as the lines of the test programs have them. It may not know what a number means, nor which columns a
-// line has.
+// Numbers on standard output, as the lines of the test programs have them: not what a number means, nor which columns a line has.
 use libc::STDOUT_FILENO;
 
 // A number, and the bytes after it.
