@@ -54,18 +54,22 @@ pub(crate) fn convert(c: Command, s: Session, image: &mut [u8], space: &mut [u8]
 }
 
 fn converted(c: Command, s: Session, image: &mut [u8], buffer: &mut [u8]) -> Session {
-    test_stream::fill(buffer);
     let in_image = least(s.image, image.len());
-    let number = board::wharfnettle_convert(&image[..in_image], buffer, c.n);
+    let number = made_version(&image[..in_image], buffer, c.n);
     let t = test_stream::buffer_answered(c, s, number, buffer);
-    if (c.value == LIST) & (number == 0) {
-        return taken(t, image, buffer);
-    }
-    t
+    taken(t, image, buffer, (c.value == LIST) & (number == 0))
 }
 
-// What a list goes on from is the buffer.
-fn taken(s: Session, image: &mut [u8], buffer: &[u8]) -> Session {
+fn made_version(image: &[u8], buffer: &mut [u8], version: u64) -> u8 {
+    test_stream::fill(buffer);
+    board::wharfnettle_convert(image, buffer, version)
+}
+
+// A list goes on from the buffer.
+fn taken(s: Session, image: &mut [u8], buffer: &[u8], goes_on: bool) -> Session {
+    if !goes_on {
+        return s;
+    }
     let mut t = s;
     t.image = buffer.len();
     copy(image, buffer, 0);
