@@ -1,2 +1,3 @@
 pub mod Interval
 pub mod Strings
+pub mod Falls

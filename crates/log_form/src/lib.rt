@@ -4,3 +4,4 @@ pub use upd546::CYCLE_BYTES;
 pub use upd546::LOG_RECORD;
 pub use upd546::PORT_C;
 pub use upd546::PORT_I;
+pub use upd546::PORT_RESET;

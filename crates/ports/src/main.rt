@@ -14,8 +14,8 @@ const COUNT_LENGTH: usize = 4;
 
 const SCHEDULE_AT: usize = COUNT_LENGTH + ROM_LENGTH;
 
-// A slice of n cycles appends at most 8n + 8 bytes.
-const SLICE_CYCLES: u64 = 2047;
+// A slice of n cycles appends at most 16n bytes.
+const SLICE_CYCLES: u64 = 1024;
 
 const LOG_LENGTH: usize = 16384;
 

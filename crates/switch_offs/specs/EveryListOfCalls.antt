@@ -1,8 +1,9 @@
--- No switch-off loses or invents a wait: the report over lists of the board's call, for any machine. Assumes nothing: these are
+-- No switch-off and no reset loses or invents a wait: the report over lists of the board's call, for any machine. Assumes nothing: these are
 -- definitions.
 use Prim.Native.Nat.{ℕ, _+_, _≤_}
 use mathlib.Core.Path.{_≡_}
 use mathlib.Core.List.{List}
+use Rattle.runs.specs.declared.Version.the-variants.{Two}
 use Rattle.runs.specs.Machine.{Machine}
 use Rattle.runs.specs.Refusals.{cycleLimit}
 use Rattle.runs.specs.TwoRunners.{unbroken}
@@ -24,5 +25,5 @@ module _ {S : Type 0} (M : Machine S) where
   abbrev pub EveryListOfCallsReportsAsOneRun : Type 0
   EveryListOfCallsReportsAsOneRun =
       (rom sched : List ℕ) (s : S) (calls : List BoardCall) → Panel M rom sched → M .stateNumber s ≡ 0
-      → OnOneImage M rom sched (M .image s) (callsNotRefused M calls) → M .at s + callsAsk (callsNotRefused M calls) ≤ cycleLimit
+      → OnOneImage M rom sched (M .image Two s) (callsNotRefused M calls) → M .at s + callsAsk (callsNotRefused M calls) ≤ cycleLimit
       → CallsReportAsOneRun rom sched s (callsNotRefused M calls)

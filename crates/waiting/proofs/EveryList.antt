@@ -1,5 +1,5 @@
--- No switch-off loses or invents a wait: the logs of a list's runs, read one after the other, give the report of the unbroken run's
--- log. Of any machine, by what is promised of it. Assumes nothing.
+-- No switch-off and no reset loses or invents a wait: the logs of a list's runs, read one after the other, give the report of the
+-- unbroken run's log. Of any machine, by what is promised of it. Assumes nothing.
 use mathlib.Core.Path.{_≡_, _∙_, refl, sym, ap, subst}
 use mathlib.Core.Bool.{Bool, true, false, cond}
 use mathlib.Core.List.{List, [], _∷_, _++_}
@@ -7,23 +7,23 @@ use Prim.Native.Nat.{ℕ, suc, _+_, _/_, _%_, _<_, _≤_, _^_}
 use native.Mathlib.Omega.{arith}
 use lib.Dec.{eqb}
 use lib.ListN.{length, replicate, length-append, length-replicate}
-use borrow.Author.Tests.{le-leb, eqb-true}
+use borrow.Author.Tests.{le-leb, eqb-true, ne-eqb}
 use Rattle.runs.specs.Machine.{Machine}
 use Rattle.runs.specs.Refusals.{cycleLimit, firstOf}
 use Rattle.runs.specs.TwoRunners.{RunAnswer, logBound, unbroken}
 use Rattle.runs.specs.Laws.{Panel}
 use Rattle.runs.specs.EveryRun.{EveryRunCountsWithin}
 use Rattle.runs.specs.Lists.{AnswersAs, Call, run, save, restore, Each, plainOne, runAnswer, runLog, heldAfter, AllGet, notRefused, runs, joinedLog, asked, EveryListEndsAsOneRun}
-use Rattle.log_form.specs.Form.{Write, portI, logRecord}
+use Rattle.log_form.specs.Form.{Write, portC, portI, logRecord}
 use Rattle.log_form.specs.Form.{allOf}
-use Rattle.laws.specs.Writes.{ValidWrite}
+use Rattle.laws.specs.Writes.{Logged, write, reset}
 use Rattle.laws.specs.Records.{Records, empty, also, EveryRunWritesRecords}
 use Rattle.laws.proofs.Images.{cycle-back}
 use Rattle.laws.proofs.Records.{wider}
 use Rattle.waiting.specs.declared.Carried.{Carried}
 use Rattle.waiting.specs.declared.LogRecord.{LogRecord}
 use Rattle.waiting.specs.declared.Reading.{Reading}
-use Rattle.waiting.specs.WaitingTimes.{startOfDay, carriedAfter, recordHere, recordsIn, recordsOf, carriedAfterAll, latchMost, recordSound, logRecordNumber, logRecordsNumber, figureMost, waitingTimes}
+use Rattle.waiting.specs.WaitingTimes.{portReset, startOfDay, carriedAfter, recordHere, recordsIn, recordsOf, carriedAfterAll, portTaken, valueMost, recordSound, logRecordNumber, logRecordsNumber, figureMost, waitingTimes}
 use Rattle.waiting.specs.Growth.{CarriedGrown}
 use Rattle.waiting.specs.EveryList.{AllAccepted, carriedOn, logsOf, listLogs, EveryListReportsAsOneRun}
 use Rattle.waiting.proofs.Records.{count-records, carried-append}
@@ -61,12 +61,25 @@ module _ (end : ℕ) where
 
 -- A RUN'S RECORDS ARE IN ORDER
 
-write-sound : (first n : ℕ) (w : Write) {r : LogRecord} → first ≤ n → ValidWrite w → r .cycle .0 ≡ n → r .port ≡ w .port → r .value ≡ w .value
-    → recordSound first r ≡ true
+-- a record as it is written, behind one of an earlier cycle
+as-written : (first n : ℕ) (w : Write) {r : LogRecord} → first ≤ n → portTaken (w .port) ≡ true → w .value ≤ valueMost (w .port) → r .cycle .0 ≡ n
+    → r .port ≡ w .port → r .value ≡ w .value → recordSound first r ≡ true
 unfolding recordSound allOf
-write-sound first n w {r} h v e p q =
-    let value : r .value ≤ latchMost (r .port) = rw (p, q) (most (eqb (w .port) portI) refl) in
-    rw (le-leb 2 (r .port) (omega (arith, p, v .first)), le-leb (r .port) portI (omega (arith, p, v .last)), le-leb (r .value) (latchMost (r .port)) value, le-leb first (r .cycle .0) (omega (arith, e)))
+as-written first n w {r} h t v e p q =
+    let value : r .value ≤ valueMost (r .port) = rw (p, q) v in
+    let later : first ≤ r .cycle .0 = omega (arith, e) in
+    rw (p, t, ← p, le-leb (r .value) (valueMost (r .port)) value, le-leb first (r .cycle .0) later)
+
+-- an effective write, or a reset
+logged-taken : (w : Write) → Logged w → portTaken (w .port) ≡ true
+unfolding portTaken
+logged-taken w (reset p v) = rw p
+logged-taken w (write v) = rw (ne-eqb (w .port) portReset (λ e. omega (arith, v .first)), le-leb portC (w .port) (v .first), le-leb (w .port) portI (v .last))
+
+logged-value : (w : Write) → Logged w → w .value ≤ valueMost (w .port)
+unfolding valueMost
+logged-value w (reset p v) = rw (p, v) (omega arith)
+logged-value w (write v) = rw (ne-eqb (w .port) portReset (λ e. omega (arith, v .first))) (most (eqb (w .port) portI) refl)
   where
     most : (t : Bool) → eqb (w .port) portI ≡ t → w .value ≤ cond t 7 15
     most true e = omega (arith, v .narrow (eqb-true (w .port) portI e))
@@ -83,7 +96,7 @@ records-order {first} {end} (also {log = log} n w low high v r) h =
     let cycle : recordHere (logRecord n w ++ log) .cycle .0 ≡ n = cycle-back n (omega arith) in
     let rest : InOrder n end (recordsOf log) = records-order r h in
     subst (λ (k : ℕ). InOrder first end (recordsIn k (logRecord n w ++ log))) (sym count)
-    (write-sound first n w low v cycle refl refl, rw cycle high, subst (λ (m : ℕ). InOrder m end (recordsOf log)) (sym cycle) rest)
+    (as-written first n w low (logged-taken w v) (logged-value w v) cycle refl refl, rw cycle high, subst (λ (m : ℕ). InOrder m end (recordsOf log)) (sym cycle) rest)
 
 -- LOGS READ ONE AFTER THE OTHER
 
@@ -136,7 +149,7 @@ module _ {S : Type 0} (M : Machine S) (R : EveryRunWritesRecords M) (rom sched :
     records-whole (R kind rom′ sched′ s log n (rw (g .0 .same-rom) (p .rom-bytes)) (rw (g .0 .same-sched) (p .sched-bytes))),
     logs-whole (heldAfter M held (run kind rom′ sched′ s log n)) cs (g .1),
   )
-  logs-whole held (save s buffer ∷ cs) g = logs-whole held cs (g .1)
+  logs-whole held (save version s buffer ∷ cs) g = logs-whole held cs (g .1)
   logs-whole held (restore bytes ∷ cs) g = logs-whole (heldAfter M held (restore bytes)) cs (g .1)
 
 module _ {S : Type 0} (M : Machine S) (C : EveryRunCountsWithin M) (R : EveryRunWritesRecords M) (rom sched : List ℕ) (p : Panel M rom sched)

@@ -6,7 +6,7 @@ use Prim.Native.Nat.{ℕ, suc, _≤_}
 use native.Mathlib.Omega.{arith}
 use lib.Dec.{lit<, lit≤}
 use lib.ListN.{length, getD, take}
-use Rattle.runs.specs.TwoRunners.{logBound, RestoreAnswer, restoreAnswer}
+use Rattle.runs.specs.TwoRunners.{logBound, RestoreAnswer, currentAnswer}
 use Rattle.runs.specs.Lists.{Each}
 use Rattle.upd546.specs.declared.State.{State}
 use Rattle.upd546.specs.TheMachine.{fresh}
@@ -16,8 +16,8 @@ use Rattle.calls.specs.Call.{BoardCall, longEnough, imageRun, callAnswer}
 use Rattle.calls.specs.EveryCall.{refusedReport, callRefusal, callNumber, Refuses, Rewrites, TellsItsRun}
 use Rattle.calls.specs.Lists.{PanelLent, callsNotRefused, CallLent, OnOneImage, imageAfter, CallsEndAsOneRun}
 use Rattle.calls.proofs.Chip.{every-finish-or-stop-rewrites, every-call-tells-its-run, every-list-of-calls, every-list-on-one-image, every-accepted-image}
-use Rattle.witness.specs.Calls.{rom, wantedImage}
-use Rattle.witness.specs.Board.{first, second, shortReport, badRom, onOther, last, start, between, calls, carriedOut, reportedCalls, onOne, left, BoardFigures}
+use Rattle.witness.specs.Calls.{rom, sched, wantedImage}
+use Rattle.witness.specs.Board.{first, second, shortReport, badRom, onOther, onOld, last, start, between, calls, carriedOut, reportedCalls, onOne, left, BoardFigures}
 use Rattle.witness.proofs.Opened.{opened}
 use Rattle.witness.proofs.Calls.{panel, sound, a-stop}
 
@@ -27,51 +27,51 @@ unfolding opened imageRun callAnswer
 called = tt
 
 -- a call that is lent the panel
-on-panel : (c : BoardCall) → c .rom ≡ rom → c .sched ≡ [] → logBound (c .n) ≤ length (c .log) → PanelLent rom [] c
+on-panel : (c : BoardCall) → c .rom ≡ rom → c .sched ≡ sched → logBound (c .n) ≤ length (c .log) → PanelLent rom sched c
 on-panel c same-rom same-sched room = record { same-rom = same-rom; same-sched = same-sched; room = room }
 
-lent-first : CallLent upd546 rom [] start (first start)
+lent-first : CallLent upd546 rom sched start (first start)
 lent-first = record { same-image = refl; lent = λ e. on-panel (first start) refl refl (lit≤ tt) }
 
-lent-second : CallLent upd546 rom [] between (second between)
+lent-second : CallLent upd546 rom sched between (second between)
 lent-second = record { same-image = refl; lent = λ e. on-panel (second between) refl refl (lit≤ tt) }
 
-meant : OnOneImage upd546 rom [] start (callsNotRefused upd546 calls)
+meant : OnOneImage upd546 rom sched start (callsNotRefused upd546 calls)
 unfolding called
 meant = (lent-first, (lent-second, tt))
 
 -- THE POWER-OFF GUARANTEE, of this list
-one-run : CallsEndAsOneRun upd546 rom [] start fresh calls
-one-run = every-list-of-calls rom [] fresh calls panel sound meant
+one-run : CallsEndAsOneRun upd546 rom sched start fresh calls
+one-run = every-list-of-calls rom sched fresh calls panel sound meant
 
 -- of its first call alone, which finishes
-one-finish : CallsEndAsOneRun upd546 rom [] start fresh (first start ∷ [])
+one-finish : CallsEndAsOneRun upd546 rom sched start fresh (first start ∷ [])
 unfolding called
-one-finish = every-list-of-calls rom [] fresh (first start ∷ []) panel sound (lent-first, tt)
+one-finish = every-list-of-calls rom sched fresh (first start ∷ []) panel sound (lent-first, tt)
 
 -- of the calls whose reports have 32 bytes
-with-reports : CallsEndAsOneRun upd546 rom [] start fresh reportedCalls
+with-reports : CallsEndAsOneRun upd546 rom sched start fresh reportedCalls
 unfolding called
-with-reports = every-list-of-calls rom [] fresh reportedCalls panel sound (lent-first, (lent-second, tt))
+with-reports = every-list-of-calls rom sched fresh reportedCalls panel sound (lent-first, (lent-second, tt))
 
 -- a number that refuses
 a-number : {k : ℕ} → suc k ≡ 0 → ⊥
 a-number e = omega arith
 
 -- and of the calls on one image
-lent : OnOneImage upd546 rom [] start onOne
+lent : OnOneImage upd546 rom sched start onOne
 unfolding called
 lent =
-    let refused-one : CallLent upd546 rom [] between (shortReport between) = record { same-image = refl; lent = λ e. absurd (a-number e) } in
-    let refused-two : CallLent upd546 rom [] between (badRom between) = record { same-image = refl; lent = λ e. absurd (a-number e) } in
+    let refused-one : CallLent upd546 rom sched between (shortReport between) = record { same-image = refl; lent = λ e. absurd (a-number e) } in
+    let refused-two : CallLent upd546 rom sched between (badRom between) = record { same-image = refl; lent = λ e. absurd (a-number e) } in
     (lent-first, (refused-one, (refused-two, (lent-second, tt))))
 
-kept : OnOneImage upd546 rom [] start (callsNotRefused upd546 onOne) × (imageAfter upd546 start onOne ≡ imageAfter upd546 start (callsNotRefused upd546 onOne))
-kept = every-list-on-one-image rom [] start onOne lent
+kept : OnOneImage upd546 rom sched start (callsNotRefused upd546 onOne) × (imageAfter upd546 start onOne ≡ imageAfter upd546 start (callsNotRefused upd546 onOne))
+kept = every-list-on-one-image rom sched start onOne lent
 
-on-one-image : CallsEndAsOneRun upd546 rom [] start (restoreAnswer upd546 start .state) onOne
+on-one-image : CallsEndAsOneRun upd546 rom sched start (currentAnswer upd546 start .state) onOne
 unfolding called
-on-one-image = every-accepted-image rom [] start onOne (below-all 256 start (lit< tt) refl) panel refl (kept .0)
+on-one-image = every-accepted-image rom sched start onOne (below-all 256 start (lit< tt) refl) panel refl (kept .0)
 
 -- a call that was refused, as a whole
 whole : (k : ℕ) (c : BoardCall) → Refuses upd546 k c → callAnswer upd546 c ≡ left k c (refusedReport (longEnough c) (c .report))
@@ -116,14 +116,15 @@ figures =
       all-begun = nothing .begun ∙ with-reports .ends .begun;
       numbers = by-numbers calls (one-run .refusals);
       by-31 = whole 31 onOther (one-run .unchanged .1 .0);
-      by-1 = whole 1 (shortReport between) (one-run .unchanged .1 .1 .0);
-      by-21 = whole 21 (badRom between) (one-run .unchanged .1 .1 .1 .0);
+      by-31-old = whole 31 onOld (one-run .unchanged .1 .1 .0);
+      by-1 = whole 1 (shortReport between) (one-run .unchanged .1 .1 .1 .0);
+      by-21 = whole 21 (badRom between) (one-run .unchanged .1 .1 .1 .1 .0);
       next = one-run .goes-on (last wantedImage) (sym (one-run .ends .image)) (on-panel (last wantedImage) refl refl (lit≤ tt)) (lit≤ tt) (lit≤ tt);
       saved = rewrites .saved;
       owed-byte = ap (λ (bytes : List ℕ). getD bytes 17 0) (rewrites .image);
       owed-kept = ap (λ (r : RestoreAnswer State). r .state .core .owed) (rewrites .restores);
       second-end = tells-stop .end;
-      second-log = ap (take 8) (tells-stop .log);
+      second-log = ap (take 16) (tells-stop .log);
       second-cycles = tells-stop .cycles;
       second-begun = tells-stop .begun;
       second-written = tells-stop .written;

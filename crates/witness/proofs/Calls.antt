@@ -6,6 +6,7 @@ use Prim.Native.Nat.{ℕ, _≤_}
 use native.Mathlib.Omega.{arith}
 use lib.Dec.{lit<, lit≤}
 use lib.ListN.{length, replicate}
+use Rattle.runs.specs.declared.Version.the-variants.{One, Two}
 use Rattle.runs.specs.TwoRunners.{RunAnswer, stopped, logBound}
 use Rattle.runs.specs.Laws.{Panel}
 use Rattle.runs.specs.Lists.{Call, Each, refusal, documentNumber, WrittenBy, Lent, Meant, runs, StopsHave, RefusedByNumbers, EndsAsOneRun}
@@ -15,30 +16,31 @@ use Rattle.upd546.specs.StateImage.{stateNumber}
 use Rattle.upd546.specs.TwoRunners.{upd546}
 use Rattle.laws.proofs.Lists.{below-all}
 use Rattle.laws.proofs.Demand3.{every-list}
-use Rattle.witness.specs.Calls.{rom, cut, kept, calls, carriedOut, ListFigures}
+use Rattle.witness.specs.Calls.{rom, sched, cut, kept, high, keptHigh, calls, carriedOut, ListFigures}
 use Rattle.witness.proofs.Opened.{opened}
 
-pub panel : Panel upd546 rom []
+pub panel : Panel upd546 rom sched
 unfolding opened
-panel = record { rom-bytes = below-all 256 rom (lit< tt) refl; sched-bytes = λ i. lit< tt; not-refused = refl }
+panel = record { rom-bytes = below-all 256 rom (lit< tt) refl; sched-bytes = below-all 256 sched (lit< tt) refl; not-refused = refl }
 
 pub sound : stateNumber fresh ≡ 0
 unfolding opened
 sound = refl
 
 -- a run on the panel, from the state held
-lent : (held : State) (log : List ℕ) (n : ℕ) → logBound n ≤ length log → Lent upd546 rom [] held rom [] held log n
+lent : (held : State) (log : List ℕ) (n : ℕ) → logBound n ≤ length log → Lent upd546 rom sched held rom sched held log n
 lent held log n room = record { same-rom = refl; same-sched = refl; same-state = refl; room = room }
 
-meant : Meant upd546 rom [] fresh calls
+meant : Meant upd546 rom sched fresh calls
 unfolding opened
 meant =
-    let written : WrittenBy upd546 cut kept = record { buffer = replicate 90 9; done = refl; same = refl } in
-    (lent _ _ _ (lit≤ tt), (refl, (written, (lent _ _ _ (lit≤ tt), (lent _ _ _ (lit≤ tt), tt)))))
+    let one : WrittenBy upd546 cut kept = record { version = One; buffer = replicate 90 9; done = refl; same = refl } in
+    let two : WrittenBy upd546 high keptHigh = record { version = Two; buffer = replicate 82 9; done = refl; same = refl } in
+    (lent _ _ _ (lit≤ tt), (refl, (one, (lent _ _ _ (lit≤ tt), (refl, (two, (lent _ _ _ (lit≤ tt), (lent _ _ _ (lit≤ tt), tt))))))))
 
 -- DEMAND 3, of this list
-one-run : EndsAsOneRun upd546 rom [] fresh calls
-one-run = every-list rom [] fresh calls panel sound meant
+one-run : EndsAsOneRun upd546 rom sched fresh calls
+one-run = every-list rom sched fresh calls panel sound meant
 
 -- a stop is no finish
 pub a-stop : (k : ℕ) → some k ≡ none → ⊥
@@ -59,12 +61,13 @@ unfolding opened
 figures = record {
   pc = ap (λ (s : State). s .core .flow .pc) (one-run .ends .state);
   cycle = ap (λ (s : State). s .cycle .0) (one-run .ends .state);
-  image = one-run .ends .image (replicate 82 9);
+  image = one-run .ends .image Two (replicate 83 9);
+  image-one = one-run .ends .image One (replicate 82 9);
   counts = record { log = one-run .ends .log; cycles = one-run .ends .cycles; begun = one-run .ends .begun; clocks = one-run .ends .clocks };
   not-all-finish = λ all. a-stop 23 (one-run .ends .finish .0 all);
   each-stop = all-23 (runs upd546 carriedOut) (one-run .ends .stops);
   call = λ kind.
-      let one = one-run .call (lit≤ tt) kind (replicate 96 0) (lit≤ tt) in
+      let one = one-run .call (lit≤ tt) kind (replicate 224 0) (lit≤ tt) in
       record {
         end = one .end;
         pc = ap (λ (s : State). s .core .flow .pc) (one .state);
@@ -84,8 +87,10 @@ figures = record {
   by-11 = one-run .unchanged .1 .1 .0;
   by-1 = one-run .unchanged .1 .1 .1 .0;
   by-31 = one-run .unchanged .1 .1 .1 .1 .1 .0;
+  by-54 = one-run .unchanged .1 .1 .1 .1 .1 .1 .1 .1 .0;
   numbers = by-numbers calls (one-run .refusals);
-  next-run = λ kind log. one-run .goes-on .next-run kind log 281474976710644 (lit≤ tt);
-  next-save = one-run .goes-on .next-save (replicate 81 0) (lit≤ tt);
+  next-run = λ kind log. one-run .goes-on .next-run kind log 281474976710641 (lit≤ tt);
+  next-save = one-run .goes-on .next-save Two (replicate 82 0) refl (lit≤ tt);
+  next-save-one = one-run .goes-on .next-save One (replicate 81 0) refl (lit≤ tt);
   next-restore = one-run .goes-on .next-restore;
 }

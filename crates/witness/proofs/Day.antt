@@ -6,6 +6,7 @@ use native.Mathlib.Omega.{arith}
 use lib.ListN.{length, take, drop, length-drop}
 use lib.Seq.{take-all}
 use Rattle.runs.specs.declared.Outcome.{Outcome}
+use Rattle.runs.specs.declared.Version.the-variants.{Two}
 use Rattle.runs.specs.Numbers.{endOf}
 use Rattle.runs.specs.TwoRunners.{RunAnswer, SaveAnswer, RestoreAnswer, logBound, unbroken, saveAnswer, restoreAnswer}
 use Rattle.runs.specs.Laws.{Bytes, Panel}
@@ -26,13 +27,13 @@ use Rattle.witness.specs.Day.{buffer, imageIn, SliceOf, OneSlice, NoneRe
 
 -- ONE SLICE, where the run answers a: what driver, save and restore answer makes it up
 pub slice-of : (a : RunAnswer State) (log log′ : List ℕ) (at : ℕ) (report : Report) (machine : KeptMachine) (saved : Outcome) (bytes : List ℕ) (back : Restored)
-    → broughtTo report machine log′ ≡ keptBefore at log a → length bytes ≡ 81 → saveOf saved bytes ≡ saveAnswer upd546 (machine .state) buffer
+    → broughtTo report machine log′ ≡ keptBefore at log a → length bytes ≡ 82 → saveOf saved bytes ≡ saveAnswer upd546 Two (machine .state) buffer
     → restoreOf back ≡ restoreAnswer upd546 bytes → length log′ ≡ length log
     → SliceOf a log at (record { report = report; saved = saved; restored = back .outcome; state = back .state }) log′
 slice-of a log log′ at report machine saved bytes back ran len put got same =
     let state-is : machine .state ≡ a .state = ap (λ (x : RunAnswer State). x .state) ran in
-    let put′ : saveOf saved bytes ≡ saveAnswer upd546 (a .state) buffer = put ∙ ap (λ (t : State). saveAnswer upd546 t buffer) state-is in
-    let whole : bytes ≡ imageIn (a .state) = sym (take-all 81 bytes (omega (arith, len))) ∙ ap (λ (x : SaveAnswer). take 81 (x .buffer)) put′ in
+    let put′ : saveOf saved bytes ≡ saveAnswer upd546 Two (a .state) buffer = put ∙ ap (λ (t : State). saveAnswer upd546 Two t buffer) state-is in
+    let whole : bytes ≡ imageIn (a .state) = sym (take-all 82 bytes (omega (arith, len))) ∙ ap (λ (x : SaveAnswer). take 82 (x .buffer)) put′ in
     let got′ : restoreOf back ≡ restoreAnswer upd546 (imageIn (a .state)) = got ∙ ap (restoreAnswer upd546) whole in
     record {
       report = sym (ap (λ (t : State). broughtTo report (record { state = t }) log′) state-is) ∙ ran;
@@ -64,10 +65,10 @@ module _ (rom sched : List ℕ) (br : Bytes rom) (bs : Bytes sched) (s : State) 
   abbrev cs : List (Call State)
   cs =
       run plainOne rom sched s log n
-      ∷ save (a .state) buffer
+      ∷ save Two (a .state) buffer
       ∷ restore (imageIn (a .state))
       ∷ run skippingOne rom sched (r .state) rest m
-      ∷ save (b .state) buffer
+      ∷ save Two (b .state) buffer
       ∷ restore (imageIn (b .state))
       ∷ []
 
@@ -97,8 +98,8 @@ module _ (rom sched : List ℕ) (br : Bytes rom) (bs : Bytes sched) (s : State) 
       let lent₁ : Lent upd546 rom sched s rom sched s log n = record { same-rom = refl; same-sched = refl; same-state = refl; room = omega arith } in
       let lent₂ : Lent upd546 rom sched (restoreAnswer upd546 (imageIn (a .state)) .state) rom sched (r .state) rest m
       = record { same-rom = refl; same-sched = refl; same-state = one .state; room = left } in
-      let wrote₁ : WrittenBy upd546 (a .state) (imageIn (a .state)) = record { buffer = buffer; done = taken .1 .0; same = refl } in
-      let wrote₂ : WrittenBy upd546 (b .state) (imageIn (b .state)) = record { buffer = buffer; done = taken .1 .1 .1 .1 .0; same = refl } in
+      let wrote₁ : WrittenBy upd546 (a .state) (imageIn (a .state)) = record { version = Two; buffer = buffer; done = taken .1 .0; same = refl } in
+      let wrote₂ : WrittenBy upd546 (b .state) (imageIn (b .state)) = record { version = Two; buffer = buffer; done = taken .1 .1 .1 .1 .0; same = refl } in
       (lent₁, (refl, (wrote₁, (lent₂, (refl, (wrote₂, tt))))))
 
   -- THE THEOREM ABOUT LISTS, of the six calls

@@ -1,31 +1,40 @@
 -- The theorems about runs, images, lists and the board's call, each at variables. Assumes nothing.
-use mathlib.Core.Path.{_≡_, ap, subst}
+use mathlib.Core.Path.{_≡_, _∙_, refl, ap, subst}
 use mathlib.Core.Bool.{false}
-use mathlib.Core.List.{List}
-use Prim.Native.Nat.{ℕ, zero, suc}
+use mathlib.Core.List.{List, _++_}
+use Prim.Native.Nat.{ℕ, zero, suc, _≤_}
 use native.Mathlib.Omega.{arith}
-use lib.ListN.{length}
+use lib.ListN.{length, drop}
+use borrow.Author.Tests.{eq-eqb, ne-eqb}
+use Rattle.runs.specs.declared.Version.{Version}
+use Rattle.runs.specs.declared.Version.the-variants.{One, Two}
 use Rattle.runs.specs.Machine.{Machine}
 use Rattle.runs.specs.Numbers.{isStop}
-use Rattle.runs.specs.TwoRunners.{RunAnswer, refused, plain, skipping}
-use Rattle.runs.specs.Laws.{JumpLaws}
+use Rattle.runs.specs.TwoRunners.{RunAnswer, RestoreAnswer, refused, plain, skipping, saveAnswer, restoreAnswer}
+use Rattle.runs.specs.Laws.{Bytes, JumpLaws}
 use Rattle.runs.specs.EveryRun.{CountsWithin, NumberTells}
+use Rattle.runs.proofs.Calls.{version-refuses-before-the-buffer, current-long}
+use Rattle.runs.proofs.Versions.{refuses-in-order, forward-and-back, converted-forward-and-back, written-as-one-restores}
 use Rattle.runs.proofs.Skipping.{skipping-same}
 use Rattle.runs.proofs.EveryRun.{runs-sound, counts-within, numbers-tell}
 use Rattle.runs.proofs.Lists.{lists-end}
 use Rattle.runs.proofs.Slices.{slices-end}
+use Rattle.upd546.specs.declared.State.{State}
+use Rattle.upd546.specs.StateImage.{imageLength, versionOf, versionNumber}
 use Rattle.upd546.specs.TwoRunners.{upd546}
-use Rattle.laws.proofs.Images.{saved-restores, restored-saves, accepted-exactly}
+use Rattle.laws.proofs.Images.{version-by-length, saved-restores, restored-saves, accepted-exactly}
 use Rattle.laws.proofs.Records.{every-run-writes-records}
 use Rattle.laws.proofs.Demand3.{jump-laws, every-list, every-list-of-slices, every-run-keeps-the-state-sound, every-run-counts-within, every-runs-number-tells}
+use Rattle.laws.proofs.Demand3.{every-version-one-image-comes-back, every-conversion-comes-back, every-image-written-as-version-one-restores, every-conversion-refuses-in-order, every-version-refuses-before-the-buffer}
 use Rattle.driver.specs.declared.KeptMachine.{KeptMachine}
 use Rattle.driver.specs.declared.Report.{Report}
 use Rattle.driver.specs.Lending.{AsItWas}
 use Rattle.driver.proofs.Refused.{refused-as-it-was, numbered-as-it-was}
 use Rattle.calls.specs.Call.{BoardCall}
 use Rattle.calls.specs.EveryCall.{TellsItsRun}
+use Rattle.calls.specs.Lists.{CallsEndAsOneRun}
 use Rattle.calls.proofs.EveryCall.{refused-by-numbers, changes-nothing, call-rewrites, call-tells-run}
-use Rattle.calls.proofs.Lists.{calls-end, on-one-image}
+use Rattle.calls.proofs.Lists.{calls-end, accepted-end, on-one-image}
 use Rattle.calls.proofs.Chip.{every-call-is-refused-by-numbers, every-refusal-changes-nothing, every-finish-or-stop-rewrites, every-call-tells-its-run}
 use Rattle.calls.proofs.Chip.{every-list-of-calls, every-list-on-one-image, every-accepted-image}
 use Rattle.witness.specs.EveryCall.{withSteps, OfEveryRun, OfEveryRefusal, RunTold, CallFacts, OfAnyMachine, OfEveryLaw}
@@ -52,6 +61,27 @@ as-it-was : (r : Report) (m m′ : KeptMachine) (log log′ : List ℕ) → AsIt
 as-it-was r m m′ log log′ a =
     record { same-machine = a .machine-kept; same-log = a .log-kept; counts = omega (arith, a .no-cycles, a .no-clocks, a .none-begun, a .none-written, a .no-steps) }
 
+-- version 2 holds every state, and version 1 one whose count is 0
+two-holds : (s : State) → versionNumber Two s ≡ 0
+unfolding versionNumber
+two-holds s = refl
+
+one-holds : (s : State) → s .count ≡ 0 → versionNumber One s ≡ 0
+unfolding versionNumber
+one-holds s e = rw (eq-eqb (s .count) 0 e)
+
+one-lacks : (s : State) → (s .count ≡ 0 → ⊥) → versionNumber One s ≡ 54
+unfolding versionNumber
+one-lacks s h = rw (ne-eqb (s .count) 0 h)
+
+-- of an image of this version's length
+restored-as : (v : Version) (image buffer : List ℕ) → Bytes image → restoreAnswer upd546 image .number ≡ 0 → length image ≡ imageLength v → imageLength v ≤ length buffer
+    → saveAnswer upd546 v (restoreAnswer upd546 image .state) buffer ≡ record { number = 0; buffer = image ++ drop (imageLength v) buffer }
+restored-as v image buffer b e w l =
+    let same : versionOf image ≡ v = version-by-length v image w in
+    subst (λ (x : Version). imageLength x ≤ length buffer → saveAnswer upd546 x (restoreAnswer upd546 image .state) buffer ≡ record { number = 0; buffer = image ++ drop (imageLength x) buffer })
+    same (restored-saves image buffer b e) l
+
 run-told : (c : BoardCall) → TellsItsRun upd546 c → RunTold c
 run-told c t = record { end = t .end; log = t .log; cycles = t .cycles; begun = t .begun; written = t .written; steps = t .steps }
 
@@ -62,9 +92,16 @@ facts = record {
       run-facts log n _ (every-run-counts-within kind rom sched s log n) (every-runs-number-tells kind rom sched s log n);
   sound = every-run-keeps-the-state-sound;
   records = every-run-writes-records;
-  saved = saved-restores;
-  restored = restored-saves;
+  saved = λ s buffer v l. saved-restores Two s buffer v (two-holds s) l;
+  saved-one = λ s buffer v c l. saved-restores One s buffer v (one-holds s c) l;
+  restored = λ image buffer b e w l. restored-as Two image buffer b e w l;
+  restored-one = λ image buffer b e w l. restored-as One image buffer b e w l;
   accepted = accepted-exactly;
+  comes-back = every-version-one-image-comes-back;
+  converts-back = every-conversion-comes-back;
+  as-one = λ bytes buffer b e c l. every-image-written-as-version-one-restores bytes buffer b e (one-holds _ c) l;
+  converted-by = every-conversion-refuses-in-order;
+  by-54 = λ s buffer v c. every-version-refuses-before-the-buffer One s buffer 53 v (one-lacks s c);
   refused-run = λ kind rom sched m log n r m′ log′ e y end. as-it-was r m m′ log log′ (refused-as-it-was kind rom sched m log n r m′ log′ e y end);
   numbered-run = λ kind rom sched m log n r m′ log′ e k number.
       let a = numbered-as-it-was kind rom sched m log n r m′ log′ e k number in (a .0, as-it-was r m m′ log log′ (a .1));
@@ -74,7 +111,8 @@ facts = record {
         image = e .ends .image;
         call = e .call;
         next-run = e .goes-on .next-run;
-        next-save = e .goes-on .next-save;
+        next-save = λ buffer l. e .goes-on .next-save Two buffer (two-holds _) l;
+        next-save-one = λ buffer c l. e .goes-on .next-save One buffer (one-holds _ c) l;
         next-restore = e .goes-on .next-restore;
       };
   slices = every-list-of-slices;
@@ -88,7 +126,10 @@ facts = record {
       let e = every-list-of-calls rom sched s calls p v m in
       record { nothing = e .nothing; stops = e .ends .stops; next = e .goes-on };
   one-images = every-list-on-one-image;
-  accepted-images = every-accepted-image;
+  accepted-images = λ rom sched image calls b p w e h.
+      let long = current-long upd546 image w in
+      subst (λ (r : RestoreAnswer State). CallsEndAsOneRun upd546 rom sched image (r .state) calls) long
+      (every-accepted-image rom sched image calls b p (ap (λ (r : RestoreAnswer State). r .number) long ∙ e) h);
 }
 
 pub any-machine : {S : Type 0} (M : Machine S) → OfAnyMachine M
@@ -105,14 +146,22 @@ any-machine M = record {
   tells-run = λ L N c l h. call-tells-run M L N c l h .end;
   refused-by = refused-by-numbers M;
   unchanged = changes-nothing M;
+  accepted-images = accepted-end M;
+  version-first = version-refuses-before-the-buffer M;
+  comes-back = forward-and-back M;
+  converts-back = converted-forward-and-back M;
+  as-one = written-as-one-restores M;
+  converted-by = refuses-in-order M;
 }
 
 pub laws : {S : Type 0} (M : Machine S) → OfEveryLaw M
 laws M = record {
   all = λ c i j. record { cycles = c; images = i; jumps = j };
-  cycled = λ debt s t w sound rises records. record { sound = sound; rises = rises; records = records };
-  cycles = λ debt small step one. record { debt = debt; debt-small = small; step = step; begins-one = one };
-  images = λ long accepted back. record { image-length = long; image-accepted = accepted; image-back = back };
+  cycled = λ s t w sound rises records. record { sound = sound; rises = rises; records = records };
+  cycles = λ step one. record { step = step; begins-one = one };
+  images = λ long accepted back two. record { image-length = long; image-accepted = accepted; image-back = back; two-holds-all = two };
+  accepted = λ lengths exact. record { some-version = lengths; exact = exact };
+  image-of = λ v bytes s sound held same. record { sound = sound; held = held; same = same };
   jumps = λ h. record { jump-within = h };
   numbers = λ stops panels states images. record { stops = stops; panels = panels; states = states; images = images };
 }

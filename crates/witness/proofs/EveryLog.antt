@@ -8,11 +8,11 @@ use Rattle.waiting.specs.declared.Reading.{Reading}
 use Rattle.waiting.specs.WaitingTimes.{startOfDay, waitingTimes}
 use Rattle.waiting.specs.EveryLog.{lampsLit, waitsOf}
 use Rattle.waiting.proofs.Growth.{carried-grown, can-read}
-use Rattle.waiting.proofs.EveryLog.{every-rise-is-a-wait, read-on-as-joined, only-figures-draw-41, last-record-counts}
+use Rattle.waiting.proofs.EveryLog.{every-rise-is-a-wait, read-on-as-joined, only-figures-draw-41, last-record-counts, reset-closes-all-waits, reset-has-value-zero}
 use Rattle.waiting.proofs.EveryList.{reports-as-one-run}
 use Rattle.switch_offs.proofs.EveryList.{every-list-reports-as-one-run}
 use Rattle.switch_offs.proofs.EveryListOfCalls.{calls-report-as-one-run, every-list-of-calls-reports-as-one-run}
-use Rattle.report.proofs.Parts.{parts-read-as-one}
+use Rattle.waits_text.proofs.Parts.{parts-read-as-one}
 use Rattle.generator.proofs.EveryLoad.{every-schedule, every-rom, every-load, every-beginning}
 use Rattle.witness.specs.EveryLog.{EveryDay, EveryCallDay, LogFacts}
 use Rattle.witness.proofs.Waits.{each}
@@ -45,6 +45,8 @@ facts = record {
     read-on = λ more. read-on-as-joined log more c;
     draws-41 = only-figures-draw-41 log c;
     last = λ r. last-record-counts log r c;
+    reset = reset-closes-all-waits log c;
+    reset-value = reset-has-value-zero log c;
   };
   records = λ c. record {
     grows = λ base k r. carried-grown base k c r;

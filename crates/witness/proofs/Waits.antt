@@ -5,6 +5,7 @@ use Prim.Native.Nat.{ℕ, zero, suc, _<_, _≤_}
 use native.Mathlib.Omega.{arith}
 use lib.Dec.{lit<, lit≤}
 use lib.ListN.{length, take, replicate}
+use Rattle.runs.specs.declared.Version.the-variants.{Two}
 use Rattle.runs.specs.TwoRunners.{logBound}
 use Rattle.runs.specs.Laws.{Panel}
 use Rattle.runs.specs.Lists.{WrittenBy, Lent, Meant}
@@ -16,29 +17,29 @@ use Rattle.laws.proofs.Lists.{below-all}
 use Rattle.calls.specs.Call.{BoardCall, imageRun, callAnswer}
 use Rattle.calls.specs.Lists.{PanelLent, callsNotRefused, CallLent}
 use Rattle.waiting.specs.declared.Reading.{Reading}
-use Rattle.waiting.specs.WaitingTimes.{landingCount, figureMost, lampsAfter, carriedAfter, recordSound, logRecordNumber, landingSound, carriedSound, carriedNumber, logNumber, waitingTimes, startOfDay, noWaits, recordHere}
+use Rattle.waiting.specs.WaitingTimes.{landingCount, figureMost, lampsAfter, carriedAfter, portTaken, valueMost, recordSound, logRecordNumber, landingSound, carriedSound, carriedNumber, logNumber, waitingTimes, startOfDay, noWaits, recordHere}
 use Rattle.waiting.specs.Growth.{Grown, CarriedGrown}
-use Rattle.waiting.specs.EveryLog.{landingOf, FiguresWithin}
+use Rattle.waiting.specs.EveryLog.{landingOf, FiguresWithin, Darkened}
 use Rattle.waiting.specs.EveryList.{ReportsAsOneRun}
 use Rattle.waiting.proofs.Growth.{carried-grown}
-use Rattle.waiting.proofs.EveryLog.{every-rise-is-a-wait, read-on-as-joined, only-figures-draw-41, last-record-counts}
+use Rattle.waiting.proofs.EveryLog.{every-rise-is-a-wait, read-on-as-joined, only-figures-draw-41, last-record-counts, reset-closes-all-waits, reset-has-value-zero}
 use Rattle.switch_offs.specs.EveryListOfCalls.{CallsReportAsOneRun}
 use Rattle.switch_offs.proofs.EveryList.{every-list-reports-as-one-run}
 use Rattle.switch_offs.proofs.EveryListOfCalls.{every-list-of-calls-reports-as-one-run}
-use Rattle.report.proofs.Parts.{parts-read-as-one}
-use Rattle.witness.specs.Waits.{lampsAt, calling, coming, wide, called, lampRom, lit, keptLit, lampCalls, firstLamp, secondLamp, lampBoard, WaitFigures}
+use Rattle.waits_text.proofs.Parts.{parts-read-as-one}
+use Rattle.witness.specs.Waits.{lampsAt, calling, coming, wide, resetAt, callingAgain, called, lampRom, lampSched, lit, keptLit, lampCalls, firstLamp, secondLamp, lampBoard, WaitFigures}
 use Rattle.witness.proofs.Opened.{opened}
 use Rattle.witness.proofs.Calls.{sound}
 
 -- what to unfold where a reading is computed
 unfoldable read : Unit {0}
-unfolding opened lampsAfter carriedAfter recordSound logRecordNumber landingSound carriedSound carriedNumber logNumber waitingTimes
+unfolding opened lampsAfter carriedAfter portTaken valueMost recordSound logRecordNumber landingSound carriedSound carriedNumber logNumber waitingTimes
 read = tt
 
 -- each log is accepted
-accepts : (waitingTimes calling startOfDay .number ≡ 0) × (waitingTimes (calling ++ coming) startOfDay .number ≡ 0)
+accepts : (waitingTimes calling startOfDay .number ≡ 0) × (waitingTimes (calling ++ coming) startOfDay .number ≡ 0) × (waitingTimes callingAgain startOfDay .number ≡ 0)
 unfolding read
-accepts = (refl, refl)
+accepts = (refl, refl, refl)
 
 -- the four landings
 pub each : (P : ℕ → Type 0) → P 0 → P 1 → P 2 → P 3 → (i : ℕ) → i < landingCount → P i
@@ -69,36 +70,41 @@ grown =
     let none = none-grown in
     carried-grown 0 0 startOfDay (recordHere (lampsAt 10 1)) refl (record { four = refl; lamps = lit< tt; landings = (none, (none, (none, (none, tt)))) })
 
-panel : Panel upd546 lampRom []
-unfolding opened
-panel = record { rom-bytes = below-all 256 lampRom (lit< tt) refl; sched-bytes = λ i. lit< tt; not-refused = refl }
+-- a reset at cycle 60
+darkened : Darkened 60 (waitingTimes calling startOfDay .carried) (waitingTimes (calling ++ resetAt 60) startOfDay)
+unfolding read
+darkened = reset-closes-all-waits calling startOfDay 60 (accepts .0) (lit≤ tt) (lit< tt)
 
-lent : (held : State) (log : List ℕ) (n : ℕ) → logBound n ≤ length log → Lent upd546 lampRom [] held lampRom [] held log n
+panel : Panel upd546 lampRom lampSched
+unfolding opened
+panel = record { rom-bytes = below-all 256 lampRom (lit< tt) refl; sched-bytes = below-all 256 lampSched (lit< tt) refl; not-refused = refl }
+
+lent : (held : State) (log : List ℕ) (n : ℕ) → logBound n ≤ length log → Lent upd546 lampRom lampSched held lampRom lampSched held log n
 lent held log n room = record { same-rom = refl; same-sched = refl; same-state = refl; room = room }
 
-meant : Meant upd546 lampRom [] fresh lampCalls
+meant : Meant upd546 lampRom lampSched fresh lampCalls
 unfolding opened
 meant =
-    let written : WrittenBy upd546 lit keptLit = record { buffer = replicate 81 9; done = refl; same = refl } in
+    let written : WrittenBy upd546 lit keptLit = record { version = Two; buffer = replicate 82 9; done = refl; same = refl } in
     (lent _ _ _ (lit≤ tt), (refl, (written, (lent _ _ _ (lit≤ tt), tt))))
 
-one-day : ReportsAsOneRun upd546 lampRom [] fresh lampCalls
+one-day : ReportsAsOneRun upd546 lampRom lampSched fresh lampCalls
 unfolding opened
-one-day = every-list-reports-as-one-run lampRom [] fresh lampCalls panel sound meant (lit≤ tt)
+one-day = every-list-reports-as-one-run lampRom lampSched fresh lampCalls panel sound meant (lit≤ tt)
 
 -- and by the board's calls
-on-panel : (c : BoardCall) → c .rom ≡ lampRom → c .sched ≡ [] → logBound (c .n) ≤ length (c .log) → PanelLent lampRom [] c
+on-panel : (c : BoardCall) → c .rom ≡ lampRom → c .sched ≡ lampSched → logBound (c .n) ≤ length (c .log) → PanelLent lampRom lampSched c
 on-panel c same-rom same-sched room = record { same-rom = same-rom; same-sched = same-sched; room = room }
 
-lent-first : CallLent upd546 lampRom [] (imageOf fresh) firstLamp
+lent-first : CallLent upd546 lampRom lampSched (imageOf Two fresh) firstLamp
 lent-first = record { same-image = refl; lent = λ e. on-panel firstLamp refl refl (lit≤ tt) }
 
-lent-second : CallLent upd546 lampRom [] (callAnswer upd546 firstLamp .image) secondLamp
+lent-second : CallLent upd546 lampRom lampSched (callAnswer upd546 firstLamp .image) secondLamp
 lent-second = record { same-image = refl; lent = λ e. on-panel secondLamp refl refl (lit≤ tt) }
 
-board-day : CallsReportAsOneRun upd546 lampRom [] fresh (callsNotRefused upd546 lampBoard)
+board-day : CallsReportAsOneRun upd546 lampRom lampSched fresh (callsNotRefused upd546 lampBoard)
 unfolding opened imageRun callAnswer
-board-day = every-list-of-calls-reports-as-one-run lampRom [] fresh lampBoard panel sound (lent-first, (lent-second, tt)) (lit≤ tt)
+board-day = every-list-of-calls-reports-as-one-run lampRom lampSched fresh lampBoard panel sound (lent-first, (lent-second, tt)) (lit≤ tt)
 
 pub figures : WaitFigures
 unfolding read imageRun callAnswer
@@ -108,6 +114,16 @@ figures =
       waits-1 = every-rise-is-a-wait (calling ++ coming) startOfDay 1 (lit< tt) (accepts .1);
       waits-2 = every-rise-is-a-wait (calling ++ coming) startOfDay 2 (lit< tt) (accepts .1);
       waits-3 = every-rise-is-a-wait (calling ++ coming) startOfDay 3 (lit< tt) (accepts .1);
+      waits-again = every-rise-is-a-wait callingAgain startOfDay 0 (lit< tt) (accepts .2);
+      reset-taken = darkened .taken;
+      reset-dark = darkened .dark;
+      reset-last = darkened .last;
+      reset-closed = darkened .landings 0 (lit< tt) .closed;
+      reset-cycles = darkened .landings 0 (lit< tt) .cycles;
+      reset-longest = darkened .landings 1 (lit< tt) .longest;
+      reset-none-open = darkened .landings 1 (lit< tt) .none-open;
+      reset-no-start = darkened .landings 1 (lit< tt) .no-start;
+      reset-value = reset-has-value-zero calling startOfDay 60 1 (accepts .0) (lit< tt);
       carried-on = only-figures-draw-41 calling startOfDay (accepts .0) small;
       read-on = read-on-as-joined calling coming startOfDay (accepts .0) (only-figures-draw-41 calling startOfDay (accepts .0) small);
       last-counts = last-record-counts calling coming startOfDay refl (accepts .0);

@@ -4,6 +4,7 @@ use Prim.Native.Nat.{ℕ, suc}
 use mathlib.Core.Path.{_≡_}
 use mathlib.Core.List.{List, [], _∷_, _++_, map}
 use lib.ListN.{getD, take, replicate}
+use Rattle.runs.specs.declared.Version.the-variants.{One, Two}
 use Rattle.runs.specs.TwoRunners.{stopped, refused, saveAnswer, restoreAnswer}
 use Rattle.runs.specs.Lists.{Each}
 use Rattle.upd546.specs.TheMachine.{fresh}
@@ -12,17 +13,17 @@ use Rattle.upd546.specs.TwoRunners.{upd546}
 use Rattle.calls.specs.Call.{BoardCall, BoardAnswer, callAnswer}
 use Rattle.calls.specs.EveryCall.{endBy, callRefusal, figureAt}
 use Rattle.calls.specs.Lists.{callsNotRefused, imageAfter, callLogs, figureTotal, joined}
-use Rattle.witness.specs.Calls.{rom, wantedLog, wantedImage}
+use Rattle.witness.specs.Calls.{rom, sched, entryBytes, wantedLog, wantedImage}
 
 -- THE CALLS, each on an image
 
--- one cycle, by the plain runner, on a log of just 8n + 8 bytes: OCD is cut in two
+-- one cycle, by the plain runner, on a log of just 16n bytes: OCD is cut in two
 abbrev pub first : List ℕ → BoardCall
-first image = record { image = image; rom = rom; sched = []; log = replicate 16 7; n = 1; runner = 0; report = replicate 34 9 }
+first image = record { image = image; rom = rom; sched = sched; log = replicate 16 7; n = 1; runner = 0; report = replicate 34 9 }
 
--- nine cycles, by the timer-skipping runner: 256 isn't 0
+-- thirteen cycles, over a reset, by the timer-skipping runner: 256 isn't 0
 abbrev pub second : List ℕ → BoardCall
-second image = record { image = image; rom = rom; sched = []; log = replicate 80 0; n = 9; runner = 256; report = replicate 32 9 }
+second image = record { image = image; rom = rom; sched = sched; log = replicate 208 0; n = 13; runner = 256; report = replicate 32 9 }
 
 -- a report of 31 bytes, with a ROM that 21 would refuse
 abbrev pub shortReport : List ℕ → BoardCall
@@ -36,19 +37,23 @@ badRom image = record { image = image; rom = 1 ∷ []; sched = []; log = 6 ∷ 6
 abbrev pub onOther : BoardCall
 onOther = badRom (5 ∷ [])
 
--- no cycles, at the end
+-- the same ROM with an image of version 1, which a restore takes: 31 too
+abbrev pub onOld : BoardCall
+onOld = badRom (imageOf One fresh)
+
+-- no cycles, at the end, and no log
 abbrev pub last : List ℕ → BoardCall
-last image = record { image = image; rom = rom; sched = []; log = replicate 8 0; n = 0; runner = 0; report = replicate 32 0 }
+last image = record { image = image; rom = rom; sched = sched; log = []; n = 0; runner = 0; report = replicate 32 0 }
 
 abbrev pub start : List ℕ
-start = imageOf fresh
+start = imageOf Two fresh
 
 abbrev pub between : List ℕ
 between = callAnswer upd546 (first start) .image
 
--- refused are the second by 31, the third by 1 and the fourth by 21
+-- refused are the second and the third by 31, the fourth by 1 and the fifth by 21
 abbrev pub calls : List BoardCall
-calls = first start ∷ onOther ∷ shortReport between ∷ badRom between ∷ second between ∷ []
+calls = first start ∷ onOther ∷ onOld ∷ shortReport between ∷ badRom between ∷ second between ∷ []
 
 abbrev pub carriedOut : List BoardCall
 carriedOut = first start ∷ second between ∷ []
@@ -72,34 +77,35 @@ pub record BoardFigures : Type 0 where
   pub image : imageAfter upd546 start carriedOut ≡ wantedImage
   pub restored : restoreAnswer upd546 (imageAfter upd546 start carriedOut) .state .core .flow .pc ≡ 4
   pub log : joined (callLogs upd546 carriedOut) ≡ wantedLog
-  pub cycles : figureTotal upd546 0 carriedOut ≡ 5
-  pub begun : figureTotal upd546 8 carriedOut ≡ 3
+  pub cycles : figureTotal upd546 0 carriedOut ≡ 11
+  pub begun : figureTotal upd546 8 carriedOut ≡ 6
   pub not-all-finish : Each (λ c. callAnswer upd546 c .number ≡ 0) carriedOut → ⊥
   pub each-stop : Each (λ c. (k : ℕ) → callAnswer upd546 c .number ≡ suc k → suc k ≡ 23) carriedOut
   -- and of the first call alone
   pub all-finish : callAnswer upd546 (first start) .number ≡ 0
   -- `nothing`
   pub joined-log : joined (callLogs upd546 reportedCalls) ≡ wantedLog
-  pub all-cycles : figureTotal upd546 0 reportedCalls ≡ 5
-  pub all-begun : figureTotal upd546 8 reportedCalls ≡ 3
+  pub all-cycles : figureTotal upd546 0 reportedCalls ≡ 11
+  pub all-begun : figureTotal upd546 8 reportedCalls ≡ 6
   -- `refusals`, `unchanged`
-  pub numbers : map (callRefusal upd546) calls ≡ 0 ∷ 31 ∷ 1 ∷ 21 ∷ 0 ∷ []
+  pub numbers : map (callRefusal upd546) calls ≡ 0 ∷ 31 ∷ 31 ∷ 1 ∷ 21 ∷ 0 ∷ []
   pub by-31 : callAnswer upd546 onOther ≡ left 31 onOther (replicate 32 0 ++ (9 ∷ []))
+  pub by-31-old : callAnswer upd546 onOld ≡ left 31 onOld (replicate 32 0 ++ (9 ∷ []))
   pub by-1 : callAnswer upd546 (shortReport between) ≡ left 1 (shortReport between) (replicate 31 9)
   pub by-21 : callAnswer upd546 (badRom between) ≡ left 21 (badRom between) (replicate 32 0 ++ (9 ∷ []))
   -- `goes-on`
   pub next : callRefusal upd546 (last wantedImage) ≡ 0
   -- `EveryFinishOrStopRewrites`: in the middle of OCD
-  pub saved : saveAnswer upd546 (restoreAnswer upd546 between .state) start .number ≡ 0
+  pub saved : saveAnswer upd546 Two (restoreAnswer upd546 between .state) start .number ≡ 0
   pub owed-byte : getD between 17 0 ≡ 1
   pub owed-kept : restoreAnswer upd546 between .state .core .owed ≡ 1
   -- `EveryCallTellsItsRun`: of a stop
   pub second-end : endBy (callAnswer upd546 (second between) .number) ≡ stopped 23
-  pub second-log : take 8 (callAnswer upd546 (second between) .log) ≡ 0 ∷ 0 ∷ 0 ∷ 0 ∷ 0 ∷ 3 ∷ 4 ∷ 3 ∷ []
-  pub second-cycles : figureAt upd546 0 (second between) ≡ 4
-  pub second-begun : figureAt upd546 8 (second between) ≡ 2
-  pub second-written : figureAt upd546 16 (second between) ≡ 8
-  pub second-steps : figureAt upd546 24 (second between) ≡ 4
+  pub second-log : take 16 (callAnswer upd546 (second between) .log) ≡ entryBytes 3 4 3 ++ entryBytes 4 0 0
+  pub second-cycles : figureAt upd546 0 (second between) ≡ 10
+  pub second-begun : figureAt upd546 8 (second between) ≡ 5
+  pub second-written : figureAt upd546 16 (second between) ≡ 40
+  pub second-steps : figureAt upd546 24 (second between) ≡ 10
   -- and of a refusal, with counts of zero
   pub refused-end : endBy (callAnswer upd546 (badRom between) .number) ≡ refused 21
   pub refused-log : callAnswer upd546 (badRom between) .log ≡ 6 ∷ 6 ∷ []

@@ -6,6 +6,7 @@ use mathlib.Core.Logic.{_↔_}
 use mathlib.Core.List.{List}
 use mathlib.Core.Option.{none, some}
 use lib.ListN.{length, take, drop, replicate}
+use Rattle.runs.specs.declared.Version.the-variants.{Two}
 use Rattle.runs.specs.Reports.{clocksPerCycle}
 use Rattle.runs.specs.Numbers.{outcomeNumber, endOf}
 use Rattle.runs.specs.TwoRunners.{RunAnswer, Ran, finished, stopped, logBound, unbroken, saveAnswer, restoreAnswer}
@@ -17,16 +18,16 @@ use Rattle.witness.specs.declared.SliceEnd.{SliceEnd}
 use Rattle.witness.specs.declared.DayEnd.{DayEnd}
 
 abbrev pub buffer : List ℕ
-buffer = replicate 81 0
+buffer = replicate 82 0
 
 -- the bytes that a save to such a buffer leaves there
 abbrev pub imageIn : State → List ℕ
-imageIn s = take 81 (saveAnswer upd546 s buffer .buffer)
+imageIn s = take 82 (saveAnswer upd546 Two s buffer .buffer)
 
--- A slice on a log from a place on: a run that answers a, a save of its state, a restore of the bytes.
+-- A slice on a log from a place on: a run that answers a, a save of its state as version 2, a restore of the bytes.
 pub record SliceOf (a : RunAnswer State) (log : List ℕ) (at : ℕ) (r : SliceEnd) (log′ : List ℕ) : Type 0 where
   pub report : broughtTo (r .report) (record { state = a .state }) log′ ≡ keptBefore at log a
-  pub saved : outcomeNumber (r .saved) ≡ saveAnswer upd546 (a .state) buffer .number
+  pub saved : outcomeNumber (r .saved) ≡ saveAnswer upd546 Two (a .state) buffer .number
   pub restored : outcomeNumber (r .restored) ≡ restoreAnswer upd546 (imageIn (a .state)) .number
   pub state : r .state ≡ restoreAnswer upd546 (imageIn (a .state)) .state
   pub same-length : length log′ ≡ length log
@@ -56,6 +57,6 @@ pub record TwoSlices (rom sched : List ℕ) (s : State) (log : List ℕ) (n m : 
   pub between : List ℕ
   pub first : OneSlice plainOne rom sched s log 0 n (r .first) between
   pub second : OneSlice skippingOne rom sched (r .first .state) between (r .first .report .written) m (r .second) log′
-  -- where nothing is refused, and there are 8n + 8 bytes of log for each run
+  -- where nothing is refused, and there are 16n bytes of log for each run
   pub one-run : NoneRefused (r .first) → NoneRefused (r .second) → logBound n + logBound m ≤ length log
       → EndsAsRun (r .first) (r .second) log′ (unbroken upd546 rom sched (n + m) s)

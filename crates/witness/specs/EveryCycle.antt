@@ -1,9 +1,9 @@
 -- The theorems about the machine cycle a second time, for every argument, with the documents' figures in place of names: one that
 -- holds of fewer arguments, assumes more or says less doesn't give its line. Assumes nothing: these are definitions.
-use Prim.Native.Nat.{ℕ, suc, _+_, _*_, max, _<_, _≤_}
+use Prim.Native.Nat.{ℕ, suc, _+_, _*_, min, max, _<_, _≤_}
 use mathlib.Core.Path.{_≡_}
 use mathlib.Core.Bool.{true, false}
-use mathlib.Core.List.{List, [], _∷_}
+use mathlib.Core.List.{List, [], _∷_, _++_}
 use mathlib.Core.Option.{none}
 use lib.ListN.{length, getD}
 use Rattle.runs.specs.Machine.{went}
@@ -14,21 +14,25 @@ use Rattle.upd546.specs.declared.Core.{Core}
 use Rattle.upd546.specs.declared.Lines.{Lines}
 use Rattle.upd546.specs.declared.State.{State}
 use Rattle.upd546.specs.declared.Timer.{Timer}
-use Rattle.upd546.specs.Bytes.{bitAt}
+use Rattle.upd546.specs.Bytes.{bitAt, bytesOf}
 use Rattle.upd546.specs.TheMachine.{past, fresh}
+use Rattle.upd546.specs.Parts.{setInte}
 use Rattle.upd546.specs.TheLineSchedule.{linesAt, noRecord}
 use Rattle.upd546.specs.Timer.{tick, registerAfter, positionOf, ticksLeft}
 use Rattle.upd546.specs.Ports.{latchOf, readPort}
 use Rattle.upd546.specs.Instructions as chip
+use Rattle.upd546.specs.Instructions.{instruction}
 use Rattle.upd546.specs.OneMachineCycle.{accepts, cycle}
 use Rattle.upd546.specs.StateImage.{stateNumber}
-use Rattle.upd546.specs.BenchCases.{romAt}
+use Rattle.upd546.specs.BenchCases.{romAt, from, fallAt}
 use Rattle.upd546.specs.TwoRunners.{upd546, panelNumber, jumpLength}
 use Rattle.laws.specs.Timer.{timerLeft}
 use Rattle.laws.specs.Jump.{stateAfterJump}
 use Rattle.laws.specs.Valid.{Valid}
-use Rattle.claims.specs.Strings.{Stand}
+use Rattle.laws.specs.Reset.{noReset}
+use Rattle.claims.specs.Strings.{Stand, FallsIn}
 use Rattle.claims.specs.Interval.{StmDue, withoutStm}
+use Rattle.witness.specs.Calls as calls
 
 -- R-2, `CAndDReadBack`: a bit of C or D is the greater of line and latch
 pub record OfEveryPort (l : Lines) (ports : List ℕ) : Type 0 where
@@ -44,8 +48,8 @@ pub record OfEveryMark (c : Core) : Type 0 where
   pub ei : c .mark ≡ 2 → accepts c ≡ false
   pub li : c .mark ≡ 4 → accepts c ≡ false
 
--- what n cycles from s come to that begin k loads and pass them over, with PC at `to`: timer, INT, the level and the cycle number
--- are those of t, and all else is as it was
+-- what n cycles from s come to that begin k loads and pass them over, with PC at `to`: timer, INT, the level, the count and the cycle
+-- number are those of t, and all else is as it was
 abbrev pub passedLoads : (k n to : ℕ) → (s t : State) → Ran State
 passedLoads k n to s t = record {
   state = record {
@@ -59,6 +63,7 @@ passedLoads k n to s t = record {
     };
     ports = s .ports;
     ram = s .ram;
+    count = t .count;
     cycle = t .cycle;
   };
   bytes = [];
@@ -67,16 +72,65 @@ passedLoads k n to s t = record {
   number = none;
 }
 
--- R-5, `LoadStringsHoldTogether`: of a run r, all but the four, and an INT that is set
+-- R-5, `LoadStringsHoldTogether`: of a run r, all but these five, and an INT that is set
 pub record OfEveryString (k n to : ℕ) (s : State) (r : Ran State) : Type 0 where
   pub whole : r ≡ passedLoads k n to s (r .state)
   pub int : s .core .interrupt .int ≡ 1 → r .state .core .interrupt .int ≡ 1
+
+-- R-5, `LoadStringsKeepFalls`: INT at the boundary behind the string, in n cycles from s, and where the run goes on from there: the
+-- next cycle begins an instruction that isn't TIT, with INTE 1 and none of the marks LDI, EI and LI behind it, without a reset cycle
+pub record OfEveryFall (rom sched : List ℕ) (n to : ℕ) (s : State) : Type 0 where
+  pub number : unbroken upd546 rom sched n s .number ≡ none
+  pub cycles : unbroken upd546 rom sched n s .cycles ≡ n
+  pub pc : unbroken upd546 rom sched n s .state .core .flow .pc ≡ to
+  pub int : unbroken upd546 rom sched n s .state .core .interrupt .int ≡ 1
+  pub inte : unbroken upd546 rom sched n s .state .core .interrupt .inte ≡ s .core .interrupt .inte
+  pub held : accepts (unbroken upd546 rom sched n s .state .core) ≡ false
+  pub accepted : (u : State) (r : Ran State) → u ≡ unbroken upd546 rom sched (n + 1) s .state
+      → r ≡ unbroken upd546 rom sched (n + 1 + u .core .owed + 1) s → noReset sched (n + 1 + u .core .owed + 1) (s .cycle .0) (s .count) ≡ true
+      → unbroken upd546 rom sched (n + 1) s .number ≡ none
+      → (instruction (getD rom to 0) ≡ chip.tit → ⊥) → u .core .interrupt .inte ≡ 1
+      → (u .core .mark ≡ 1 → ⊥) → (u .core .mark ≡ 2 → ⊥) → (u .core .mark ≡ 4 → ⊥)
+      → (r .number ≡ none) × (r .state .core .flow .pc ≡ 0x03C) × (getD (r .state .core .flow .stack) 0 0 ≡ u .core .flow .pc)
+      × (r .state .core .interrupt .inte ≡ 0)
 
 -- "TM is set 63(I + 1) cycles after STM's end.": `TmIsSetAfterStm`
 pub record OfEveryStm (i k : ℕ) (r : Ran State) : Type 0 where
   pub cycles : r .cycles ≡ 2 + k
   pub before : k < 63 * (i + 1) → r .state .core .timer .tm ≡ 0
   pub from : 63 * (i + 1) ≤ k → r .state .core .timer .tm ≡ 1
+
+-- R-8, `EveryCycleCountsRes`: of a cycle from s to t that appends w and begins b instructions, where RES is 0 or not
+
+-- what a reset cycle leaves of s, with the INT level of the lines: "PC, owed, INT, INTE, TM, timer and ports become 0 and the mark
+-- other; RAM, Acc, DP, carries and stack are kept"
+abbrev pub afterReset : (level : ℕ) → State → State
+afterReset level s = record {
+  core = record {
+    registers = s .core .registers;
+    flow = record { pc = 0; stack = s .core .flow .stack };
+    interrupt = record { int = 0; inte = 0; level = level };
+    timer = record { tm = 0; register = 0; counter = 0 };
+    mark = 0;
+    owed = 0;
+  };
+  ports = 0 ∷ 0 ∷ 0 ∷ 0 ∷ 0 ∷ 0 ∷ 0 ∷ [];
+  ram = s .ram;
+  count = 4;
+  cycle = record { 0 = s .cycle .0 + 1 };
+}
+
+pub record OfEveryReset (l : Lines) (s t : State) (w : List ℕ) (b : ℕ) : Type 0 where
+  pub state : t ≡ afterReset (l .int) s
+  pub begins-none : b ≡ 0
+  pub reaching : (s .count ≡ 4 → ⊥) → w ≡ bytesOf 6 (s .cycle .0) ++ (0 ∷ 0 ∷ [])
+  pub staying : s .count ≡ 4 → w ≡ []
+
+pub record OfEveryCount (l : Lines) (s t : State) (w : List ℕ) (b : ℕ) : Type 0 where
+  pub rises : t .cycle .0 ≡ s .cycle .0 + 1
+  pub low : l .res ≡ 0 → t .count ≡ 0
+  pub high : l .res ≡ 1 → t .count ≡ min 4 (s .count + 1)
+  pub reset : t .count ≡ 4 → OfEveryReset l s t w b
 
 -- the fields of a state, each with what it is below
 abbrev pub fields : State → List (ℕ × ℕ)
@@ -96,6 +150,7 @@ fields s =
     ∷ (s .core .mark, 5)
     ∷ (s .core .owed, 4)
     ∷ (getD (s .ports) 6 0, 8)
+    ∷ (s .count, 5)
     ∷ (s .cycle .0, 281474976710656)
     ∷ []
 
@@ -115,10 +170,18 @@ pub record CycleFacts : Type 0 where
   pub ports : (l : Lines) (latches : List ℕ) → OfEveryPort l latches
   pub marks : (c : Core) → OfEveryMark c
   pub li : (rom sched : List ℕ) (k : ℕ) (s : State) → s .core .owed ≡ 0 → s .core .mark ≡ 4 → Stand rom chip.li k (s .core .flow .pc)
+      → noReset sched (1 * k) (s .cycle .0) (s .count) ≡ true
       → OfEveryString k (1 * k) (past (1 * k) (s .core .flow .pc)) s (unbroken upd546 rom sched (1 * k) s)
   pub ldi : (rom sched : List ℕ) (k : ℕ) (s : State) → s .core .owed ≡ 0 → s .core .mark ≡ 1 → Stand rom chip.ldi k (s .core .flow .pc)
+      → noReset sched (2 * k) (s .cycle .0) (s .count) ≡ true
       → OfEveryString k (2 * k) (past (2 * k) (s .core .flow .pc)) s (unbroken upd546 rom sched (2 * k) s)
-  pub tm : (rom sched : List ℕ) (s : State) (i k : ℕ) → StmDue rom s i → withoutStm rom sched k (unbroken upd546 rom sched 2 s .state) ≡ true
+  pub li-falls : (rom sched : List ℕ) (k m : ℕ) (s : State) → s .core .owed ≡ 0 → s .core .interrupt .int ≡ 0
+      → Stand rom chip.li k (s .core .flow .pc) → m < 1 * k → FallsIn sched s m → noReset sched (1 * k) (s .cycle .0) (s .count) ≡ true
+      → OfEveryFall rom sched (1 * k) (past (1 * k) (s .core .flow .pc)) s
+  pub ldi-falls : (rom sched : List ℕ) (k m : ℕ) (s : State) → s .core .owed ≡ 0 → s .core .interrupt .int ≡ 0
+      → Stand rom chip.ldi k (s .core .flow .pc) → m < 2 * k → FallsIn sched s m → noReset sched (2 * k) (s .cycle .0) (s .count) ≡ true
+      → OfEveryFall rom sched (2 * k) (past (2 * k) (s .core .flow .pc)) s
+  pub tm : (rom sched : List ℕ) (s : State) (i k : ℕ) → StmDue rom sched s i → withoutStm rom sched k (unbroken upd546 rom sched 2 s .state) ≡ true
       → OfEveryStm i k (unbroken upd546 rom sched (2 + k) s)
   -- `accepted-valid`, `valid-accepted`, `cycle-keeps`, `begins-one`
   pub accepted : (s : State) → stateNumber s ≡ 0 → Widths s
@@ -127,6 +190,10 @@ pub record CycleFacts : Type 0 where
       → s .cycle .0 < 281474976710655 → cycle rom sched s ≡ went t w b
       → Valid t × (t .cycle .0 ≡ suc (s .cycle .0)) × (length w ≤ 16)
   pub begins-one : (rom sched : List ℕ) (s t : State) (w : List ℕ) (b : ℕ) → cycle rom sched s ≡ went t w b → b ≤ 1
+  -- `EveryCycleCountsRes`, `EveryRunCountsRes`
+  pub counts : (rom sched : List ℕ) (s t : State) (w : List ℕ) (b : ℕ) → cycle rom sched s ≡ went t w b → OfEveryCount (linesAt sched (s .cycle .0)) s t w b
+  pub runs-count : (rom sched : List ℕ) (k : ℕ) (s : State) → s .count ≤ 4 → unbroken upd546 rom sched k s .cycles ≡ k
+      → ((i : ℕ) → i < k → linesAt sched (s .cycle .0 + i) .res ≡ 1) → unbroken upd546 rom sched k s .state .count ≡ min 4 (s .count + k)
   -- `lines-same`
   pub lines : (sched : List ℕ) (n m : ℕ) → n ≤ m → noRecord sched (n + 1) (m + 1) ≡ true → linesAt sched m ≡ linesAt sched n
   -- `register-at`, `position-at`, `tick-left`, `running-left`
@@ -140,11 +207,18 @@ pub record CycleFacts : Type 0 where
   pub jump-in-room : (rom sched : List ℕ) (s : State) (left j : ℕ) → jumpLength rom sched s left ≡ j → (j ≡ 0 → ⊥) → Valid s → (room : ℕ)
       → within upd546 rom sched room j s ≡ jumped j s
 
--- IN FIGURES: the premises of three of them, as they are met
+-- IN FIGURES: the premises of four of them, as they are met
 
 -- LI 9, LI 2, LI 5, and from 003 on LDI 45, LDI 67
 abbrev pub loads : List ℕ
 loads = romAt 0 (0x99 ∷ 0x92 ∷ 0x95 ∷ 0x15 ∷ 0x45 ∷ 0x15 ∷ 0x67 ∷ [])
+
+-- LI 5, LI 9 and NOPs, with INTE 1; INT falls between the two, in cycle 1
+abbrev pub edge : List ℕ
+edge = romAt 0 (0x95 ∷ 0x99 ∷ [])
+
+abbrev pub edgeAfter : ℕ → State
+edgeAfter n = unbroken upd546 edge (fallAt 1) n (from (setInte 1)) .state
 
 -- STM 80, and a JCP to itself
 abbrev pub waits : List ℕ
@@ -159,6 +233,13 @@ pub record CycleFigures : Type 0 where
   pub li-9 : unbroken upd546 loads [] 2 (after loads 1) .state .core .registers .acc ≡ 9
   pub ldi-45 : unbroken upd546 loads [] 2 (after loads 5) .state .core .registers .dpl ≡ 5
   pub ldi-begun : unbroken upd546 loads [] 2 (after loads 5) .begun ≡ 1
+  -- RES is high from cycle 1 to cycle 5: the count is 3 before the reset, 4 after it and while it is held
+  pub count-3 : unbroken upd546 calls.rom calls.sched 3 (unbroken upd546 calls.rom calls.sched 1 fresh .state) .state .count ≡ 3
+  pub count-4 : unbroken upd546 calls.rom calls.sched 5 (unbroken upd546 calls.rom calls.sched 1 fresh .state) .state .count ≡ 4
+  -- kept behind LI 9, and accepted behind the NOP at 002
+  pub edge-kept : edgeAfter 2 .core .interrupt .int ≡ 1
+  pub edge-accepted : edgeAfter 4 .core .flow .pc ≡ 0x03C
+  pub edge-return : getD (edgeAfter 4 .core .flow .stack) 0 0 ≡ 3
   -- I = 0
   pub tm-before : after waits 64 .core .timer .tm ≡ 0
   pub tm-from : after waits 65 .core .timer .tm ≡ 1

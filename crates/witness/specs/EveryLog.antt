@@ -3,14 +3,16 @@
 use Prim.Native.Nat.{ℕ, suc, _+_, _*_, _^_, _<_, _≤_}
 use mathlib.Core.Path.{_≡_}
 use mathlib.Core.Bool.{true}
-use mathlib.Core.List.{List, [], _++_}
+use mathlib.Core.List.{List, [], _∷_, _++_}
 use lib.ListN.{length, take}
+use Rattle.runs.specs.declared.Version.the-variants.{Two}
 use Rattle.runs.specs.Machine.{Machine}
 use Rattle.runs.specs.TwoRunners.{unbroken, runNumber}
 use Rattle.runs.specs.Laws.{Bytes, Panel, NumberLaws, Laws}
 use Rattle.runs.specs.EveryRun.{EveryRunCountsWithin}
 use Rattle.runs.specs.Lists.{Kind, Call, run, refusal, notRefused, Meant, asked, EveryListEndsAsOneRun}
 use Rattle.upd546.specs.declared.State.{State}
+use Rattle.upd546.specs.Bytes.{bytesOf}
 use Rattle.upd546.specs.StateImage.{imageOf, stateNumber}
 use Rattle.upd546.specs.TheLineSchedule.{scheduleNumber}
 use Rattle.upd546.specs.TwoRunners.{upd546}
@@ -19,12 +21,12 @@ use Rattle.calls.specs.Call.{BoardCall}
 use Rattle.calls.specs.Lists.{callsNotRefused, OnOneImage, callLogs, callsAsk}
 use Rattle.waiting.specs.declared.Carried.{Carried}
 use Rattle.waiting.specs.declared.LogRecord.{LogRecord}
-use Rattle.waiting.specs.WaitingTimes.{carriedAfter, recordHere, recordSound, logRecordNumber, carriedNumber, startOfDay, answeredWith, waitingTimes}
+use Rattle.waiting.specs.WaitingTimes.{carriedAfter, recordHere, recordSound, logRecordNumber, carriedNumber, startOfDay, refusedWith, answeredWith, waitingTimes}
 use Rattle.waiting.specs.Growth.{CarriedGrown}
-use Rattle.waiting.specs.EveryLog.{lampsLit, landingOf, waitsOf, FiguresWithin}
+use Rattle.waiting.specs.EveryLog.{lampsLit, landingOf, waitsOf, FiguresWithin, Darkened}
 use Rattle.waiting.specs.EveryList.{AllAccepted, carriedOn, listLogs, ReportsAsOneRun, EveryListReportsAsOneRun}
 use Rattle.switch_offs.specs.EveryListOfCalls.{CallsReportAsOneRun}
-use Rattle.report.specs.Parts.{noParts, partRead, partsRead, joinedParts, WholeParts}
+use Rattle.waits_text.specs.Parts.{noParts, partRead, partsRead, joinedParts, WholeParts}
 use Rattle.generator.specs.Loads.{romOf, scheduleOf}
 
 -- R-1, of every log and all that may be carried
@@ -40,6 +42,10 @@ pub record OfEveryLog (c : Carried) (log : List ℕ) : Type 0 where
   pub last : (r : List ℕ) → length r ≡ 8 → waitingTimes log c .number ≡ 0
       → waitingTimes (log ++ r) c
       ≡ answeredWith (logRecordNumber (waitingTimes log c .carried .last .0) (recordHere r)) (carriedAfter (waitingTimes log c .carried) (recordHere r))
+  -- R-8, `ResetClosesAllWaits`, `ResetHasValueZero`: a record of port 0
+  pub reset : (n : ℕ) → waitingTimes log c .number ≡ 0 → waitingTimes log c .carried .last .0 ≤ n → n < 281474976710656
+      → Darkened n (waitingTimes log c .carried) (waitingTimes (log ++ (bytesOf 6 n ++ (0 ∷ 0 ∷ []))) c)
+  pub reset-value : (n v : ℕ) → waitingTimes log c .number ≡ 0 → 0 < v → waitingTimes (log ++ (bytesOf 6 n ++ (0 ∷ v ∷ []))) c ≡ refusedWith 42
 
 -- why no figure overflows: `carried-grown`, `can-read`
 pub record OfEveryRecord (c : Carried) : Type 0 where
@@ -80,14 +86,14 @@ pub record OfEveryCallDay (rom sched : List ℕ) (s : State) (cs : List BoardCal
 abbrev pub EveryCallDay : Type 0
 EveryCallDay =
     (rom sched : List ℕ) (s : State) (calls : List BoardCall) → Panel upd546 rom sched → stateNumber s ≡ 0
-    → OnOneImage upd546 rom sched (imageOf s) (callsNotRefused upd546 calls)
+    → OnOneImage upd546 rom sched (imageOf Two s) (callsNotRefused upd546 calls)
     → s .cycle .0 + callsAsk (callsNotRefused upd546 calls) ≤ 281474976710655 → OfEveryCallDay rom sched s (callsNotRefused upd546 calls)
 
 -- of any machine, by its laws and what is promised of its lists
 abbrev pub AnyCallDay : {S : Type 0} → Machine S → Type 0
 AnyCallDay {S} M =
     Laws M → NumberLaws M → EveryListReportsAsOneRun M → (rom sched : List ℕ) (s : S) (calls : List BoardCall) → Panel M rom sched → M .stateNumber s ≡ 0
-    → OnOneImage M rom sched (M .image s) (callsNotRefused M calls) → M .at s + callsAsk (callsNotRefused M calls) ≤ 281474976710655
+    → OnOneImage M rom sched (M .image Two s) (callsNotRefused M calls) → M .at s + callsAsk (callsNotRefused M calls) ≤ 281474976710655
     → CallsReportAsOneRun M rom sched s (callsNotRefused M calls)
 
 -- R-4, of every seed; a ROM and a schedule may be of two

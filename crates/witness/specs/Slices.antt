@@ -3,6 +3,7 @@ use Prim.Native.Nat.{ℕ}
 use mathlib.Core.Path.{_≡_}
 use mathlib.Core.List.{List, [], _∷_}
 use lib.ListN.{length, replicate}
+use Rattle.runs.specs.declared.Version.the-variants.{Two}
 use Rattle.runs.specs.Lists.{plainOne, skippingOne, Call, save, notRefused, last, runs, joinedLog, AllFinish, asked, Slice, sliceCalls}
 use Rattle.upd546.specs.declared.State.{State}
 use Rattle.upd546.specs.TheMachine.{fresh}
@@ -20,9 +21,9 @@ sched = 0 ∷ 0 ∷ 0 ∷ 0 ∷ 0 ∷ 30 ∷ 0x50 ∷ 0 ∷ 1 ∷ 0 ∷ []
 -- both switch-offs fall into the timer's wait
 abbrev pub slices : List Slice
 slices =
-    record { kind = plainOne; log = replicate 168 0; n = 20; buffer = replicate 81 0 }
-    ∷ record { kind = skippingOne; log = replicate 328 0; n = 40; buffer = replicate 100 255 }
-    ∷ record { kind = skippingOne; log = replicate 128 0; n = 15; buffer = replicate 81 1 }
+    record { kind = plainOne; log = replicate 320 0; n = 20; buffer = replicate 82 0 }
+    ∷ record { kind = skippingOne; log = replicate 640 0; n = 40; buffer = replicate 100 255 }
+    ∷ record { kind = skippingOne; log = replicate 240 0; n = 15; buffer = replicate 82 1 }
     ∷ []
 
 abbrev pub calls : List (Call State)
@@ -30,7 +31,7 @@ calls = sliceCalls upd546 rom sched fresh slices
 
 -- a refused save before them
 abbrev pub withRefused : List (Call State)
-withRefused = save fresh [] ∷ calls
+withRefused = save Two fresh [] ∷ calls
 
 -- 5 to E at cycle 70
 abbrev pub wantedLog : List ℕ

@@ -7,6 +7,7 @@ use driver::Report;
 use driver::Runner;
 use runs::MachineCycles;
 use runs::Outcome;
+use runs::Version;
 use upd546::State;
 use upd546::layout::IMAGE_LENGTH;
 ghost use Rattle.driver.specs.Lending.{runnerKind};
@@ -42,7 +43,7 @@ fn one_slice(
     let machine = answer.machine;
     let report = answer.report;
     let mut bytes = [0u8; IMAGE_LENGTH];
-    let saved = save::save(machine.state, &mut bytes);
+    let saved = save::save(machine.state, Version::Two, &mut bytes);
     let back = restore::restore(&bytes);
     let restored = back.outcome;
     let state = back.state;
