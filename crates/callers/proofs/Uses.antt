@@ -9,19 +9,16 @@ use lib.Dec.{eqb}
 use lib.Seq.{take-append-seam, drop-append-seam}
 use borrow.Author.Tests.{eqb-true, eqb-false}
 use Rattle.runs.specs.TwoRunners.{SaveAnswer, saveAnswer}
-use Rattle.runs.specs.Numbers.{endNumber, endOf}
-use Rattle.runs.specs.declared.RunEnd.{RunEnd}
-use Rattle.runs.specs.declared.RunEnd.the-variants.{Finished, Stopped, Refused}
 use Rattle.upd546.specs.TheMachine.{fresh}
 use Rattle.upd546.specs.TwoRunners.{upd546}
 use Rattle.calls.specs.Call.{BoardCall, BoardAnswer, callAnswer}
 use Rattle.waiting.specs.WaitingTimes.{startOfDay, waitingTimes}
-use Rattle.report.specs.Parts.{noParts, partRead}
-use Rattle.report.proofs.Parts.{reads-on, not-whole}
+use Rattle.waits_text.specs.Parts.{noParts, partRead}
+use Rattle.waits_text.proofs.Parts.{reads-on, not-whole}
 use Rattle.streams.specs.Streams.{Wrote}
 use Rattle.streams.specs.declared.Output.{Output}
 use Rattle.streams.specs.declared.Output.the-variants.{Whole, Cut}
-use Rattle.callers.specs.Uses.{lending, FirstCall, TwoCalls, Fronts, numberTold}
+use Rattle.callers.specs.Uses.{lending, FirstCall, TwoCalls, Fronts}
 
 pub first-call : (c : BoardCall) {saved : SaveAnswer} {a : BoardAnswer} → saved ≡ saveAnswer upd546 fresh (c .image)
     → a ≡ callAnswer upd546 (lending (saved .buffer) (c .log) (c .report) c) → FirstCall c (saved .number) a
@@ -56,9 +53,3 @@ wrote-on (Whole a) (Cut b) (Cut c) m n h k = (omega (arith, h .0, k), omega (ari
 wrote-on (Cut a) (Whole b) c m n h k = absurd h
 wrote-on (Cut a) (Cut b) (Whole c) m n h k = absurd k
 wrote-on (Cut a) (Cut b) (Cut c) m n h k = omega (arith, h, k)
-
--- the number of an end, in code and in the definitions
-pub end-told : (e : RunEnd) → endNumber e ≡ numberTold (endOf e)
-end-told Finished = refl
-end-told (Stopped s) = refl
-end-told (Refused r) = refl

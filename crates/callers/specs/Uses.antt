@@ -3,7 +3,7 @@ use mathlib.Core.Path.{_≡_}
 use mathlib.Core.List.{List}
 use Prim.Native.Nat.{ℕ}
 use lib.ListN.{length, take, drop}
-use Rattle.runs.specs.TwoRunners.{End, finished, stopped, refused, saveAnswer}
+use Rattle.runs.specs.TwoRunners.{saveAnswer}
 use Rattle.upd546.specs.TheMachine.{fresh}
 use Rattle.upd546.specs.TwoRunners.{upd546}
 use Rattle.calls.specs.Call.{BoardCall, BoardAnswer, callAnswer}
@@ -29,9 +29,3 @@ pub record Fronts (text before after : List ℕ) (r : ℕ) : Type 0 where
   pub size : r ≡ length text
   pub front : take r after ≡ text
   pub behind : drop r after ≡ drop r before
-
--- the number that the end of a run is told by: 0 stands for a finish
-abbrev pub numberTold : End → ℕ
-numberTold finished = 0
-numberTold (stopped k) = k
-numberTold (refused k) = k

@@ -1,24 +1,24 @@
 // A caller for each function that is for callers and of which no other proof needs the whole contract: what it promises, of every argument
 // of its own, follows only from that whole contract, so one that says less is refused here. `tests/callers` has the list.
 // It may not know how any of these functions goes, only definitions and contracts.
-use listing::TEXT_LENGTH as PANEL_TEXT;
-use report::TEXT_LENGTH as WAITS_TEXT;
 use runs::MachineCycles;
 use streams::Output;
+use trace_text::TEXT_LENGTH as PANEL_TEXT;
 use upd546::State;
 use waiting::Reading;
+use waits_text::TEXT_LENGTH as WAITS_TEXT;
 ghost use mathlib.Core.Path.{_≡_};
 ghost use mathlib.Core.List.{_∷_, [], _++_};
 ghost use Prim.Native.Nat.{_+_};
 ghost use lib.ListN.{length};
-ghost use Rattle.runs.specs.TwoRunners.{plain, saveAnswer, restoreAnswer};
+ghost use Rattle.runs.specs.TwoRunners.{numberOfEnd, plain, saveAnswer, restoreAnswer};
 ghost use Rattle.upd546.specs.TwoRunners.{upd546};
 ghost use Rattle.upd546.specs.Reports.{decimal, traceText};
 ghost use Rattle.waiting.specs.WaitingTimes.{startOfDay, waitingTimes};
-ghost use Rattle.report.specs.Parts.{partRead};
-ghost use Rattle.report.specs.Texts.{waitsText};
+ghost use Rattle.waits_text.specs.Parts.{partRead};
+ghost use Rattle.waits_text.specs.Texts.{waitsText};
 ghost use Rattle.streams.specs.Streams.{Wrote};
-ghost use Rattle.callers.specs.Uses.{FirstCall, TwoCalls, Fronts, numberTold};
+ghost use Rattle.callers.specs.Uses.{FirstCall, TwoCalls, Fronts};
 
 // The numbers of two calls, one after the other.
 pub struct Numbers {
@@ -62,7 +62,7 @@ pub fn two_calls(
 
 // The number of a run.
 pub fn run_number(rom: &[u8], schedule: &[u8], s: State, log: &mut [u8], n: MachineCycles) -> u8
-    ensures { λ r. ⌜ r ≡ numberTold (plain upd546 (now (rom .entry)) (now (schedule .entry)) s (now (log .entry)) (n .0) .end) ⌝ }
+    ensures { λ r. ⌜ r ≡ numberOfEnd (plain upd546 (now (rom .entry)) (now (schedule .entry)) s (now (log .entry)) (n .0) .end) ⌝ }
 {
     let answer = runner::run_plain(rom, schedule, s, log, n);
     let end = answer.end;
@@ -96,21 +96,21 @@ pub fn switch_off(s: State, buffer: &mut [u8]) -> SwitchedOff
 pub fn panel_text(input: &[u8], out: &mut [u8; PANEL_TEXT]) -> usize
     ensures { λ r. ⌜ Fronts (traceText (now (input .entry))) (now (out .entry)) (now (out .exit)) r ⌝ }
 {
-    listing::trace(input, out)
+    trace_text::trace(input, out)
 }
 
 // The first part of a log is read as a log of its own.
 pub fn first_part(part: &[u8]) -> Reading
     ensures { λ r. ⌜ r ≡ waitingTimes (now (part .entry)) startOfDay ⌝ }
 {
-    report::part_read(report::no_parts(), part)
+    waits_text::part_read(waits_text::no_parts(), part)
 }
 
 // The text for a log with its last part, and behind it what was there.
 pub fn last_part(before: Reading, part: &[u8], out: &mut [u8; WAITS_TEXT]) -> usize
     ensures { λ r. ⌜ Fronts (waitsText (partRead before (now (part .entry)))) (now (out .entry)) (now (out .exit)) r ⌝ }
 {
-    report::waits(report::part_read(before, part), out)
+    waits_text::waits(waits_text::part_read(before, part), out)
 }
 
 // The first bytes, so many, and a number with one byte behind it.

@@ -5,16 +5,10 @@ use Prim.Native.Nat.{ℕ, zero, suc, _≤_, _<_}
 use lib.ListN.{length}
 use borrow.Author.Tests.{le-leb, lt-leb}
 use Rattle.runs.specs.Machine.{Machine}
-use Rattle.runs.specs.TwoRunners.{End, finished, stopped, refused, RunAnswer, refusedRun, RestoreAnswer, saveAnswer, restoreAnswer}
+use Rattle.runs.specs.TwoRunners.{End, finished, stopped, refused, numberOfEnd, RunAnswer, refusedRun, RestoreAnswer, saveAnswer, restoreAnswer}
 use Rattle.runs.specs.Lists.{Kind, run, refusalOf, runAnswer, ChangesNothing}
 use Rattle.runs.proofs.Calls.{changes-nothing}
-use Rattle.calls.specs.Call.{BoardCall, kindOf, reportLength, countBytes, reported, onRestored, imageRun, runOf, ranCall, onEnd, callAnswer}
-
--- the number that an end is answered with
-abbrev pub numberOfEnd : End → ℕ
-numberOfEnd finished = 0
-numberOfEnd (stopped k) = k
-numberOfEnd (refused k) = k
+use Rattle.calls.specs.Call.{BoardCall, kindOf, reportLength, countBytes, reported, onRestored, imageRun, runOf, ranCall, answerAtEnd, callAnswer}
 
 -- an end that isn't a refusal
 abbrev pub NoRefusal : End → Type 0
@@ -70,7 +64,7 @@ module _ {S : Type 0} (M : Machine S) where
   -- The call.
 
   -- a run that finished or stopped is answered
-  pub ran-answer : (c : BoardCall) (e : End) (a : RunAnswer S) → NoRefusal e → onEnd M c e a ≡ ranCall M c (numberOfEnd e) a
+  pub ran-answer : (c : BoardCall) (e : End) (a : RunAnswer S) → NoRefusal e → answerAtEnd M c e a ≡ ranCall M c (numberOfEnd e) a
   ran-answer c finished a h = refl
   ran-answer c (stopped k) a h = refl
   ran-answer c (refused k) a h = absurd h
@@ -83,7 +77,7 @@ module _ {S : Type 0} (M : Machine S) where
 
   module _ (c : BoardCall) (long : reportLength ≤ length (c .report)) (a : RunAnswer S) (same : a ≡ runOf M c)
       {report : List ℕ} (counts : report ≡ reported (countBytes (a .cycles) (a .begun) (a .written) (a .steps)) (c .report)) where
-    ended : callAnswer M c ≡ onEnd M c (a .end) a
+    ended : callAnswer M c ≡ answerAtEnd M c (a .end) a
     unfolding callAnswer
     ended = rw (le-leb reportLength (length (c .report)) long, ← same)
 
@@ -97,7 +91,7 @@ module _ {S : Type 0} (M : Machine S) where
         let written : a .written ≡ 0 = ap (λ (r : RunAnswer S). r .written) same ∙ z .written in
         let steps : a .steps ≡ 0 = ap (λ (r : RunAnswer S). r .steps) same ∙ z .steps in
         let log : a .log ≡ c .log = ap (λ (r : RunAnswer S). r .log) same ∙ z .log in
-        rw (counts, cycles, begun, written, steps, log) (sym (ended ∙ ap (λ (e : End). onEnd M c e a) e))
+        rw (counts, cycles, begun, written, steps, log) (sym (ended ∙ ap (λ (e : End). answerAtEnd M c e a) e))
 
     -- a run that finished or stopped
     pub ran-call : NoRefusal (a .end) → {image : List ℕ} → image ≡ saveAnswer M (a .state) (c .image) .buffer

@@ -12,7 +12,7 @@ use lib.Seq.{take-all}
 use Rattle.runs.specs.Machine.{Machine}
 use Rattle.runs.specs.Refusals.{firstOf, unless}
 use Rattle.runs.specs.Numbers.{isStop}
-use Rattle.runs.specs.TwoRunners.{End, finished, stopped, refused, RunAnswer, SaveAnswer, endWith}
+use Rattle.runs.specs.TwoRunners.{End, finished, stopped, refused, numberOfEnd, RunAnswer, SaveAnswer, endWith}
 use Rattle.runs.specs.TwoRunners.{within, strides, runNumber, told, stepwise, plain, skipping, saveAnswer, got, restoreAnswer}
 use Rattle.runs.specs.Laws.{Bytes, ImageLaws, JumpLaws, NumberLaws, Laws}
 use Rattle.runs.specs.EveryRun.{CountsWithin, NumberTells}
@@ -23,9 +23,9 @@ use Rattle.runs.proofs.EveryRun.{runs-sound, counts-within, numbers-tell}
 use Rattle.upd546.specs.Bytes.{numberAt}
 use Rattle.laws.proofs.Digits.{bytes-back}
 use Rattle.calls.specs.Call.{BoardCall, BoardAnswer, kindOf, reportLength, countBytes, reported, longEnough, onRestored, imageRun, runOf, ranCall, onReport, callAnswer}
-use Rattle.calls.specs.EveryCall.{endBy, refusedReport, callRefusal, callNumber, EveryCallIsRefusedByNumbers, Refuses, ChangesNothing, EveryRefusalChangesNothing}
+use Rattle.calls.specs.EveryCall.{endBy, refusedReport, callRefusal, callNumber, EveryCallIsRefusedByNumbers, Refuses, CallChangesNothing, EveryRefusalChangesNothing}
 use Rattle.calls.specs.EveryCall.{TellsItsRun, EveryCallTellsItsRun, Rewrites}
-use Rattle.calls.proofs.Call.{numberOfEnd, NoRefusal, idle, ran-answer}
+use Rattle.calls.proofs.Call.{NoRefusal, idle, ran-answer}
 
 -- how a call ends: a report that is too short is refused with 1, else as the run ends
 abbrev endWithReport : Bool → End → End
@@ -62,7 +62,7 @@ module _ {S : Type 0} (M : Machine S) where
   -- WHAT A REFUSED CALL LEAVES
 
   leaves : (c : BoardCall) (b : Bool) (e : End) (a : RunAnswer S) → longEnough c ≡ b → callAnswer M c ≡ onReport M b c e a
-      → ChangesNothing M (refusalOf (endWithReport b e)) c
+      → CallChangesNothing M (refusalOf (endWithReport b e)) c
   leaves c false e a q h = record {
     number = ap (λ (z : BoardAnswer). z .number) h;
     image = ap (λ (z : BoardAnswer). z .image) h;
@@ -79,7 +79,7 @@ module _ {S : Type 0} (M : Machine S) where
     report = ap (λ (z : BoardAnswer). z .report) h ∙ ap (λ (b : Bool). refusedReport b (c .report)) (sym q);
   }
 
-  left : (c : BoardCall) → ChangesNothing M (ownRefusal c) c
+  left : (c : BoardCall) → CallChangesNothing M (ownRefusal c) c
   unfolding callAnswer
   left c = leaves c (longEnough c) (runOf M c .end) (runOf M c) refl refl
 
@@ -187,7 +187,7 @@ module _ {S : Type 0} (M : Machine S) where
   refused-by-numbers J N c = sym (own-refusal J N c) ∙ call-number M c
 
   pub changes-nothing : JumpLaws M → NumberLaws M → EveryRefusalChangesNothing M
-  changes-nothing J N c = subst (λ (k : ℕ). ChangesNothing M k c) (own-refusal J N c) (left M c)
+  changes-nothing J N c = subst (λ (k : ℕ). CallChangesNothing M k c) (own-refusal J N c) (left M c)
 
 -- "a finish or a stop rewrites it", on bytes of an image's length, whatever the log's length
 pub call-rewrites : {S : Type 0} (M : Machine S) → Laws M → NumberLaws M
@@ -247,7 +247,7 @@ module _ {S : Type 0} (M : Machine S) (L : Laws M) (N : NumberLaws M) where
   refused-tells : (c : BoardCall) (k : ℕ) → reportLength ≤ length (c .report) → ownRefusal M c ≡ suc k → TellsItsRun M c
   refused-tells c k long h =
       let enough : longEnough c ≡ true = le-leb reportLength (length (c .report)) long in
-      let same : Refuses M (suc k) c = subst (λ (j : ℕ). ChangesNothing M j c) h (left M c) in
+      let same : Refuses M (suc k) c = subst (λ (j : ℕ). CallChangesNothing M j c) h (left M c) in
       let number : refusalOf (runOf M c .end) ≡ suc k
       = sym (ap (λ (b : Bool). refusalOf (endWithReport b (runOf M c .end))) enough) ∙ h in
       let none = idle M c k (refused-end (runOf M c .end) k number) in

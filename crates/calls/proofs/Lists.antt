@@ -22,7 +22,7 @@ use Rattle.runs.proofs.Calls.{run-fit, by-number}
 use Rattle.runs.proofs.Lists.{each, keeps, advances, lists-end}
 use Rattle.upd546.specs.Bytes.{numberAt}
 use Rattle.calls.specs.Call.{BoardCall, BoardAnswer, kindOf, reportLength, reported, callAnswer}
-use Rattle.calls.specs.EveryCall.{endBy, refusedReport, callRefusal, callNumber, ChangesNothing, figureAt, TellsItsRun}
+use Rattle.calls.specs.EveryCall.{endBy, refusedReport, callRefusal, callNumber, CallChangesNothing, figureAt, TellsItsRun}
 use Rattle.calls.specs.Lists.{keepCall, callsNotRefused, PanelLent, OnOneImage, imageAfter, callLogs, figureTotal, joined, callsAsk, EveryListOnOneImageIsMeant, CallsEndAs, SameFigures, EveryListOfCallsEndsAsOneRun}
 use Rattle.calls.proofs.EveryCall.{own-refusal, refused-by-numbers, changes-nothing, through, saves-over, written, back, ran-tells}
 
@@ -238,7 +238,7 @@ module _ {S : Type 0} (M : Machine S) (L : Laws M) (N : NumberLaws M) (rom sched
 
 module _ {S : Type 0} (M : Machine S) (L : Laws M) (N : NumberLaws M) where
   -- "zeros on a refusal"
-  zeros : (c : BoardCall) (k : ℕ) → reportLength ≤ length (c .report) → ChangesNothing M (suc k) c
+  zeros : (c : BoardCall) (k : ℕ) → reportLength ≤ length (c .report) → CallChangesNothing M (suc k) c
       → callAnswer M c .report ≡ reported (replicate reportLength 0) (c .report)
   zeros c k long r = r .report ∙ ap (λ (b : Bool). refusedReport b (c .report)) (le-leb reportLength (length (c .report)) long)
 
@@ -246,7 +246,7 @@ module _ {S : Type 0} (M : Machine S) (L : Laws M) (N : NumberLaws M) where
   counts-nothing [] h = record { log = refl; cycles = refl; begun = refl }
   counts-nothing (c ∷ cs) h = go (callRefusal M c) (changes-nothing M (L .jumps) N c) (counts-nothing cs (h .1))
     where
-      go : (k : ℕ) → ChangesNothing M k c → SameFigures M cs (callsNotRefused M cs) → SameFigures M (c ∷ cs) (keepCall k c (callsNotRefused M cs))
+      go : (k : ℕ) → CallChangesNothing M k c → SameFigures M cs (callsNotRefused M cs) → SameFigures M (c ∷ cs) (keepCall k c (callsNotRefused M cs))
       go zero q r = record {
         log = ap (λ (l : List ℕ). take (figureAt M 16 c) (callAnswer M c .log) ++ l) (r .log);
         cycles = ap (λ (n : ℕ). figureAt M 0 c + n) (r .cycles);
@@ -270,7 +270,7 @@ module _ {S : Type 0} (M : Machine S) (L : Laws M) (N : NumberLaws M) where
         ends = ends M L N rom sched p s v cs r;
         nothing = counts-nothing M L N calls;
         refusals = each (λ c. callRefusal M c ≡ callNumber M c) (refused-by-numbers M (L .jumps) N) calls;
-        unchanged = each (λ c. ChangesNothing M (callRefusal M c) c) (changes-nothing M (L .jumps) N) calls;
+        unchanged = each (λ c. CallChangesNothing M (callRefusal M c) c) (changes-nothing M (L .jumps) N) calls;
         goes-on = goes-on M L N rom sched p s v cs r;
       }
 
@@ -305,7 +305,7 @@ module _ {S : Type 0} (M : Machine S) (J : JumpLaws M) (N : NumberLaws M) where
   on-one-image rom sched image (c ∷ cs) h =
       go (on-one-image rom sched (callAnswer M c .image) cs (h .1)) (callRefusal M c) (changes-nothing M J N c)
     where
-      go : OneImage rom sched (callAnswer M c .image) cs (callsNotRefused M cs) → (k : ℕ) → ChangesNothing M k c
+      go : OneImage rom sched (callAnswer M c .image) cs (callsNotRefused M cs) → (k : ℕ) → CallChangesNothing M k c
           → OneImage rom sched image (c ∷ cs) (keepCall k c (callsNotRefused M cs))
       go ih zero q = ((h .0, ih .0), ih .1)
       go ih (suc k) q =

@@ -75,15 +75,15 @@ module _ {S : Type 0} (M : Machine S) where
   refusedCall c k = record { number = k; image = c .image; log = c .log; report = reported (replicate reportLength 0) (c .report) }
 
   -- "It answers the run's number"; 0 stands for a finish
-  abbrev pub onEnd : BoardCall → End → RunAnswer S → BoardAnswer
-  onEnd c finished a = ranCall c 0 a
-  onEnd c (stopped k) a = ranCall c k a
-  onEnd c (refused k) a = refusedCall c k
+  abbrev pub answerAtEnd : BoardCall → End → RunAnswer S → BoardAnswer
+  answerAtEnd c finished a = ranCall c 0 a
+  answerAtEnd c (stopped k) a = ranCall c k a
+  answerAtEnd c (refused k) a = refusedCall c k
 
   -- "A report under 32 bytes is 1, before all else, and is not written."
   abbrev pub onReport : Bool → BoardCall → End → RunAnswer S → BoardAnswer
   onReport false c e a = record { number = 1; image = c .image; log = c .log; report = c .report }
-  onReport true c e a = onEnd c e a
+  onReport true c e a = answerAtEnd c e a
 
   -- THE BOARD'S CALL
   unfoldable pub callAnswer : BoardCall → BoardAnswer

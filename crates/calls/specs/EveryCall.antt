@@ -54,13 +54,13 @@ module _ {S : Type 0} (M : Machine S) where
     pub log : callAnswer M c .log ≡ c .log
     pub report : callAnswer M c .report ≡ refusedReport (longEnough c) (c .report)
 
-  abbrev pub ChangesNothing : ℕ → BoardCall → Type 0
-  ChangesNothing zero c = Unit {0}
-  ChangesNothing (suc k) c = Refuses (suc k) c
+  abbrev pub CallChangesNothing : ℕ → BoardCall → Type 0
+  CallChangesNothing zero c = Unit {0}
+  CallChangesNothing (suc k) c = Refuses (suc k) c
 
   -- "A refusal leaves the image"
   abbrev pub EveryRefusalChangesNothing : Type 0
-  EveryRefusalChangesNothing = (c : BoardCall) → ChangesNothing (callRefusal c) c
+  EveryRefusalChangesNothing = (c : BoardCall) → CallChangesNothing (callRefusal c) c
 
   -- WHAT A CALL TELLS OF ITS RUN
 

@@ -12,7 +12,7 @@ use Rattle.runs.specs.TwoRunners.{logBound, Ran, unbroken, restoreAnswer}
 use Rattle.runs.specs.Laws.{Panel}
 use Rattle.runs.specs.Lists.{Each}
 use Rattle.calls.specs.Call.{BoardCall, reportLength, callAnswer}
-use Rattle.calls.specs.EveryCall.{callRefusal, callNumber, ChangesNothing, figureAt}
+use Rattle.calls.specs.EveryCall.{callRefusal, callNumber, CallChangesNothing, figureAt}
 
 -- THE LISTS MEANT
 
@@ -101,7 +101,7 @@ module _ {S : Type 0} (M : Machine S) where
     pub nothing : Each (λ c. reportLength ≤ length (c .report)) calls → SameFigures calls (callsNotRefused M calls)
     -- refused are those that the documents' numbers refuse, and these change nothing
     pub refusals : Each (λ c. callRefusal M c ≡ callNumber M c) calls
-    pub unchanged : Each (λ c. ChangesNothing M (callRefusal M c) c) calls
+    pub unchanged : Each (λ c. CallChangesNothing M (callRefusal M c) c) calls
     -- "A list may go on": a sound next call isn't refused.
     pub goes-on : (c : BoardCall) → c .image ≡ imageAfter M image (callsNotRefused M calls) → PanelLent rom sched c → reportLength ≤ length (c .report)
         → M .at s + (callsAsk (callsNotRefused M calls) + c .n) ≤ cycleLimit → callRefusal M c ≡ 0

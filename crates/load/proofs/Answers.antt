@@ -3,7 +3,7 @@ use mathlib.Core.Path.{_≡_, _∙_, refl, sym, ap}
 use Prim.Native.Nat.{ℕ, zero, suc}
 use mathlib.Core.List.{List}
 use Rattle.generator.specs.Loads.{Made as Buffer}
-use Rattle.command.specs.declared.Command.{Command}
+use Rattle.load_line.specs.declared.Command.{Command}
 use Rattle.load.specs.declared.Load.{Load}
 use Rattle.load.specs.declared.Load.the-variants.{Made, Refused}
 use Rattle.load.specs.Answers.{LoadAnswer, toldAs, madeOf, loadOf}

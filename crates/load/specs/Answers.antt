@@ -4,8 +4,8 @@ use mathlib.Core.List.{List}
 use Rattle.upd546.specs.TheMachine.{romLength}
 use Rattle.upd546.specs.TheLineSchedule.{recordLength}
 use Rattle.generator.specs.Loads.{Made as Buffer, romMade, scheduleMade}
-use Rattle.command.specs.declared.Command.{Command}
-use Rattle.command.specs.declared.Command.the-variants.{Rom, Schedule, Unknown}
+use Rattle.load_line.specs.declared.Command.{Command}
+use Rattle.load_line.specs.declared.Command.the-variants.{Rom, Schedule, Unknown}
 use Rattle.load.specs.declared.Load.{Load}
 use Rattle.load.specs.declared.Load.the-variants.{Made, Refused, Neither}
 

@@ -1,7 +1,7 @@
 // Program `load`: reads a line of text from standard input, `rom SEED` or `schedule SEED M`, and writes the ROM or the schedule of that
 // seed, as bytes; a refusal as its number; of any other line nothing, and says on standard error what was expected. It may not know how
 // a line is read, nor how a load is made.
-use command::Command;
+use load_line::Command;
 use streams::Input;
 use streams::Output;
 use upd546::ROM_LENGTH;
@@ -10,7 +10,7 @@ ghost use Prim.Native.Nat.{_*_};
 ghost use Rattle.upd546.specs.TheMachine.{romLength};
 ghost use Rattle.upd546.specs.TheLineSchedule.{recordLength};
 ghost use Rattle.generator.specs.Loads.{romMade, scheduleMade};
-ghost use Rattle.command.specs.Commands.{commandOf};
+ghost use Rattle.load_line.specs.Commands.{commandOf};
 ghost use Rattle.load.specs.Answers.{madeOf, loadOf};
 
 // The bytes of a schedule's record.
@@ -56,7 +56,7 @@ fn tell(space: &[u8], bytes: usize) {
 fn make(line: &[u8], space: &mut [u8]) -> Load
     ensures { λ r. ⌜ record { load = r; space = now (space .exit) } ≡ loadOf (commandOf (now (line .entry))) (now (space .entry)) ⌝ }
 {
-    let asked = command::asked(line);
+    let asked = load_line::asked(line);
     match asked {
         Command::Rom(seed) => make_rom(seed, space),
         Command::Schedule(seed, m) => make_schedule(seed, m, space),

@@ -20,6 +20,12 @@ pub data End : Type 0 where
   stopped : ℕ → End
   refused : ℕ → End
 
+-- "unless it finished n, its number": 0 stands for a finish
+abbrev pub numberOfEnd : End → ℕ
+numberOfEnd finished = 0
+numberOfEnd (stopped k) = k
+numberOfEnd (refused k) = k
+
 -- "Each .. answers state, cycles, instructions begun, log bytes written and steps, and, unless it finished n, its number";
 -- "A run also gives clock cycles". With it the lent log as it stands when the run returns.
 pub record RunAnswer (S : Type 0) : Type 0 where

@@ -1,10 +1,10 @@
 // Runs either runner on a load of standard input, slice after slice from the fresh state, so that its speed can be measured (tests/speed).
 // It may not know how a run goes, nor the time.
-use columns::column;
-use columns::last_column;
 use libc::STDIN_FILENO;
 use libc::STDOUT_FILENO;
 use runs::MachineCycles;
+use test_stream::column;
+use test_stream::last_column;
 use upd546::ROM_LENGTH;
 use upd546::RunAnswer;
 use upd546::State;

@@ -1,12 +1,16 @@
-// What the programs of the tests share: numbers in bytes, what stands in a buffer before a call, digests, the commands of a
-// stream, what is carried from command to command, and what a list of calls comes to. The commands are told at the top of
-// tests/reference/src/bin/trials/stream.rs. It may not know how a call, a run, a save or a restore goes.
+// What the programs of the tests share: numbers in bytes and on standard output, what stands in a buffer before a call, digests, the
+// commands of a stream, what is carried from command to command, and what a list of calls comes to. The commands are told at the top
+// of tests/reference/src/bin/trials/stream.rs. It may not know how a call, a run, a save or a restore goes.
+mod columns;
 mod commands;
 mod digests;
 mod lists;
 mod numbers;
 mod sessions;
 
+pub use columns::column;
+pub use columns::last_column;
+pub use columns::number;
 pub use commands::Command;
 pub use commands::bytes;
 pub use commands::read_command;

@@ -1,6 +1,6 @@
 // What a list of calls comes to, and how many lists came to the same as the one that is remembered: the unbroken run.
-use columns::column;
-use columns::last_column;
+use crate::columns::column;
+use crate::columns::last_column;
 use std::num::wrapping_add_u64;
 
 // The sums of a list: the number of the first call that didn't finish, cycles, instructions and log bytes together, digests of the joined

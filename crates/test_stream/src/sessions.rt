@@ -1,10 +1,10 @@
 // What is carried from command to command, besides the buffers.
+use crate::columns::column;
+use crate::columns::last_column;
 use crate::commands;
 use crate::lists;
 use crate::lists::Sums;
 use crate::lists::Tally;
-use columns::column;
-use columns::last_column;
 use std::num::wrapping_add_u64;
 
 // How long ROM, schedule, image and the image that is kept are; a group's calls, how many of them were refused, and a digest of all that

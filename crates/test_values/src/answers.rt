@@ -1,12 +1,12 @@
 // What the calls answer: told in a line, chained to one digest, or summed to a list.
-use columns::column;
-use columns::last_column;
 use driver::Report;
 use test_stream::Command;
 use test_stream::Session;
 use test_stream::Sums;
+use test_stream::column;
 use test_stream::digest;
 use test_stream::digest_first;
+use test_stream::last_column;
 use test_stream::mixed;
 use test_stream::with_list;
 

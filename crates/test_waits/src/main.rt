@@ -1,11 +1,11 @@
 // Reads the logs of standard input, each from an empty report, from what the case before carried on or from a part that is given, and
 // writes a line for each: the same text that the other interpreter writes of them. It may not know how a log is read. The file and
 // the text are told at the top of tests/reference/src/bin/waits/main.rs.
-use columns::column;
-use columns::number;
 use libc::STDIN_FILENO;
 use libc::STDOUT_FILENO;
 use runs::MachineCycles;
+use test_stream::column;
+use test_stream::number;
 use waiting::Carried;
 use waiting::LANDINGS;
 use waiting::Landing;

@@ -15,6 +15,6 @@ fn main() {
 
 fn panel(input: &[u8]) {
     let mut text = io::large_buffer();
-    let size = listing::trace(input, &mut text);
+    let size = trace_text::trace(input, &mut text);
     streams::end_text(b"trace", &text[..size]);
 }

@@ -10,7 +10,7 @@ const PARTS: u64 = 0x4000_0000_0000;
 // doesn't end it: 41 comes before 42, and the log's length is known at its end.
 fn main() {
     let mut part = io::large_buffer();
-    let mut reading: Reading = report::no_parts();
+    let mut reading: Reading = waits_text::no_parts();
     let mut k = 0;
     while k < PARTS {
         let read = streams::fill(&mut part);
@@ -19,10 +19,10 @@ fn main() {
             return;
         }
         if let Input::Ended(got) = read {
-            tell(report::part_read(reading, &part[..got]));
+            tell(waits_text::part_read(reading, &part[..got]));
             return;
         }
-        reading = report::part_read(reading, &part);
+        reading = waits_text::part_read(reading, &part);
         k += 1;
     }
     streams::end_unread(b"waits");
@@ -30,6 +30,6 @@ fn main() {
 
 fn tell(reading: Reading) {
     let mut text = io::buffer();
-    let size = report::waits(reading, &mut text);
+    let size = waits_text::waits(reading, &mut text);
     streams::end_text(b"waits", &text[..size]);
 }

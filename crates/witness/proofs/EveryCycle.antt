@@ -1,28 +1,38 @@
 -- The theorems about the machine cycle, each at variables. Assumes nothing.
-use mathlib.Core.Path.{_≡_, refl, ap}
-use mathlib.Core.List.{[]}
-use Prim.Native.Nat.{ℕ, zero, suc, max, _<_}
+use mathlib.Core.Path.{_≡_, _∙_, refl, sym, ap}
+use mathlib.Core.Bool.{false}
+use mathlib.Core.List.{List, []}
+use Prim.Native.Nat.{ℕ, zero, suc, _+_, max, _<_}
 use native.Mathlib.Omega.{arith}
 use lib.Dec.{lit<, lit≤}
-use Rattle.runs.specs.TwoRunners.{Ran}
+use lib.ListN.{getD}
+use borrow.Author.Tests.{ne-eqb}
+use Rattle.runs.specs.TwoRunners.{Ran, unbroken}
 use Rattle.upd546.specs.declared.State.{State}
 use Rattle.upd546.specs.Bytes.{bitAt}
-use Rattle.upd546.specs.TheMachine.{fresh}
+use Rattle.upd546.specs.TheMachine.{byteAt, fresh}
+use Rattle.upd546.specs.Parts.{setInt, setInte}
+use Rattle.upd546.specs.TheLineSchedule.{linesAt}
 use Rattle.upd546.specs.Instructions as chip
+use Rattle.upd546.specs.Instructions.{Given, Instruction, instruction}
+use Rattle.upd546.specs.OneMachineCycle.{blocks}
+use Rattle.upd546.specs.TwoRunners.{upd546}
+use Rattle.upd546.specs.BenchCases.{from, fallAt}
 use Rattle.upd546.specs.StateImage.{stateNumber}
 use Rattle.laws.specs.Reading.{ReadsEither}
-use Rattle.laws.specs.Strings.{Stand, Passed}
-use Rattle.laws.specs.Interval.{StmDue, withoutStm}
+use Rattle.claims.specs.Strings.{Stand, Passed, FallsIn, FallKept}
+use Rattle.claims.specs.Interval.{StmDue, withoutStm}
 use Rattle.laws.proofs.Reading.{c-and-d-read-back}
-use Rattle.laws.proofs.Strings.{marks-hold-back, load-strings-hold-together}
-use Rattle.laws.proofs.Interval.{tm-set-after-stm}
+use Rattle.claims.proofs.Strings.{marks-hold-back, load-strings-hold-together}
+use Rattle.claims.proofs.Falls.{load-strings-keep-falls}
+use Rattle.claims.proofs.Interval.{tm-set-after-stm}
 use Rattle.laws.proofs.Sound.{accepted-valid, valid-accepted}
 use Rattle.laws.proofs.Cycle.{debt-small, cycle-keeps}
 use Rattle.laws.proofs.Stops.{begins-one}
 use Rattle.laws.proofs.Lines.{lines-same}
 use Rattle.laws.proofs.Timer.{register-at, position-at, tick-left, running-left}
 use Rattle.laws.proofs.Jump.{jump-unbroken, jump-in-room}
-use Rattle.witness.specs.EveryCycle.{OfEveryString, Widths, CycleFacts, loads, waits, after, CycleFigures}
+use Rattle.witness.specs.EveryCycle.{OfEveryString, OfEveryFall, Widths, CycleFacts, loads, edge, edgeAfter, waits, after, CycleFigures}
 use Rattle.witness.proofs.Opened.{opened}
 
 greater : (x y z : ℕ) → x < 2 → y < 2 → (x ≡ 1 → z ≡ 1) → (y ≡ 1 → z ≡ 1) → (x ≡ 0 → y ≡ 0 → z ≡ 0) → z ≡ max x y
@@ -61,6 +71,34 @@ string k n to s r p = record {
   int = p .int;
 }
 
+-- a mark that is none of the three
+none-blocks : (mark : ℕ) → (mark ≡ 1 → ⊥) → (mark ≡ 2 → ⊥) → (mark ≡ 4 → ⊥) → blocks mark ≡ false
+none-blocks mark a b c = rw (ne-eqb mark 1 a, ne-eqb mark 2 b, ne-eqb mark 4 c)
+
+fall : (rom sched : List ℕ) (n to : ℕ) (s : State) → FallKept rom sched n to s → OfEveryFall rom sched n to s
+fall rom sched n to s p = record {
+  number = p .behind .number;
+  cycles = p .behind .cycles;
+  pc = p .behind .pc;
+  int = p .behind .int;
+  inte = p .behind .inte;
+  held = p .behind .held;
+  accepted = λ u r e f g i t l x y.
+      let q = p .accepted (record {
+        number = g;
+        other = λ h. i (ap (λ (a : ℕ). instruction (byteAt rom a)) (sym (p .behind .pc)) ∙ h);
+        inte = ap (λ (v : State). v .core .interrupt .inte) (sym e) ∙ t;
+        mark = ap (λ (v : State). blocks (v .core .mark)) (sym e) ∙ none-blocks (u .core .mark) l x y;
+      }) in
+      let back : r ≡ unbroken upd546 rom sched (n + 1 + unbroken upd546 rom sched (n + 1) s .state .core .owed + 1) s =
+      f ∙ ap (λ (v : State). unbroken upd546 rom sched (n + 1 + v .core .owed + 1) s) e in (
+        ap (λ (a : Ran State). a .number) back ∙ q .number,
+        ap (λ (a : Ran State). a .state .core .flow .pc) back ∙ q .pc,
+        ap (λ (a : Ran State). getD (a .state .core .flow .stack) 0 0) back ∙ q .return ∙ ap (λ (v : State). v .core .flow .pc) (sym e),
+        ap (λ (a : Ran State). a .state .core .interrupt .inte) back ∙ q .inte,
+      );
+}
+
 widths : (s : State) → stateNumber s ≡ 0 → Widths s
 widths s e =
     let v = accepted-valid s e in
@@ -84,6 +122,8 @@ facts = record {
   marks = λ c. let h = marks-hold-back c in record { ldi = h .ldi; ei = h .ei; li = h .li };
   li = λ rom sched k s o m l. string _ _ _ s _ (load-strings-hold-together .li rom sched k s o m l);
   ldi = λ rom sched k s o m l. string _ _ _ s _ (load-strings-hold-together .ldi rom sched k s o m l);
+  li-falls = λ rom sched k m s o i l h f. fall rom sched _ _ s (load-strings-keep-falls .li rom sched k m s o i l h f);
+  ldi-falls = λ rom sched k m s o i l h f. fall rom sched _ _ s (load-strings-keep-falls .ldi rom sched k m s o i l h f);
   tm = λ rom sched s i k d w. let t = tm-set-after-stm rom sched s i k d w in record { cycles = t .cycles; before = t .before; from = t .from };
   accepted = widths;
   valid = valid-accepted;
@@ -110,6 +150,21 @@ ldi-stands : Stand loads chip.ldi 1 5
 unfolding opened
 ldi-stands = (refl, refl, refl, tt)
 
+edge-stands : Stand edge chip.li 2 0
+unfolding opened
+edge-stands = (refl, refl, refl, (refl, refl, refl, tt))
+
+edge-falls : FallsIn (fallAt 1) (from (setInte 1)) 1
+unfolding opened
+edge-falls = (refl, refl)
+
+-- NOP isn't TIT: it leaves an INT that is set
+nop-other : chip.nop ≡ chip.tit → ⊥
+nop-other e =
+    let g : Given = record { core = from (setInt 1) .core; after = 0; code = 0; second = 0; word = 0; lines = linesAt [] 0; ports = [] } in
+    let z : _≡_ {A = ℕ} 1 0 = ap (λ (i : Instruction). i .effect g .core .interrupt .int) e in
+    absurd (omega arith)
+
 due : StmDue waits fresh 0
 unfolding opened
 due = record { owed = refl; free = refl; code-in = refl; code = refl; second-in = refl; operand = refl }
@@ -119,10 +174,17 @@ unfolding opened withoutStm
 figures =
     let li = facts .li loads [] 2 (after loads 1) refl refl li-stands in
     let ldi = facts .ldi loads [] 1 (after loads 5) refl refl ldi-stands in
+    let kept = facts .li-falls edge (fallAt 1) 2 1 (from (setInte 1)) refl refl edge-stands (lit< tt) edge-falls in
+    let accepted =
+    kept .accepted (edgeAfter 3) (unbroken upd546 edge (fallAt 1) 4 (from (setInte 1))) refl refl refl nop-other refl
+    (λ e. omega arith) (λ e. omega arith) (λ e. omega arith) in
     record {
       li-9 = ap (λ (r : Ran State). r .state .core .registers .acc) (li .whole);
       ldi-45 = ap (λ (r : Ran State). r .state .core .registers .dpl) (ldi .whole);
       ldi-begun = ap (λ (r : Ran State). r .begun) (ldi .whole);
+      edge-kept = kept .int;
+      edge-accepted = accepted .1;
+      edge-return = accepted .2;
       tm-before = facts .tm waits [] fresh 0 62 due refl .before (lit< tt);
       tm-from = facts .tm waits [] fresh 0 63 due refl .from (lit≤ tt);
     }

@@ -12,7 +12,7 @@ use Rattle.waiting.proofs.EveryLog.{every-rise-is-a-wait, read-on-as-joined, on
 use Rattle.waiting.proofs.EveryList.{reports-as-one-run}
 use Rattle.switch_offs.proofs.EveryList.{every-list-reports-as-one-run}
 use Rattle.switch_offs.proofs.EveryListOfCalls.{calls-report-as-one-run, every-list-of-calls-reports-as-one-run}
-use Rattle.report.proofs.Parts.{parts-read-as-one}
+use Rattle.waits_text.proofs.Parts.{parts-read-as-one}
 use Rattle.generator.proofs.EveryLoad.{every-schedule, every-rom, every-load, every-beginning}
 use Rattle.witness.specs.EveryLog.{EveryDay, EveryCallDay, LogFacts}
 use Rattle.witness.proofs.Waits.{each}

@@ -25,7 +25,7 @@ use Rattle.waiting.proofs.EveryLog.{every-rise-is-a-wait, read-on-as-joined, on
 use Rattle.switch_offs.specs.EveryListOfCalls.{CallsReportAsOneRun}
 use Rattle.switch_offs.proofs.EveryList.{every-list-reports-as-one-run}
 use Rattle.switch_offs.proofs.EveryListOfCalls.{every-list-of-calls-reports-as-one-run}
-use Rattle.report.proofs.Parts.{parts-read-as-one}
+use Rattle.waits_text.proofs.Parts.{parts-read-as-one}
 use Rattle.witness.specs.Waits.{lampsAt, calling, coming, wide, called, lampRom, lit, keptLit, lampCalls, firstLamp, secondLamp, lampBoard, WaitFigures}
 use Rattle.witness.proofs.Opened.{opened}
 use Rattle.witness.proofs.Calls.{sound}

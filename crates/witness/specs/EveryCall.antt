@@ -25,7 +25,7 @@ use Rattle.driver.specs.declared.KeptMachine.{KeptMachine}
 use Rattle.driver.specs.declared.Report.{Report}
 use Rattle.driver.specs.Lending.{broughtTo}
 use Rattle.calls.specs.Call.{BoardCall, runOf, callAnswer}
-use Rattle.calls.specs.EveryCall.{endBy, callRefusal, callNumber, ChangesNothing, Rewrites}
+use Rattle.calls.specs.EveryCall.{endBy, callRefusal, callNumber, CallChangesNothing, Rewrites}
 use Rattle.calls.specs.Lists.{PanelLent, callsNotRefused, OnOneImage, imageAfter, callsAsk, SameFigures, CallsEndAsOneRun}
 
 -- RUNS
@@ -89,7 +89,7 @@ pub record RunTold (c : BoardCall) : Type 0 where
 pub record OfEveryCall (c : BoardCall) : Type 0 where
   -- `EveryCallIsRefusedByNumbers`, `EveryRefusalChangesNothing`
   pub refused-by : callRefusal upd546 c ≡ callNumber upd546 c
-  pub unchanged : ChangesNothing upd546 (callRefusal upd546 c) c
+  pub unchanged : CallChangesNothing upd546 (callRefusal upd546 c) c
   -- `EveryFinishOrStopRewrites`
   pub rewrites : Bytes (c .rom) → Bytes (c .sched) → callRefusal upd546 c ≡ 0 → Rewrites upd546 c
   pub told : length (c .log) < 2 ^ 64 → 32 ≤ length (c .report) → RunTold c
@@ -154,7 +154,7 @@ pub record OfAnyMachine {S : Type 0} (M : Machine S) : Type 0 where
   pub tells-run : Laws M → NumberLaws M → (c : BoardCall) → length (c .log) < 2 ^ 64 → 32 ≤ length (c .report)
       → endBy (callAnswer M c .number) ≡ runOf M c .end
   pub refused-by : JumpLaws M → NumberLaws M → (c : BoardCall) → callRefusal M c ≡ callNumber M c
-  pub unchanged : JumpLaws M → NumberLaws M → (c : BoardCall) → ChangesNothing M (callRefusal M c) c
+  pub unchanged : JumpLaws M → NumberLaws M → (c : BoardCall) → CallChangesNothing M (callRefusal M c) c
 
 -- What these ask of a machine, and nothing else: the laws, each made of all that it says.
 pub record OfEveryLaw {S : Type 0} (M : Machine S) : Type 0 where

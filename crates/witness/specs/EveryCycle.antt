@@ -16,19 +16,21 @@ use Rattle.upd546.specs.declared.State.{State}
 use Rattle.upd546.specs.declared.Timer.{Timer}
 use Rattle.upd546.specs.Bytes.{bitAt}
 use Rattle.upd546.specs.TheMachine.{past, fresh}
+use Rattle.upd546.specs.Parts.{setInte}
 use Rattle.upd546.specs.TheLineSchedule.{linesAt, noRecord}
 use Rattle.upd546.specs.Timer.{tick, registerAfter, positionOf, ticksLeft}
 use Rattle.upd546.specs.Ports.{latchOf, readPort}
 use Rattle.upd546.specs.Instructions as chip
+use Rattle.upd546.specs.Instructions.{instruction}
 use Rattle.upd546.specs.OneMachineCycle.{accepts, cycle}
 use Rattle.upd546.specs.StateImage.{stateNumber}
-use Rattle.upd546.specs.BenchCases.{romAt}
+use Rattle.upd546.specs.BenchCases.{romAt, from, fallAt}
 use Rattle.upd546.specs.TwoRunners.{upd546, panelNumber, jumpLength}
 use Rattle.laws.specs.Timer.{timerLeft}
 use Rattle.laws.specs.Jump.{stateAfterJump}
 use Rattle.laws.specs.Valid.{Valid}
-use Rattle.laws.specs.Strings.{Stand}
-use Rattle.laws.specs.Interval.{StmDue, withoutStm}
+use Rattle.claims.specs.Strings.{Stand, FallsIn}
+use Rattle.claims.specs.Interval.{StmDue, withoutStm}
 
 -- R-2, `CAndDReadBack`: a bit of C or D is the greater of line and latch
 pub record OfEveryPort (l : Lines) (ports : List ℕ) : Type 0 where
@@ -71,6 +73,22 @@ passedLoads k n to s t = record {
 pub record OfEveryString (k n to : ℕ) (s : State) (r : Ran State) : Type 0 where
   pub whole : r ≡ passedLoads k n to s (r .state)
   pub int : s .core .interrupt .int ≡ 1 → r .state .core .interrupt .int ≡ 1
+
+-- R-5, `LoadStringsKeepFalls`: INT at the boundary behind the string, in n cycles from s, and where the run goes on from there: the
+-- next cycle begins an instruction that isn't TIT, with INTE 1 and none of the marks LDI, EI and LI behind it
+pub record OfEveryFall (rom sched : List ℕ) (n to : ℕ) (s : State) : Type 0 where
+  pub number : unbroken upd546 rom sched n s .number ≡ none
+  pub cycles : unbroken upd546 rom sched n s .cycles ≡ n
+  pub pc : unbroken upd546 rom sched n s .state .core .flow .pc ≡ to
+  pub int : unbroken upd546 rom sched n s .state .core .interrupt .int ≡ 1
+  pub inte : unbroken upd546 rom sched n s .state .core .interrupt .inte ≡ s .core .interrupt .inte
+  pub held : accepts (unbroken upd546 rom sched n s .state .core) ≡ false
+  pub accepted : (u : State) (r : Ran State) → u ≡ unbroken upd546 rom sched (n + 1) s .state
+      → r ≡ unbroken upd546 rom sched (n + 1 + u .core .owed + 1) s → unbroken upd546 rom sched (n + 1) s .number ≡ none
+      → (instruction (getD rom to 0) ≡ chip.tit → ⊥) → u .core .interrupt .inte ≡ 1
+      → (u .core .mark ≡ 1 → ⊥) → (u .core .mark ≡ 2 → ⊥) → (u .core .mark ≡ 4 → ⊥)
+      → (r .number ≡ none) × (r .state .core .flow .pc ≡ 0x03C) × (getD (r .state .core .flow .stack) 0 0 ≡ u .core .flow .pc)
+      × (r .state .core .interrupt .inte ≡ 0)
 
 -- "TM is set 63(I + 1) cycles after STM's end.": `TmIsSetAfterStm`
 pub record OfEveryStm (i k : ℕ) (r : Ran State) : Type 0 where
@@ -118,6 +136,12 @@ pub record CycleFacts : Type 0 where
       → OfEveryString k (1 * k) (past (1 * k) (s .core .flow .pc)) s (unbroken upd546 rom sched (1 * k) s)
   pub ldi : (rom sched : List ℕ) (k : ℕ) (s : State) → s .core .owed ≡ 0 → s .core .mark ≡ 1 → Stand rom chip.ldi k (s .core .flow .pc)
       → OfEveryString k (2 * k) (past (2 * k) (s .core .flow .pc)) s (unbroken upd546 rom sched (2 * k) s)
+  pub li-falls : (rom sched : List ℕ) (k m : ℕ) (s : State) → s .core .owed ≡ 0 → s .core .interrupt .int ≡ 0
+      → Stand rom chip.li k (s .core .flow .pc) → m < 1 * k → FallsIn sched s m
+      → OfEveryFall rom sched (1 * k) (past (1 * k) (s .core .flow .pc)) s
+  pub ldi-falls : (rom sched : List ℕ) (k m : ℕ) (s : State) → s .core .owed ≡ 0 → s .core .interrupt .int ≡ 0
+      → Stand rom chip.ldi k (s .core .flow .pc) → m < 2 * k → FallsIn sched s m
+      → OfEveryFall rom sched (2 * k) (past (2 * k) (s .core .flow .pc)) s
   pub tm : (rom sched : List ℕ) (s : State) (i k : ℕ) → StmDue rom s i → withoutStm rom sched k (unbroken upd546 rom sched 2 s .state) ≡ true
       → OfEveryStm i k (unbroken upd546 rom sched (2 + k) s)
   -- `accepted-valid`, `valid-accepted`, `cycle-keeps`, `begins-one`
@@ -140,11 +164,18 @@ pub record CycleFacts : Type 0 where
   pub jump-in-room : (rom sched : List ℕ) (s : State) (left j : ℕ) → jumpLength rom sched s left ≡ j → (j ≡ 0 → ⊥) → Valid s → (room : ℕ)
       → within upd546 rom sched room j s ≡ jumped j s
 
--- IN FIGURES: the premises of three of them, as they are met
+-- IN FIGURES: the premises of four of them, as they are met
 
 -- LI 9, LI 2, LI 5, and from 003 on LDI 45, LDI 67
 abbrev pub loads : List ℕ
 loads = romAt 0 (0x99 ∷ 0x92 ∷ 0x95 ∷ 0x15 ∷ 0x45 ∷ 0x15 ∷ 0x67 ∷ [])
+
+-- LI 5, LI 9 and NOPs, with INTE 1; INT falls between the two, in cycle 1
+abbrev pub edge : List ℕ
+edge = romAt 0 (0x95 ∷ 0x99 ∷ [])
+
+abbrev pub edgeAfter : ℕ → State
+edgeAfter n = unbroken upd546 edge (fallAt 1) n (from (setInte 1)) .state
 
 -- STM 80, and a JCP to itself
 abbrev pub waits : List ℕ
@@ -159,6 +190,10 @@ pub record CycleFigures : Type 0 where
   pub li-9 : unbroken upd546 loads [] 2 (after loads 1) .state .core .registers .acc ≡ 9
   pub ldi-45 : unbroken upd546 loads [] 2 (after loads 5) .state .core .registers .dpl ≡ 5
   pub ldi-begun : unbroken upd546 loads [] 2 (after loads 5) .begun ≡ 1
+  -- kept behind LI 9, and accepted behind the NOP at 002
+  pub edge-kept : edgeAfter 2 .core .interrupt .int ≡ 1
+  pub edge-accepted : edgeAfter 4 .core .flow .pc ≡ 0x03C
+  pub edge-return : getD (edgeAfter 4 .core .flow .stack) 0 0 ≡ 3
   -- I = 0
   pub tm-before : after waits 64 .core .timer .tm ≡ 0
   pub tm-from : after waits 65 .core .timer .tm ≡ 1

@@ -24,7 +24,7 @@ use Rattle.waiting.specs.Growth.{CarriedGrown}
 use Rattle.waiting.specs.EveryLog.{lampsLit, landingOf, waitsOf, FiguresWithin}
 use Rattle.waiting.specs.EveryList.{AllAccepted, carriedOn, listLogs, ReportsAsOneRun, EveryListReportsAsOneRun}
 use Rattle.switch_offs.specs.EveryListOfCalls.{CallsReportAsOneRun}
-use Rattle.report.specs.Parts.{noParts, partRead, partsRead, joinedParts, WholeParts}
+use Rattle.waits_text.specs.Parts.{noParts, partRead, partsRead, joinedParts, WholeParts}
 use Rattle.generator.specs.Loads.{romOf, scheduleOf}
 
 -- R-1, of every log and all that may be carried

@@ -19,7 +19,7 @@ use Rattle.waiting.specs.declared.Reading.{Reading}
 use Rattle.waiting.specs.WaitingTimes.{noWaits, startOfDay, carriedAfter, recordHere, carriedNumber, refusedWith, waitingTimes}
 use Rattle.waiting.specs.EveryLog.{landingOf, waitsOf}
 use Rattle.waiting.specs.EveryList.{AllAccepted, carriedOn, listLogs}
-use Rattle.report.specs.Parts.{noParts, partRead, partsRead}
+use Rattle.waits_text.specs.Parts.{noParts, partRead, partsRead}
 
 -- A LOG
 

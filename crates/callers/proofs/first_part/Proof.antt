@@ -2,7 +2,7 @@
 use mathlib.Core.Path.{_∙_, ap}
 use denote.Ref.{now}
 use Rattle.waiting.specs.declared.Reading.{Reading}
-use Rattle.report.specs.Parts.{partRead}
+use Rattle.waits_text.specs.Parts.{partRead}
 use Rattle.callers.proofs.Uses.{first-read}
 use borrow.Author.Needs.{needs}
 use Rattle.callers.proofs.first_part.Statement.{statement}
