@@ -110,8 +110,9 @@ pub extern "C" fn wharfnettle_convert(from: &[u8], to: &mut [u8], version: u64) 
     let restored = restore::restore(from);
     let outcome = restored.outcome;
     let state = restored.state;
-    if let Outcome::Refused(why) = outcome {
-        return runs::refusal_number(why);
+    let number = runs::outcome_number(outcome);
+    if number != 0 {
+        return number;
     }
     if version == 1 {
         return runs::outcome_number(save::save(state, Version::One, to));

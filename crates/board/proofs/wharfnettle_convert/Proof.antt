@@ -5,62 +5,56 @@ use mathlib.Core.Option.{Option}
 use Prim.Native.Nat.{ℕ}
 use denote.Ref.{now}
 use Rattle.runs.specs.declared.Version.{Version}
-use Rattle.runs.specs.declared.Outcome.{Outcome}
-use Rattle.runs.specs.Numbers.{refusalNumber}
+use Rattle.runs.specs.TwoRunners.{restoreAnswer}
 use Rattle.runs.specs.Versions.{versionNamed, saveWanted, convertAnswer}
-use Rattle.runs.proofs.Refusals.{refusal-some}
 use Rattle.runs.proofs.Versions.{unnamed, convert-refused, converts}
-use Rattle.upd546.specs.TwoRunners.{upd546, restoreOf}
+use Rattle.upd546.specs.declared.State.{State}
+use Rattle.upd546.specs.TwoRunners.{upd546}
 use borrow.Author.Needs.{needs}
 use Rattle.board.proofs.wharfnettle_convert.Statement.{statement}
 use Rattle.board.proofs.wharfnettle_convert.Tie as tie
 
--- where the image is restored, the conversion is a save of its state
-abbrev entry : tie.After-enum-told → tie.Start
-entry c = c .before .before .before .before .before .before
+-- where the number of the restore is known
+abbrev entry : tie.After-outcome-number → tie.Start
+entry c = c .before .before .before .before .before
 
-abbrev from : tie.After-enum-told → List ℕ
+abbrev from : tie.After-outcome-number → List ℕ
 from c = now (entry c .args .from)
 
-abbrev to : tie.After-enum-told → List ℕ
+abbrev to : tie.After-outcome-number → List ℕ
 to c = now (entry c .args .to)
 
-restored : (c : tie.After-enum-told) → convertAnswer upd546 (from c) (to c) (entry c .args .version)
-    ≡ saveWanted upd546 (versionNamed (entry c .args .version)) (c .before .before .before .restore .result .state) (to c)
+abbrev state : tie.After-outcome-number → State
+state c = c .before .before .restore .result .state
+
+restored : (c : tie.After-outcome-number) → restoreAnswer upd546 (from c) ≡ record { number = c .outcome-number .result; state = state c }
 restored c =
-    let at-restore = c .before .before .before in
-    let state = at-restore .restore .result .state in
-    converts upd546 (from c) (to c) state (entry c .args .version)
-    (sym (at-restore .restore .ensures) ∙ ap (λ (o : Outcome). restoreOf (record { outcome = o; state = state })) (c .enum-told .given .1))
+    sym (c .before .before .restore .ensures) ∙ ap (λ (k : ℕ). record { number = k; state = state c }) (sym (c .outcome-number .ensures))
+
+-- where it is 0, the conversion is a save of the state
+converted : (c : tie.Else1) → convertAnswer upd546 (from (c .before)) (to (c .before)) (entry (c .before) .args .version)
+    ≡ saveWanted upd546 (versionNamed (entry (c .before) .args .version)) (state (c .before)) (to (c .before))
+converted c =
+    let at = c .before in
+    converts upd546 (from at) (to at) (state at) (entry at .args .version)
+    (restored at ∙ ap (λ (k : ℕ). record { number = k; state = state at }) (c .if1 .left))
 
 restore-requires : tie.Need-restore-requires
 restore-requires c κs = search needs
 
-enum-known-outcome : tie.Need-enum-known-outcome
-enum-known-outcome c = search needs
-
-refusal-number-requires : tie.Need-refusal-number-requires
-refusal-number-requires c κs = search needs
+outcome-number-requires : tie.Need-outcome-number-requires
+outcome-number-requires c κs = search needs
 
 returns : tie.Need-returns
 returns c =
-    let at-outcome = c .before .before in
-    let at-restore = at-outcome .before .before .before in
-    let a = at-restore .before .before .before .args in
-    let w = at-outcome .outcome .given in
-    let state = at-restore .restore .result .state in
-    rw (c .refusal-number .ensures)
-    (sym (convert-refused upd546 (now (a .from)) (now (a .to)) (refusalNumber (w .0 .0)) state (a .version)
-    (sym (at-restore .restore .ensures) ∙ ap (λ (o : Outcome). restoreOf (record { outcome = o; state = state })) (w .1)) (refusal-some (w .0 .0))))
-
-enum-told : tie.Need-enum-told
-enum-told c = search needs
+    let at = c .before in
+    sym (convert-refused upd546 (from at) (to at) (at .outcome-number .result) (state at) (entry at .args .version) (restored at) (c .if1 .taken))
 
 save-requires : tie.Need-save-requires
 save-requires c κs = search needs
 
-outcome-number-requires : tie.Need-outcome-number-requires
-outcome-number-requires c κs = search needs
+outcome-number-requires-2 : tie.Need-outcome-number-requires-2
+outcome-number-requires-2 c κs = search needs
 
 same-length : tie.Need-same-length
 same-length c = search needs
@@ -68,17 +62,17 @@ same-length c = search needs
 returns-2 : tie.Need-returns-2
 returns-2 c =
     let at-save = c .before .before .before in
-    let at-if1 = at-save .before .before in
-    let at-told = at-if1 .before in
-    let state = at-told .before .before .before .restore .result .state in
-    rw (c .outcome-number .ensures)
-    (at-save .save .ensures ∙ sym (restored at-told ∙ ap (λ (k : ℕ). saveWanted upd546 (versionNamed k) state (to at-told)) (at-if1 .if1 .taken)))
+    let at-if2 = at-save .before .before in
+    let at-if1 = at-if2 .before in
+    let at = at-if1 .before in
+    rw (c .outcome-number2 .ensures)
+    (at-save .save .ensures ∙ sym (converted at-if1 ∙ ap (λ (k : ℕ). saveWanted upd546 (versionNamed k) (state at) (to at)) (at-if2 .if2 .taken)))
 
 save-requires-2 : tie.Need-save-requires-2
 save-requires-2 c κs = search needs
 
-outcome-number-requires-2 : tie.Need-outcome-number-requires-2
-outcome-number-requires-2 c κs = search needs
+outcome-number-requires-3 : tie.Need-outcome-number-requires-3
+outcome-number-requires-3 c κs = search needs
 
 same-length-2 : tie.Need-same-length-2
 same-length-2 c = search needs
@@ -86,40 +80,38 @@ same-length-2 c = search needs
 returns-3 : tie.Need-returns-3
 returns-3 c =
     let at-save = c .before .before .before in
-    let at-if2 = at-save .before .before in
-    let at-told = at-if2 .before .before in
-    let state = at-told .before .before .before .restore .result .state in
-    rw (c .outcome-number2 .ensures)
-    (at-save .save2 .ensures ∙ sym (restored at-told ∙ ap (λ (k : ℕ). saveWanted upd546 (versionNamed k) state (to at-told)) (at-if2 .if2 .taken)))
+    let at-if3 = at-save .before .before in
+    let at-if1 = at-if3 .before .before in
+    let at = at-if1 .before in
+    rw (c .outcome-number3 .ensures)
+    (at-save .save2 .ensures ∙ sym (converted at-if1 ∙ ap (λ (k : ℕ). saveWanted upd546 (versionNamed k) (state at) (to at)) (at-if3 .if3 .taken)))
 
-refusal-number-requires-2 : tie.Need-refusal-number-requires-2
-refusal-number-requires-2 c κs = search needs
+refusal-number-requires : tie.Need-refusal-number-requires
+refusal-number-requires c κs = search needs
 
 returns-4 : tie.Need-returns-4
 returns-4 c =
-    let at-if2 = c .before in
-    let at-told = at-if2 .before .before in
-    let state = at-told .before .before .before .restore .result .state in
-    rw (c .refusal-number2 .ensures)
-    (sym (restored at-told
-    ∙ ap (λ (v : Option Version). saveWanted upd546 v state (to at-told)) (unnamed (entry at-told .args .version) (at-if2 .before .if1 .left) (at-if2 .if2 .left))))
+    let at-if3 = c .before in
+    let at-if2 = at-if3 .before in
+    let at-if1 = at-if2 .before in
+    let at = at-if1 .before in
+    let none-such = unnamed (entry at .args .version) (at-if2 .if2 .left) (at-if3 .if3 .left) in
+    rw (c .refusal-number .ensures) (sym (converted at-if1 ∙ ap (λ (v : Option Version). saveWanted upd546 v (state at) (to at)) none-such))
 
 pub wharfnettle-convert-spec : {M : Type 1} → statement M
 wharfnettle-convert-spec =
     tie.close
     (tie.spec
     restore-requires
-    enum-known-outcome
-    refusal-number-requires
-    returns
-    enum-told
-    save-requires
     outcome-number-requires
+    returns
+    save-requires
+    outcome-number-requires-2
     same-length
     returns-2
     save-requires-2
-    outcome-number-requires-2
+    outcome-number-requires-3
     same-length-2
     returns-3
-    refusal-number-requires-2
+    refusal-number-requires
     returns-4)
