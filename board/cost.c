@@ -104,6 +104,13 @@ static uint8_t stack[STACK];
 
 static void nothing(void) {}
 
+static void convert(void)
+{
+    static uint8_t old[WHARFNETTLE_OLD_IMAGE], again[WHARFNETTLE_IMAGE];
+    wharfnettle_convert(image, sizeof image, old, sizeof old, 1);
+    wharfnettle_convert(old, sizeof old, again, sizeof again, 2);
+}
+
 /* The bytes of a stack of its own that a function touches. */
 static size_t depth_of(void (*function)(void))
 {
@@ -126,13 +133,16 @@ static int print_stack(void)
     uint64_t drawn = 1;
     for (int round = 0; round < 2000; round++) {
         begin(blink, sizeof blink, (size_t)(round % 50), (uint64_t)round);
+        for (size_t k = 9; round % 4 == 1 && k < schedule_length; k += 10)
+            schedule[k] = k % 60 < 50; /* RES is high for five cycles of six */
         if (round % 3)
             for (size_t k = 0; k < sizeof rom; k++)
                 rom[k] = (uint8_t)((drawn = drawn * 6364136223846793005 + 1442695040888963407) >> 56);
         for (runner = 0; runner < 2; runner++)
             for (n = 0; n <= SLICE; n += SLICE) {
-                size_t depth = depth_of(call);
+                size_t depth = depth_of(call), other = depth_of(convert);
                 deepest = depth > deepest ? depth : deepest;
+                deepest = other > deepest ? other : deepest;
             }
     }
     size_t taken = deepest > base ? deepest - base : 0;

@@ -1,5 +1,6 @@
 /* A board's program in small: the call lamp of samples/lamp.panel in slices of 50 machine cycles, with the building switched off after each
-   of them; a panel that stops; and what a damaged image answers. example.out has what it prints. */
+   of them; the same lamp, reset from the machine room; a panel that stops; what a damaged image answers; and an image from before there was
+   a reset, taken forward and back. example.out has what it prints. */
 #include <inttypes.h>
 #include <stdio.h>
 #include <string.h>
@@ -19,6 +20,14 @@ static const uint8_t lamp_schedule[] = {
     0, 0, 0, 0, 0, 106, 0x00, 0, 1, 0,
 };
 
+/* The button is pressed at cycle 20 and let go at 26. RES is high from 50 on for six cycles. */
+static const uint8_t reset_schedule[] = {
+    0, 0, 0, 0, 0, 20, 0x10, 0, 1, 0,
+    0, 0, 0, 0, 0, 26, 0x00, 0, 1, 0,
+    0, 0, 0, 0, 0, 50, 0x00, 0, 1, 1,
+    0, 0, 0, 0, 0, 56, 0x00, 0, 1, 0,
+};
+
 /* OCD A5, LI 3, OE, and code 1C, which is no instruction. */
 static const uint8_t stopping_rom[WHARFNETTLE_ROM] = {0x1E, 0xA5, 0x93, 0x44, 0x1C};
 
@@ -30,7 +39,10 @@ static void print_call(const uint8_t *log, const uint8_t *report, uint8_t number
         uint64_t cycle = 0;
         for (int k = 0; k < 6; k++)
             cycle = cycle << 8 | record[k];
-        printf("  cycle %" PRIu64 ": port %c = %X\n", cycle, 'A' + record[6], record[7]);
+        if (record[6])
+            printf("  cycle %" PRIu64 ": port %c = %X\n", cycle, 'A' + record[6], record[7]);
+        else
+            printf("  cycle %" PRIu64 ": reset\n", cycle);
     }
     printf("  number %d: cycles %" PRIu64 ", instructions %" PRIu64 ", log bytes %" PRIu64 ", steps %" PRIu64 "\n", number,
            wharfnettle_count(report, WHARFNETTLE_CYCLES), wharfnettle_count(report, WHARFNETTLE_INSTRUCTIONS), bytes,
@@ -66,6 +78,20 @@ static void slices(void)
     printf("the images are %s\n", memcmp(image, kept, sizeof image) ? "NOT the same" : "the same");
 }
 
+/* A switch-off after two cycles with RES high: the image has their count, and the reset comes in the fourth. */
+static void resets(void)
+{
+    uint8_t image[WHARFNETTLE_IMAGE], log[WHARFNETTLE_LOG(52)], report[WHARFNETTLE_REPORT];
+    wharfnettle_fresh(image, sizeof image);
+    for (int k = 0; k < 2; k++) {
+        uint8_t number = wharfnettle_call(image, sizeof image, lamp_rom, sizeof lamp_rom, reset_schedule, sizeof reset_schedule,
+                                          log, sizeof log, 52, 1, report, sizeof report);
+        printf("52 cycles\n");
+        print_call(log, report, number);
+        printf("  RES was high for %d cycles on end\n", image[WHARFNETTLE_IMAGE - 1]);
+    }
+}
+
 /* A panel that stops for want of log, goes on with a new one, and stops at a code that is no instruction. */
 static void stops(void)
 {
@@ -91,17 +117,39 @@ static void damaged(const char *what, size_t length, size_t at, uint8_t byte)
            memcmp(before, image, sizeof image) ? "changed" : "as it was", wharfnettle_count(report, WHARFNETTLE_CYCLES));
 }
 
+/* A board from before there was a reset has images of version 1. One is taken forward, runs, and goes back. */
+static void converted(void)
+{
+    uint8_t old[WHARFNETTLE_OLD_IMAGE], back[WHARFNETTLE_OLD_IMAGE], image[WHARFNETTLE_IMAGE], log[WHARFNETTLE_LOG(10)];
+    uint8_t report[WHARFNETTLE_REPORT];
+    wharfnettle_fresh(image, sizeof image);
+    printf("back to version 1: %d\n", wharfnettle_convert(image, sizeof image, old, sizeof old, 1));
+    uint8_t number = wharfnettle_call(old, sizeof old, lamp_rom, sizeof lamp_rom, NULL, 0, log, sizeof log, 10, 0, report, sizeof report);
+    printf("a call on version 1: %d\n", number);
+    printf("forward to version 2: %d\n", wharfnettle_convert(old, sizeof old, image, sizeof image, 2));
+    number = wharfnettle_convert(image, sizeof image, back, sizeof back, 1);
+    printf("and back: %d, the images are %s\n", number, memcmp(old, back, sizeof old) ? "NOT the same" : "the same");
+    image[WHARFNETTLE_IMAGE - 1] = 2;
+    printf("back with a count of 2: %d\n", wharfnettle_convert(image, sizeof image, back, sizeof back, 1));
+    printf("forward to 81 bytes: %d\n", wharfnettle_convert(old, sizeof old, image, sizeof image - 1, 2));
+    printf("to version 3: %d\n", wharfnettle_convert(old, sizeof old, image, sizeof image, 3));
+}
+
 int main(void)
 {
     slices();
+    resets();
     stops();
-    damaged("a sound image", 81, 14, 15);
-    damaged("an image of 80 bytes", 80, 14, 15);
-    damaged("an image of 82 bytes", 82, 14, 15);
-    damaged("an image that begins with u43", 81, 0, 'u');
-    damaged("an image of version 2", 81, 4, 2);
-    damaged("an image with an Acc of 16", 81, 14, 16);
-    damaged("an image with mark 4, that of LI", 81, 16, 4);
-    damaged("an image with a mark of 5", 81, 16, 5);
+    damaged("a sound image", 82, 14, 15);
+    damaged("an image of 81 bytes", 81, 14, 15);
+    damaged("an image of 83 bytes", 83, 14, 15);
+    damaged("an image that begins with u43", 82, 0, 'u');
+    damaged("an image of version 1 with 82 bytes", 82, 4, 1);
+    damaged("an image with an Acc of 16", 82, 14, 16);
+    damaged("an image with mark 4, that of LI", 82, 16, 4);
+    damaged("an image with a mark of 5", 82, 16, 5);
+    damaged("an image with a count of 4", 82, 81, 4);
+    damaged("an image with a count of 5", 82, 81, 5);
+    converted();
     return 0;
 }

@@ -12,11 +12,11 @@
 #include "wharfnettle.h"
 
 enum { PAGE = 4096, GUARD = 64, GUARDS = 0xA5, LONGEST = 1 << 16 };
-enum { FRESH = 1, NEW_ROM = 2, NEW_SCHEDULE = 4, NULLS = 8 };
+enum { FRESH = 1, NEW_ROM = 2, NEW_SCHEDULE = 4, NULLS = 8, CONVERT = 16 };
 enum { IMAGE, ROM, SCHEDULE, LOG, REPORT, PARTS };
 
 static const char *const names[PARTS] = {"image", "ROM", "schedule", "log", "report"};
-static const uint8_t numbers[] = {0, 1, 2, 3, 11, 12, 13, 14, 21, 22, 23, 31, 32, 33, 34};
+static const uint8_t numbers[] = {0, 1, 2, 3, 11, 12, 13, 14, 21, 22, 23, 31, 32, 33, 34, 54};
 
 /* A part of a call. */
 struct part {
@@ -123,13 +123,20 @@ static unsigned one_call(void)
     for (int k = 0; k < PARTS; k++)
         put(&parts[k], (place >> k) % 2 == 0, (flags & NULLS) != 0);
 
-    uint8_t number = flags & FRESH ? wharfnettle_fresh(image->bytes, image->length)
-                                   : wharfnettle_call(image->bytes, image->length, rom->bytes, rom->length, schedule->bytes,
-                                                      schedule->length, log->bytes, log->length, n, runner, report->bytes,
-                                                      report->length);
+    const char *name = "wharfnettle_call";
+    uint8_t number;
+    if (flags & FRESH) {
+        name = "wharfnettle_fresh";
+        number = wharfnettle_fresh(image->bytes, image->length);
+    } else if (flags & CONVERT) {
+        name = "wharfnettle_convert";
+        number = wharfnettle_convert(image->bytes, image->length, report->bytes, report->length, n);
+    } else {
+        number = wharfnettle_call(image->bytes, image->length, rom->bytes, rom->length, schedule->bytes, schedule->length, log->bytes,
+                                  log->length, n, runner, report->bytes, report->length);
+    }
     if (number != due)
-        fail("%s, an image of %zu bytes: the number is %u, due %u", flags & FRESH ? "wharfnettle_fresh" : "wharfnettle_call",
-             image->length, number, (unsigned)due);
+        fail("%s, an image of %zu bytes: the number is %u, due %u", name, image->length, number, (unsigned)due);
     for (int k = 0; k < PARTS; k++)
         hold(&parts[k], names[k]);
     return number;

@@ -2,6 +2,7 @@
    apart is a function, and nothing uses its argument twice, so that each may be given a call. Prints nothing when all is well. */
 #include "wharfnettle.h"
 #include <stdio.h>
+#include <string.h>
 
 #if defined __cplusplus
 #define MUST(fact) static_assert(fact, #fact)
@@ -11,10 +12,12 @@
 #define MUST(fact) extern char must[(fact) ? 1 : -1]
 #endif
 
-static uint8_t image[WHARFNETTLE_IMAGE], records[WHARFNETTLE_LOG(1000)], report[WHARFNETTLE_REPORT];
-MUST(sizeof records == 8008);
-MUST(WHARFNETTLE_LOG(0) == 8);
-MUST(2 * WHARFNETTLE_LOG(1 + 2) == 64);
+static uint8_t image[WHARFNETTLE_IMAGE], again[WHARFNETTLE_IMAGE], old[WHARFNETTLE_OLD_IMAGE];
+static uint8_t records[WHARFNETTLE_LOG(1000)], report[WHARFNETTLE_REPORT];
+MUST(sizeof records == 16000);
+MUST(WHARFNETTLE_LOG(0) == 0);
+MUST(2 * WHARFNETTLE_LOG(1 + 2) == 96);
+MUST(WHARFNETTLE_IMAGE == WHARFNETTLE_OLD_IMAGE + 1);
 MUST(sizeof WHARFNETTLE_LOG(1) == sizeof(size_t));
 MUST(WHARFNETTLE_SCHEDULE % 10 == 0);
 MUST(WHARFNETTLE_STEPS == 3 && WHARFNETTLE_REPORT == 8 * (WHARFNETTLE_STEPS + 1));
@@ -42,7 +45,7 @@ static uint8_t call(uint64_t n)
 static uint64_t cycle(void)
 {
     uint64_t number = 0;
-    for (int k = 75; k < WHARFNETTLE_IMAGE; k++)
+    for (int k = 75; k < 81; k++)
         number = number << 8 | image[k];
     return number;
 }
@@ -76,5 +79,8 @@ int main(void)
     hold(wharfnettle_is_stop(call(10)) && cycle() == 5 && wharfnettle_count(report, WHARFNETTLE_CYCLES) == 2, "a call that stops");
     image[0] = 'u';
     hold(wharfnettle_is_refusal(call(10)) && cycle() == 5, "a call that is refused");
+    image[0] = 'U';
+    hold(wharfnettle_convert(image, sizeof image, old, sizeof old, 1) == 0 && old[4] == 1, "an image goes back to version 1");
+    hold(wharfnettle_convert(old, sizeof old, again, sizeof again, 2) == 0 && !memcmp(again, image, sizeof image), "and forward again");
     return wrong;
 }

@@ -2,16 +2,19 @@
 
        keeper PANEL DIR CYCLES SLICE
 
-   PANEL is what `trace` reads: n (4 bytes, not looked at here), ROM and line schedule. DIR/log has the port log. DIR/state has 129 bytes,
+   PANEL is what `trace` reads: n (4 bytes, not looked at here), ROM and line schedule. DIR/log has the port log. DIR/state has 130 bytes,
    with numbers big-endian:
 
-       0    KEEPER, and the version of this layout, 1 (2 bytes)
+       0    KEEPER, and the version of this layout, 2 (2 bytes)
        8    the log bytes of all slices so far
        16   the instructions of all slices so far
        24   the digest of those log bytes
        32   the digest of ROM and schedule
        40   the image; its cycle number is the cycles of all slices so far
-       121  the digest of the 121 bytes before it
+       122  the digest of the 122 bytes before it
+
+   Version 1 of the layout, from before there was a reset, has an image of version 1, which is a byte shorter. A start takes such a state
+   forward: once all is held, the same numbers and the converted image become DIR/state (steps 3 and 4 below), and it goes on.
 
    A slice goes so:
 
@@ -48,7 +51,11 @@ enum {
 
 /* The parts of a state file, by the bytes before them. */
 enum { VERSION = 6, NUMBERS = 8, IMAGE = 40, DIGEST = IMAGE + WHARFNETTLE_IMAGE, STATE = DIGEST + 8 };
-static const uint8_t head[NUMBERS] = {'K', 'E', 'E', 'P', 'E', 'R', 0, 1};
+static const uint8_t head[NUMBERS] = {'K', 'E', 'E', 'P', 'E', 'R', 0, 2};
+/* The layout from before there was a reset. */
+enum { OLD_DIGEST = IMAGE + WHARFNETTLE_OLD_IMAGE, OLD_STATE = OLD_DIGEST + 8 };
+/* What a folder has of a state. */
+enum kept { NONE, OLD, WHOLE };
 
 struct panel {
     const char *name;
@@ -252,30 +259,37 @@ static void read_panel(const char *name, struct panel *panel)
     panel->digest = digest(0, panel->bytes + COUNT, length);
 }
 
-/* Whether there is a state file, which then has the bytes that a keeper wrote. */
-static int read_state(int dir, struct state *state)
+static const char *meaning(uint8_t number);
+
+/* Whether there is a state file, which then has the bytes that a keeper wrote; an old one's image is taken forward. */
+static enum kept read_state(int dir, struct state *state)
 {
     uint8_t bytes[STATE + 1] = {0}; /* a byte more, so that a long one shows */
     int file = openat(dir, "state", O_RDONLY);
     if (file < 0 && errno == ENOENT)
-        return 0;
+        return NONE;
     if (file < 0)
         die_of("state");
     size_t length = read_all(file, "state", bytes, sizeof bytes);
     close(file);
     if (memcmp(bytes, head, VERSION))
         refuse("the state file doesn't begin with KEEPER, so it is damaged or none of this program's");
-    if (length >= sizeof head && memcmp(bytes, head, sizeof head))
-        refuse("the state file's version is %" PRIu64 ", and this program's is 1", number_at(bytes + VERSION, 2));
-    if (length != STATE)
-        refuse("the state file hasn't %d bytes, so it is damaged", STATE);
-    if (number_at(bytes + DIGEST, 8) != digest(0, bytes, DIGEST))
+    uint64_t version = number_at(bytes + VERSION, 2);
+    if (length >= sizeof head && version != 1 && version != 2)
+        refuse("the state file's version is %" PRIu64 ", and this program's are 1 and 2", version);
+    enum kept kept = version == 1 ? OLD : WHOLE;
+    size_t whole = kept == OLD ? OLD_STATE : STATE, to_digest = whole - 8;
+    if (length != whole)
+        refuse("the state file hasn't %zu bytes, so it is damaged", whole);
+    if (number_at(bytes + to_digest, 8) != digest(0, bytes, to_digest))
         refuse("the state file is damaged: its digest isn't that of its bytes");
     uint64_t *numbers[] = {&state->log_bytes, &state->instructions, &state->log_digest, &state->panel_digest};
     for (int k = 0; k < 4; k++)
         *numbers[k] = number_at(bytes + NUMBERS + 8 * k, 8);
-    memcpy(state->image, bytes + IMAGE, sizeof state->image);
-    return 1;
+    uint8_t number = wharfnettle_convert(bytes + IMAGE, to_digest - IMAGE, state->image, sizeof state->image, 2);
+    if (number)
+        refuse("the state file is refused with %d: %s", number, meaning(number));
+    return kept;
 }
 
 /* Replaces the state as a whole. */
@@ -309,17 +323,17 @@ static const char *meaning(uint8_t number)
     case 2: return "the panel's cycle number and n together pass 2^48 - 1";
     case 11: return "the schedule's length is no multiple of 10";
     case 12: return "the schedule has over 40,960 bytes";
-    case 13: return "a record's INT level isn't 0 or 1, or its last byte isn't 0";
+    case 13: return "a record's INT level or its RES isn't 0 or 1";
     case 14: return "a record's cycle isn't above the last one's";
     case 21: return "the panel's file has under 2,004 bytes";
     case 32: return "the image doesn't begin with U43";
-    case 33: return "the image's version isn't 1";
+    case 33: return "the image's version doesn't go with its length";
     case 34: return "a field of the image is above its width or against its rule";
     default: return "no number of this call";
     }
 }
 
-/* A call on the timer-skipping runner. */
+/* A call on the timer-skipping runner. For no cycles there needs to be no log. */
 static uint8_t run(const struct panel *panel, uint8_t *image, uint8_t *log, uint64_t n, uint8_t *report)
 {
     const uint8_t *rom = panel->bytes + COUNT;
@@ -330,8 +344,7 @@ static uint8_t run(const struct panel *panel, uint8_t *image, uint8_t *log, uint
 /* Refuses what a call for no cycles refuses. */
 static void check_call(const struct panel *panel, uint8_t *image)
 {
-    uint8_t log[WHARFNETTLE_LOG(0)], report[WHARFNETTLE_REPORT];
-    uint8_t number = run(panel, image, log, 0, report);
+    uint8_t report[WHARFNETTLE_REPORT], number = run(panel, image, NULL, 0, report);
     if (wharfnettle_is_refusal(number))
         refuse("%s is refused with %d: %s", number > 30 ? "the state file" : panel->name, number, meaning(number));
 }
@@ -399,8 +412,11 @@ static void open_log(struct folder *folder)
    whose state was lost, and stays. */
 static void begin(const struct panel *panel, const struct folder *folder, struct state *state)
 {
-    if (read_state(folder->dir, state)) {
+    enum kept kept = read_state(folder->dir, state);
+    if (kept != NONE) {
         check_state(panel, state, folder->log);
+        if (kept == OLD)
+            write_state(folder->dir, state);
     } else {
         if (size_of(folder->log, "log"))
             refuse("%s has a log and no state file", folder->name);

@@ -1,7 +1,7 @@
 /*
  * Wharfnettle for the board's C program: one call restores a panel from its image, runs it for n machine cycles, and saves it.
  *
- * A board keeps three things of a panel: its ROM, its line schedule and its image. The image is the panel itself, 81 bytes. Between two
+ * A board keeps three things of a panel: its ROM, its line schedule and its image. The image is the panel itself, 82 bytes. Between two
  * calls it may stand in a file, and the building may be switched off: slices end as one unbroken run ends, whichever cycles they are cut
  * at and whichever runner each of them has. example.c makes the calls, keeper.c keeps a panel in files.
  *
@@ -23,33 +23,35 @@ extern "C" {
 #endif
 
 /* Lengths in bytes. */
-#define WHARFNETTLE_IMAGE 81          /* exactly, else 31 */
+#define WHARFNETTLE_IMAGE 82          /* exactly, else 31 */
+#define WHARFNETTLE_OLD_IMAGE 81      /* an image of version 1, which boards have that know no reset; wharfnettle_convert takes it on */
 #define WHARFNETTLE_ROM 2000          /* exactly, else 21 */
 #define WHARFNETTLE_SCHEDULE 40960    /* at most, 4,096 records of 10 bytes, else 12; none is fine */
 #define WHARFNETTLE_REPORT 32         /* at least, else 1 */
 
 /* A log of so many bytes is never too short for n cycles, so 3 isn't answered. */
-#define WHARFNETTLE_LOG(n) (8 * (size_t)(n) + 8)
+#define WHARFNETTLE_LOG(n) (16 * (size_t)(n))
 
 /*
- * What the call answers.
+ * What the calls answer.
  *
  *   number   whose hand                  what it says
  *   0                                    all n cycles are done
- *   1        the caller                  the report of the board's call has under 32 bytes; the buffer of a save or a fresh image has under 81 bytes
+ *   1        the caller                  the report of the board's call has under 32 bytes; a buffer is shorter than its image
  *   2        the caller                  the panel's cycle number and n together pass 2^48 - 1
- *   3        the caller                  a stop: the log lacks the 8 or 16 bytes of the next instruction
+ *   3        the caller                  a stop: the log lacks the 8 or 16 bytes of the next instruction, or the 8 of a reset
  *   11       whoever wrote the schedule  the schedule's length is no multiple of 10
  *   12       whoever wrote the schedule  the schedule has over 40,960 bytes
- *   13       whoever wrote the schedule  a record's INT level isn't 0 or 1, or its last byte isn't 0
+ *   13       whoever wrote the schedule  a record's INT level or its RES isn't 0 or 1
  *   14       whoever wrote the schedule  a record's cycle isn't above the last one's
  *   21       whoever read the ROM        the ROM hasn't 2,000 bytes
  *   22       whoever read the ROM        a stop: a byte above address 7CF is needed
  *   23       whoever read the ROM        a stop: code 1C or 45 is due, which is no instruction
- *   31       whoever kept the image      the image hasn't 81 bytes
+ *   31       whoever kept the image      the image hasn't 82 bytes
  *   32       whoever kept the image      the image doesn't begin with U43
- *   33       whoever kept the image      the image's version isn't 1
+ *   33       whoever kept the image      the image's version doesn't go with its length
  *   34       whoever kept the image      a field of the image is above its width or against its rule
+ *   54       the caller                  an image of version 1 is wanted while the count of cycles with RES high isn't 0
  *
  * A stop (3, 22, 23) leaves the panel before the instruction that wasn't begun. Image, log and report are those of the cycles up to
  * there, and a call may go on: after 3 with a new log, after 22 and 23 it stops at once again.
@@ -70,8 +72,8 @@ static inline int wharfnettle_is_refusal(int number)
 /*
  * image      read, and written unless the call is refused
  * rom        read
- * schedule   read; records of 10 bytes
- * log        written from its first byte on, records of 8 bytes; bytes past them stay
+ * schedule   read; records of 10 bytes, the last of which is RES, the reset line
+ * log        written from its first byte on, records of 8 bytes; that of a reset has port 0 and value 0; bytes past them stay
  * n          how many machine cycles; 0 is allowed, and leaves image and log as they were
  * runner     0 the plain one; any other number the timer-skipping one, which jumps over timer waits and does the same
  * report     written: cycles, instructions, log bytes and steps of this call, 8 bytes each, big-endian; bytes past the 32 stay.
@@ -96,10 +98,25 @@ uint8_t wharfnettle_call(uint8_t *image, size_t image_length,
                          uint8_t *report, size_t report_length);
 
 /*
- * Writes the image of a panel that was never run: cycle 0, all zero, INT high. Answers 0; or 1 where the buffer has under 81 bytes, which
- * then stay as they were. Bytes past the 81 stay.
+ * Writes the image of a panel that was never run: cycle 0, all zero, INT high. Answers 0; or 1 where the buffer has under 82 bytes, which
+ * then stay as they were. Bytes past the 82 stay.
  */
 uint8_t wharfnettle_fresh(uint8_t *image, size_t image_length);
+
+/*
+ * Writes the image of the same panel in the version wanted, 1 or 2, of 81 or 82 bytes: so a board takes an image on that was kept before
+ * there was a reset, or hands one back to a board that knows none. Forward and back it is the same bytes.
+ *
+ * from       read; an image of 81 bytes, version 1, or of 82, version 2
+ * to         written: 80 + version bytes; bytes past them stay
+ * version    1 or 2
+ *
+ * Answers 0; or, in this order, 31 where `from` has neither length, 32, 33 where its version doesn't go with its length, 34; 33 where the
+ * version wanted is neither 1 nor 2; 54 where version 1 is wanted and the last byte of `from`, its count of cycles with RES high, isn't 0:
+ * that panel is about to be reset, or is, and version 1 can't say so; 1 where `to` is shorter than the image wanted. Then `to` stays as it
+ * was. The parts must not overlap, and what holds of wharfnettle_call's pointers holds of these.
+ */
+uint8_t wharfnettle_convert(const uint8_t *from, size_t from_length, uint8_t *to, size_t to_length, uint64_t version);
 
 /* The counts of a report. */
 enum wharfnettle_count {

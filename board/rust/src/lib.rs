@@ -18,7 +18,9 @@
 #![warn(missing_docs)]
 
 /// The bytes of an image.
-pub const IMAGE: usize = 81;
+pub const IMAGE: usize = 82;
+/// The bytes of an image of version 1, which boards have that know no reset.
+pub const OLD_IMAGE: usize = 81;
 /// The bytes of a ROM.
 pub const ROM: usize = 2_000;
 const REPORT: usize = 32;
@@ -26,9 +28,12 @@ const REPORT: usize = 32;
 /// An image: the panel as bytes, to be kept while the building is switched off.
 pub type Image = [u8; IMAGE];
 
+/// An image of version 1.
+pub type OldImage = [u8; OLD_IMAGE];
+
 /// The bytes of log with which a call for n cycles never stops with 3.
 pub const fn log_bytes(n: usize) -> usize {
-    8 * n + 8
+    16 * n
 }
 
 /// Which runner. They do the same; the timer-skipping one takes fewer steps.
@@ -100,6 +105,13 @@ mod c {
             report_length: usize,
         ) -> u8;
         pub fn wharfnettle_fresh(image: *mut u8, image_length: usize) -> u8;
+        pub fn wharfnettle_convert(
+            from: *const u8,
+            from_length: usize,
+            to: *mut u8,
+            to_length: usize,
+            version: u64,
+        ) -> u8;
     }
 }
 
@@ -156,6 +168,38 @@ pub fn fresh_image() -> Image {
     let mut image = [0; IMAGE];
     // SAFETY: the pointer leads to as many bytes as the length says, and nobody else uses them.
     let number = unsafe { c::wharfnettle_fresh(image.as_mut_ptr(), image.len()) };
-    assert_eq!(number, 0, "81 bytes are enough for an image");
+    assert_eq!(number, 0, "82 bytes are enough for an image");
     image
+}
+
+/// Takes an image of either version forward to version 2: one that was kept before there was a reset gets
+/// a count of 0. Bytes of any length and content may be given; what is wrong with them is answered.
+pub fn forward(image: &[u8]) -> Result<Image, u8> {
+    let mut to = [0; IMAGE];
+    convert(image, &mut to, 2).map(|()| to)
+}
+
+/// Takes an image of either version back to version 1, for a board that knows no reset; 54 where its count
+/// isn't 0.
+pub fn back(image: &[u8]) -> Result<OldImage, u8> {
+    let mut to = [0; OLD_IMAGE];
+    convert(image, &mut to, 1).map(|()| to)
+}
+
+fn convert(from: &[u8], to: &mut [u8], version: u64) -> Result<(), u8> {
+    // SAFETY: each pointer leads to as many bytes as the length behind it says. `to` is borrowed to be
+    // written, so it overlaps nothing and nobody else uses it.
+    let number = unsafe {
+        c::wharfnettle_convert(
+            from.as_ptr(),
+            from.len(),
+            to.as_mut_ptr(),
+            to.len(),
+            version,
+        )
+    };
+    match number {
+        0 => Ok(()),
+        _ => Err(number),
+    }
 }

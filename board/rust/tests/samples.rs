@@ -4,7 +4,9 @@
 use std::fs;
 use std::path::{Path, PathBuf};
 
-use wharfnettle::{call, fresh_image, log_bytes, Answer, Counts, End, Image, Runner, ROM};
+use wharfnettle::{
+    back, call, forward, fresh_image, log_bytes, Answer, Counts, End, Image, Runner, ROM,
+};
 
 fn sample(name: &str) -> PathBuf {
     Path::new(env!("CARGO_MANIFEST_DIR"))
@@ -77,7 +79,10 @@ fn text(answer: Answer, log: &[u8]) -> String {
         let cycle = record[..6]
             .iter()
             .fold(0, |n, &byte| n << 8 | u64::from(byte));
-        let port = char::from(b'A' + record[6]);
+        let port = match record[6] {
+            0 => 'R',
+            port => char::from(b'A' + port),
+        };
         text += &format!("{cycle} {port} {:X}\n", record[7]);
     }
     let Counts {
@@ -91,7 +96,7 @@ fn text(answer: Answer, log: &[u8]) -> String {
 #[test]
 fn every_sample_prints_as_it_has_to() {
     let names = [
-        "lamp", "call", "blink", "lobby", "order", "level", "torn", "long",
+        "lamp", "call", "blink", "lobby", "reset", "order", "level", "res", "torn", "long",
     ];
     for name in names {
         let due = fs::read_to_string(sample(&format!("{name}.text"))).unwrap();
@@ -106,7 +111,7 @@ fn every_sample_prints_as_it_has_to() {
 
 #[test]
 fn slices_end_as_one_call() {
-    for name in ["lamp", "call", "blink", "lobby"] {
+    for name in ["lamp", "call", "blink", "lobby", "reset"] {
         let panel = panel(name);
         let (mut whole, image, log) = panel.whole(Runner::Plain);
         whole.counts.steps = 0;
@@ -177,12 +182,47 @@ fn a_damaged_image_is_refused_and_left() {
         image
     };
     assert_eq!(refusal(&mut []), End::Refused(31));
-    assert_eq!(refusal(&mut fresh_image()[..80]), End::Refused(31));
-    assert_eq!(refusal(&mut [0; 82]), End::Refused(31));
+    assert_eq!(refusal(&mut fresh_image()[..81]), End::Refused(31));
+    assert_eq!(refusal(&mut [0; 83]), End::Refused(31));
+    // Also a whole image of version 1.
+    let mut old = back(&fresh_image()).unwrap();
+    assert_eq!(refusal(&mut old), End::Refused(31));
     assert_eq!(refusal(&mut changed(2, b'4')), End::Refused(32));
+    assert_eq!(refusal(&mut changed(4, 1)), End::Refused(33));
     assert_eq!(refusal(&mut changed(3, 1)), End::Refused(33));
     // The marks go up to 4, that of LI.
     assert_eq!(refusal(&mut changed(16, 5)), End::Refused(34));
+    // The count goes up to 4.
+    assert_eq!(refusal(&mut changed(81, 5)), End::Refused(34));
+}
+
+#[test]
+fn an_image_from_before_the_reset_goes_on_and_back() {
+    let panel = panel("lobby");
+    let (_, whole, log) = panel.whole(Runner::Plain);
+    let old = fs::read(sample("lobby.image")).unwrap();
+    let mut image = forward(&old).unwrap();
+    assert_eq!(back(&image).unwrap()[..], old);
+    // It was saved after 450 of the 1,200 cycles.
+    let mut rest = vec![0; log_bytes(750)];
+    let answer = call(
+        &mut image,
+        &panel.rom,
+        &panel.schedule,
+        &mut rest,
+        750,
+        Runner::Plain,
+    );
+    assert_eq!((answer.end, image), (End::Finished, whole));
+    assert!(log.ends_with(&rest[..answer.counts.log_bytes as usize]));
+    // With a count it doesn't go back.
+    image[81] = 2;
+    assert_eq!(back(&image), Err(54));
+    assert_eq!(forward(&image), Ok(image));
+    image[81] = 5;
+    assert_eq!(forward(&image), Err(34));
+    assert_eq!(forward(&old[..80]), Err(31));
+    assert_eq!(forward(&whole[..81]), Err(33));
 }
 
 #[test]
