@@ -206,7 +206,7 @@ turns rom sched (suc h) q s w t l =
 -- LINES
 
 -- no record below a bound is none below a lesser one
-none-fewer : (sched : List ℕ) (a b d k : ℕ) → d ≤ b → noneAmong sched a b k ≡ true → noneAmong sched a d k ≡ true
+pub none-fewer : (sched : List ℕ) (a b d k : ℕ) → d ≤ b → noneAmong sched a b k ≡ true → noneAmong sched a d k ≡ true
 unfolding noneAmong
 none-fewer sched a b d zero h e = refl
 none-fewer sched a b d (suc k) h e = go (leb a r && ltb r b) refl (leb a r && ltb r d) refl (none-fewer sched a b d k h)
@@ -392,46 +392,6 @@ largest-even sched n m (suc k) p q =
     go false e u f ih =
         let z : suc k % 2 ≡ 0 → ⊥ = eqb-false (suc k % 2) 0 e in
         rw (e, largest) (omega arith)
-
--- the length where it may jump
-jump-length-even : (rom sched : List ℕ) (s : State) (left m : ℕ) → mayJump rom sched s ≡ true
-    → ((j : ℕ) → j ≤ m → noRecord sched (s .cycle .0 + 1) (s .cycle .0 + j) ≡ true)
-    → ((j : ℕ) → m < j → j ≤ left → noRecord sched (s .cycle .0 + 1) (s .cycle .0 + j) ≡ false)
-    → (k : ℕ) → k ≡ min (min (ticksLeft (s .core .timer)) left) m → jumpLength rom sched s left ≡ k - k % 2
-unfolding jumpLength
-jump-length-even rom sched s left m e p q k f =
-    rw (e, f) (largest-even sched (s .cycle .0) m (min (ticksLeft (s .core .timer)) left) p (λ j h l. q j h (omega arith)))
-
--- and where it may not
-pub jump-length-none : (rom sched : List ℕ) (s : State) (left : ℕ) → mayJump rom sched s ≡ false → jumpLength rom sched s left ≡ 0
-unfolding jumpLength
-jump-length-none rom sched s left e = rw e
-
--- the length where it may jump and no record comes before the cycles that are left are over
-pub jump-length-steady : (rom sched : List ℕ) (s : State) (left : ℕ) → mayJump rom sched s ≡ true
-    → noRecord sched (s .cycle .0 + 1) (s .cycle .0 + left) ≡ true
-    → (k : ℕ) → k ≡ min (ticksLeft (s .core .timer)) left → jumpLength rom sched s left ≡ k - k % 2
-unfolding noRecord
-jump-length-steady rom sched s left e v k f =
-    let n = s .cycle .0 in
-    jump-length-even rom sched s left left e (λ j h. none-fewer sched (n + 1) (n + left) (n + j) (recordCount sched) (omega arith) v) (λ j h l. absurd (omega arith)) k
-    (omega (arith, f))
-
--- THE CUT: as a jump ends before the next record, m cycles on, it is as long where no more cycles are left than those
-pub jump-length-cut : (rom sched : List ℕ) (s : State) (left m : ℕ)
-    → ((j : ℕ) → j ≤ m → noRecord sched (s .cycle .0 + 1) (s .cycle .0 + j) ≡ true)
-    → ((j : ℕ) → m < j → j ≤ left → noRecord sched (s .cycle .0 + 1) (s .cycle .0 + j) ≡ false)
-    → jumpLength rom sched s left ≡ jumpLength rom sched s (min left m)
-jump-length-cut rom sched s left m p q = go (mayJump rom sched s) refl
-  where
-    k : ℕ
-    k = min (min (ticksLeft (s .core .timer)) left) m
-
-    go : (b : Bool) → mayJump rom sched s ≡ b → jumpLength rom sched s left ≡ jumpLength rom sched s (min left m)
-    go true e =
-        jump-length-even rom sched s left m e p q k refl
-        ∙ sym (jump-length-even rom sched s (min left m) m e p (λ j h l. absurd (omega arith)) k (omega arith))
-    go false e = jump-length-none rom sched s left e ∙ sym (jump-length-none rom sched s (min left m) e)
 
 -- a jump leads from an accepted state to an accepted state
 pub jump-keeps : (rom sched : List ℕ) (s : State) (left j : ℕ) → Panel upd546 rom sched → Valid s → s .cycle .0 + j ≤ cycleLimit

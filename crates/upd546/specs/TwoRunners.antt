@@ -58,6 +58,10 @@ abbrev pub onJump : Bool → List ℕ → State → ℕ → ℕ
 onJump true sched s left = largest (jumpable sched (s .cycle .0)) (min (ticksLeft (s .core .timer)) left)
 onJump false sched s left = 0
 
+-- the cycles that it jumps in one step by this rule, or 0
+unfoldable pub waitLength : List ℕ → List ℕ → State → ℕ → ℕ
+waitLength rom sched s left = onJump (mayJump rom sched s) sched s left
+
 -- the cycles that the timer-skipping runner jumps in one step, or 0
 unfoldable pub jumpLength : List ℕ → List ℕ → State → ℕ → ℕ
 jumpLength rom sched s left = onJump (mayJump rom sched s) sched s left
