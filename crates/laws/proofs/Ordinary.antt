@@ -5,6 +5,7 @@ use mathlib.Core.Bool.{Bool, true, false}
 use mathlib.Core.List.{List}
 use Prim.Native.Nat.{ℕ, zero, suc, _+_, _-_, _%_, _<_, _≤_, min}
 use native.Mathlib.Omega.{arith}
+use Rattle.runs.specs.TwoRunners.{within}
 use Rattle.runs.specs.OneByOne.{OneByOne, none as no-cycle, also}
 use Rattle.upd546.specs.declared.Lines.{Lines}
 use Rattle.upd546.specs.declared.State.{State}
@@ -78,3 +79,8 @@ pub one-by-one : (rom sched : List ℕ) (skips : Bool) (room m : ℕ) (s t : Sta
 one-by-one rom sched skips room m s _ _ _ _ no-cycle = no-cycle
 one-by-one rom sched skips room m s _ _ _ _ (also {t} {u} {y} {d} {a} x e o q f l z) =
     also x e (one-by-one rom sched skips room m s t y d a o) (cycle-same rom sched t ∙ q) f l (λ i. jump-same rom sched t (m - d) ∙ z i)
+
+-- a cycle that isn't begun
+pub held-same : (rom sched : List ℕ) (room : ℕ) (s : State) → within upd546 rom sched room 1 s ≡ within ordinary rom sched room 1 s
+unfolding within
+held-same rom sched room s = rw (cycle-same rom sched s)

@@ -16,7 +16,8 @@ use Rattle.upd546.specs.declared.Core.{Core}
 use Rattle.upd546.specs.declared.Lines.{Lines}
 use Rattle.upd546.specs.declared.State.{State}
 use Rattle.upd546.specs.TheLineSchedule.{linesAt, scheduleNumber, noRecord}
-use Rattle.upd546.specs.TwoRunners.{jumpLength, upd546}
+use Rattle.upd546.specs.TwoRunners.{jumpLength, waitLength, upd546}
+use Rattle.laws.specs.Ordinary.{ordinary}
 use Rattle.laws.specs.Jump.{coreAfterJump, stateAfterJump}
 use Rattle.laws.specs.Valid.{Valid}
 use Rattle.laws.specs.Stops.{StopNumber}
@@ -24,7 +25,8 @@ use Rattle.laws.proofs.Sound.{accepted-valid}
 use Rattle.laws.proofs.Cycle.{cycle-keeps}
 use Rattle.laws.proofs.Stops.{begins-one}
 use Rattle.laws.proofs.Tails.{put-next}
-use Rattle.laws.proofs.Jump.{jump-within, jump-runs, jump-ticks, jump-in-room, jump-keeps, jump-length-cut}
+use Rattle.laws.proofs.Jump.{jump-within, jump-runs, jump-ticks, jump-in-room, jump-keeps}
+use Rattle.laws.proofs.Ordinary.{wait-cut, jump-same, one-by-one, held-same}
 use Rattle.tables.specs.Tables.{instructionTable, positionTable, registerTable}
 use Rattle.schedule.specs.declared.Cursor.{Cursor}
 use Rattle.schedule.specs.Cursor.{Stands}
@@ -75,7 +77,7 @@ pub record At (skips : Bool) (rom sched log₀ : List ℕ) (n : ℕ) (s : State)
 pub record Window (rom sched : List ℕ) (l : Lines) (from end limit : ℕ) : Type 0 where
   pub lines : (i : ℕ) → from ≤ i → i < limit → linesAt sched i ≡ l
   pub no-record : (i : ℕ) → from ≤ i → i < limit → noRecord sched (i + 1) (i + (limit - i)) ≡ true
-  pub cut : (t : State) → from ≤ t .cycle .0 → t .cycle .0 < limit → jumpLength rom sched t (end - t .cycle .0) ≡ jumpLength rom sched t (limit - t .cycle .0)
+  pub cut : (t : State) → from ≤ t .cycle .0 → t .cycle .0 < limit → waitLength rom sched t (end - t .cycle .0) ≡ waitLength rom sched t (limit - t .cycle .0)
   pub ahead : from ≤ limit
   pub in-run : limit ≤ end
   pub in-limit : end ≤ cycleLimit
@@ -106,9 +108,9 @@ module _ (rom sched : List ℕ) (accepted : scheduleNumber sched ≡ 0) (cursor 
     cut = λ t p q.
         let c = t .cycle .0 in
         let least : min (end - c) (cursor .next - c) ≡ limit - c = omega (arith, e) in
-        jump-length-cut rom sched t (end - c) (cursor .next - c) (λ j h. no-record sched accepted c (c + j) cursor (there c p q) (omega (arith, e, h, q)))
+        wait-cut rom sched t (end - c) (cursor .next - c) (λ j h. no-record sched accepted c (c + j) cursor (there c p q) (omega (arith, e, h, q)))
         (λ j h m. some-record sched accepted c (c + j) cursor (there c p q) (omega (arith, h)) (omega (arith, m)))
-        ∙ ap (jumpLength rom sched t) least;
+        ∙ ap (waitLength rom sched t) least;
     ahead = omega (arith, limit-ahead e);
     in-run = omega (arith, e);
     in-limit = small;
@@ -276,7 +278,7 @@ module _ {skips : Bool} {rom sched log₀ : List ℕ} {n : ℕ} {s : State} {p :
     module _ {j : ℕ} (ahead : j ≡ jumpBy skips rom sched (stateAt p) (limit - p .number)) (some-ahead : j ≡ 0 → ⊥) where
       is-length : (b : Bool) → j ≡ jumpBy b rom sched (stateAt p) (limit - p .number) → jumpLength rom sched (stateAt p) (limit - p .number) ≡ j
       is-length false e = absurd (some-ahead e)
-      is-length true e = sym e
+      is-length true e = jump-same rom sched (stateAt p) (limit - p .number) ∙ sym e
 
       jump-is : jumpLength rom sched (stateAt p) (limit - p .number) ≡ j
       jump-is = is-length skips ahead
@@ -287,7 +289,7 @@ module _ {skips : Bool} {rom sched log₀ : List ℕ} {n : ℕ} {s : State} {p :
 
       jump-span : (b : Bool) → j ≡ jumpBy b rom sched (stateAt p) left → j ≡ spanOf upd546 rom sched b (stateAt p) (suc (left - 1))
       jump-span false e = absurd (some-ahead e)
-      jump-span true e = sym (stride-same j some-ahead) ∙ ap strideOf (rw one-more at e)
+      jump-span true e = sym (stride-same j some-ahead) ∙ ap strideOf (rw one-more at e ∙ sym (jump-same rom sched (stateAt p) (suc (left - 1))))
 
       pub jumpable : (positions registers : List ℕ) → positions ≡ positionTable → registers ≡ registerTable → Jumpable positions registers (p .core) j
       jumpable positions registers e f = record {
@@ -340,14 +342,15 @@ module _ {skips : Bool} {rom sched log₀ : List ℕ} {n : ℕ} {s : State} {p :
           })
 
     -- A TURN
-    none-ahead : (b : Bool) → 0 ≡ jumpBy b rom sched (stateAt p) (limit - p .number) → b ≡ true → jumpLength rom sched (stateAt p) (limit - p .number) ≡ 0
+    none-ahead : (b : Bool) → 0 ≡ jumpBy b rom sched (stateAt p) (limit - p .number) → b ≡ true → waitLength rom sched (stateAt p) (limit - p .number) ≡ 0
     none-ahead false e q = absurd (differ q)
     none-ahead true e q = sym e
 
     pub turn-asks : (table positions : List ℕ) → table ≡ instructionTable → positions ≡ positionTable → 0 ≡ jumpBy skips rom sched (stateAt p) (limit - p .number)
         → Turn skips rom sched table positions l limit (stateAt p) (p .log) (p .at) (p .begun)
     turn-asks table positions e f z = record {
-      lent = record { panel = panel; rom-length = taken .rom-length; instructions = e; position-table = f };
+      lent = record { panel = record { rom-bytes = h .rom-bytes; sched-bytes = h .sched-bytes; not-refused = taken .panel }; rom-length = taken .rom-length; instructions = e; position-table = f };
+      parts = refl;
       lines = λ i a b. v .lines i (omega (arith, since, a)) b;
       ahead = more;
       in-limit = omega (arith, v .in-run, v .in-limit);
@@ -364,14 +367,14 @@ module _ {skips : Bool} {rom sched log₀ : List ℕ} {n : ℕ} {s : State} {p :
         (k : Turned skips rom sched limit (stateAt p) (p .log) (p .at) (p .begun) r ram ports log′) where
       one-cycle-span : (b : Bool) → 0 ≡ jumpBy b rom sched (stateAt p) left → spanOf upd546 rom sched b (stateAt p) (suc (left - 1)) ≡ 1
       one-cycle-span false e = refl
-      one-cycle-span true e = ap strideOf (sym (rw one-more at e))
+      one-cycle-span true e = ap strideOf (jump-same rom sched (stateAt p) (suc (left - 1)) ∙ sym (rw one-more at e))
 
       -- that is begun not at all
       module _ (g : r .stop ≡ 0 → ⊥) where
         stop-is : whole skips rom sched log₀ n s ≡ record { ran = sofar (stateAt p) (h .w) done (p .begun) (some (r .stop)); steps = done - p .spared }
         stop-is =
             loop-stops upd546 rom sched skips _ (length log₀) (stateAt p) (h .w) done (p .begun) (done - p .spared) (left - 1) on (r .stop)
-            (ap₂ (λ (room j : ℕ). within upd546 rom sched room j (stateAt p)) (sym room-same) (one-cycle-span skips (no-jump ∙ sym (jumps-alike skips))) ∙ k .held g .stops)
+            (ap₂ (λ (room j : ℕ). within upd546 rom sched room j (stateAt p)) (sym room-same) (one-cycle-span skips (no-jump ∙ sym (jumps-alike skips))) ∙ held-same rom sched (length (p .log) - p .at) (stateAt p) ∙ k .held g .stops)
 
         -- the answer of a run that stops here
         pub stops : {state : State} → state ≡ stateOf (p .core) ram ports (p .number)
@@ -397,17 +400,19 @@ module _ {skips : Bool} {rom sched log₀ : List ℕ} {n : ℕ} {s : State} {p :
         here : State
         here = stateOf (r .core) ram ports (r .cycle)
 
+        singly : OneByOne upd546 rom sched skips (length (p .log) - p .at) (limit - p .number) (stateAt p) here x (k .went g .d) (k .went g .b)
+        unfolding here x
+        singly = one-by-one rom sched skips (length (p .log) - p .at) (limit - p .number) (stateAt p) here (k .went g .w) (k .went g .d) (k .went g .b) (k .went g .steps)
+
         kept : Kept (stateAt p) here (k .went g .d) (k .went g .b) (limit - p .number)
-        unfolding here
         kept =
-            singly-keeps rom sched skips (length (p .log) - p .at) (limit - p .number) (stateAt p) panel (h .valid) (omega (arith, more, v .in-run, v .in-limit)) here _
-            (k .went g .d) (k .went g .b) (k .went g .steps)
+            singly-keeps rom sched skips (length (p .log) - p .at) (limit - p .number) (stateAt p) panel (h .valid) (omega (arith, more, v .in-run, v .in-limit)) here x
+            (k .went g .d) (k .went g .b) singly
 
         steps : OneByOne upd546 rom sched skips (length log₀ - length (h .w)) left (stateAt p) here x (k .went g .d) (k .went g .b)
-        unfolding here x
         steps =
             let all = longer rom sched skips (length (p .log) - p .at) (limit - p .number) left (stateAt p) panel (h .valid) (omega (arith, more, v .in-run, v .in-limit))
-            (omega (arith, v .in-run)) cut-at here (k .went g .w) (k .went g .d) (k .went g .b) (k .went g .steps) in
+            (omega (arith, v .in-run)) cut-at here x (k .went g .d) (k .went g .b) singly in
             rw room-same at all
           where
             cut-at : (t : State) (d : ℕ) → t .cycle .0 ≡ p .number + d → d < limit - p .number → jumpLength rom sched t (limit - p .number - d) ≡ 0
@@ -415,7 +420,8 @@ module _ {skips : Bool} {rom sched log₀ : List ℕ} {n : ℕ} {s : State} {p :
             cut-at t d e q z =
                 let a : left - d ≡ s .cycle .0 + n - t .cycle .0 = omega (arith, e) in
                 let b : limit - t .cycle .0 ≡ limit - p .number - d = omega (arith, e) in
-                ap (jumpLength rom sched t) a ∙ v .cut t (omega (arith, e, since)) (omega (arith, e, q)) ∙ ap (jumpLength rom sched t) b ∙ z
+                jump-same rom sched t (left - d) ∙ ap (waitLength rom sched t) a ∙ v .cut t (omega (arith, e, since)) (omega (arith, e, q)) ∙ ap (waitLength rom sched t) b
+                ∙ sym (jump-same rom sched t (limit - p .number - d)) ∙ z
 
         fits-room : length x ≤ length log₀ - length (h .w)
         fits-room = room-kept steps
