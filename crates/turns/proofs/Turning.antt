@@ -268,12 +268,6 @@ module _ {skips : Bool} {rom sched log₀ : List ℕ} {n : ℕ} {s : State} {p :
     jumps-alike false = refl
     jumps-alike true = v .cut (stateAt p) since more
 
-    pub length-is : {r : ℕ} → JumpsBy skips rom (p .core .flow .pc) (p .core .owed) (p .core .interrupt) (p .core .timer) (l .int) (limit - p .number) r
-        → r ≡ jumpBy skips rom sched (stateAt p) (limit - p .number)
-    length-is k =
-        k .length-is sched (stateAt p) (record { pc-is = refl; owed-is = refl; interrupt-is = refl; timer-is = refl })
-        (record { level-is = ap (λ (x : Lines). x .int) (v .lines (p .number) since more); no-record = v .no-record (p .number) since more })
-
     -- A JUMP of j cycles
     module _ {j : ℕ} (ahead : j ≡ jumpBy skips rom sched (stateAt p) (limit - p .number)) (some-ahead : j ≡ 0 → ⊥) where
       is-length : (b : Bool) → j ≡ jumpBy b rom sched (stateAt p) (limit - p .number) → jumpLength rom sched (stateAt p) (limit - p .number) ≡ j
@@ -481,7 +475,50 @@ pub record ByRecords (skips : Bool) (rom sched log₀ : List ℕ) (n : ℕ) (s :
   pub stands : Stands sched (p .number) cursor
 
 -- up to the limit: from q, where the loop by records stood, to p
-pub record ToLimit (skips : Bool) (rom sched : List ℕ) (n start limit : ℕ) (q p : Place) : Type 0 where
+pub record ToLimit (skips : Bool) (rom sched : List ℕ) (l : Lines) (n start limit : ℕ) (q p : Place) : Type 0 where
+  pub window : Window rom sched l (q .number) (start + n) limit
   pub at : {core : Core} {ram ports log₀ : List ℕ} → At skips rom sched log₀ n (stateOf core ram ports start) q → At skips rom sched log₀ n (stateOf core ram ports start) p
   pub later : q .number ≤ p .number
   pub within-limit : p .number ≤ limit
+
+module _ {skips : Bool} {rom sched : List ℕ} {l : Lines} {n start limit : ℕ} {q p : Place} (i : ToLimit skips rom sched l n start limit q p) (more : p .number < limit) where
+  pub ahead : Ahead rom sched l (q .number) (start + n) limit (p .number)
+  ahead = record { window = i .window; since = i .later; more = more }
+
+  -- the length of the jump
+  pub length-is : {r : ℕ} → JumpsBy skips rom (p .core .flow .pc) (p .core .owed) (p .core .interrupt) (p .core .timer) (l .int) (limit - p .number) r
+      → r ≡ jumpBy skips rom sched (stateAt p) (limit - p .number)
+  length-is k =
+      k .length-is sched (stateAt p) (record { pc-is = refl; owed-is = refl; interrupt-is = refl; timer-is = refl })
+      (record {
+        level-is = ap (λ (x : Lines). x .int) (i .window .lines (p .number) (i .later) more);
+        no-record = i .window .no-record (p .number) (i .later) more;
+      })
+
+  -- a jump, and a turn
+  pub jumps-to : {j : ℕ} {core : Core} → j ≡ jumpBy skips rom sched (stateAt p) (limit - p .number) → (j ≡ 0 → ⊥) → core ≡ coreAfterJump j (p .core) → p .number + j ≤ limit
+      → ToLimit skips rom sched l n start limit q (record {
+        core = core;
+        ram = p .ram;
+        ports = p .ports;
+        log = p .log;
+        at = p .at;
+        number = p .number + j;
+        begun = p .begun + j;
+        spared = p .spared + (j - 1);
+      })
+  jumps-to e z c m = record { window = i .window; at = λ h. jumps-on (i .at h) ahead e z c; later = omega (arith, i .later); within-limit = m }
+
+  pub turns-to : {r : Stretch} {ram ports log : List ℕ} → 0 ≡ jumpBy skips rom sched (stateAt p) (limit - p .number)
+      → Turned skips rom sched limit (stateAt p) (p .log) (p .at) (p .begun) r ram ports log → r .stop ≡ 0 → p .number < r .cycle → r .cycle ≤ limit
+      → ToLimit skips rom sched l n start limit q (record {
+        core = r .core;
+        ram = ram;
+        ports = ports;
+        log = log;
+        at = r .at;
+        number = r .cycle;
+        begun = r .begun;
+        spared = p .spared;
+      })
+  turns-to e k g y m = record { window = i .window; at = λ h. goes-on (i .at h) ahead e k g; later = omega (arith, i .later); within-limit = m }

@@ -7,13 +7,13 @@ use Rattle.runs.specs.Refusals.{cycleLimit}
 use Rattle.jump.specs.Boundary.{jumpBy}
 use Rattle.upd546.specs.Parts.{stateOf}
 use Rattle.turns.proofs.Taken.{run-taken}
-use Rattle.turns.proofs.Turning.{Place, At, stateAt, Window, Ahead, ByRecords, ToLimit, limit-ahead, up-to-record, stands-last, stands-on, starts, limit-kept, log-length, schedule-taken, finishes, boundary, length-is, jumpable, jump-small, jumps-on, turn-asks, stops, stop-length, stop-known, turn-small, goes-on}
+use Rattle.turns.proofs.Turning.{Place, At, stateAt, Window, Ahead, ByRecords, ToLimit, limit-ahead, up-to-record, stands-last, stands-on, starts, limit-kept, log-length, schedule-taken, finishes, boundary, jumpable, jump-small, turn-asks, stops, stop-length, stop-known, turn-small, ahead, length-is, jumps-to, turns-to}
 use Rattle.turns.proofs.run_loop.Statement.{statement}
 use Rattle.turns.proofs.run_loop.Tie as tie
 
 abbrev Inv-loop2 : tie.InvT-loop2
 Inv-loop2 rom sched table positions registers log₀ n skips start end core₀ ram₀ ports₀ cursor at₀ number₀ begun₀ spared₀ lines limit log core ram ports at number begun spared =
-    ToLimit skips rom sched n start limit
+    ToLimit skips rom sched lines n start limit
     (record { core = core₀; ram = ram₀; ports = ports₀; log = log₀; at = at₀; number = number₀; begun = begun₀; spared = spared₀ })
     (record { core = core; ram = ram; ports = ports; log = log; at = at; number = number; begun = begun; spared = spared })
 
@@ -161,17 +161,17 @@ standing : (c : Inner)
 standing c = c .loop2 .inv .at (by-records (outer (c .before)) .at)
 
 -- and that the limit is ahead
-ahead : (c : Measured)
+ahead-of : (c : Measured)
     → let a = entry (outer (inner c .before) .before) .args in
     let d = inner c .before in
     Ahead (now (a .rom)) (now (a .sched)) (outer d .loop .cursor .lines) (from-of d) (a .s .cycle .0 + a .n) (limit-of d) (inner c .loop2 .number)
-ahead c = record { window = window (inner c .before); since = inner c .loop2 .inv .later; more = tested c .loop2-test .taken }
+ahead-of c = ahead (inner c .loop2 .inv) (tested c .loop2-test .taken)
 
 -- the length of the jump
 length-known : (c : Measured)
     → let a = entry (outer (inner c .before) .before) .args in
     c .jump-length .result ≡ jumpBy (a .skips) (now (a .rom)) (now (a .sched)) (stateAt (place (inner c))) (limit-of (inner c .before) - inner c .loop2 .number)
-length-known c = length-is (standing (inner c)) (ahead c) (c .jump-length .ensures)
+length-known c = length-is (inner c .loop2 .inv) (tested c .loop2-test .taken) (c .jump-length .ensures)
 
 -- none is taken
 no-jump : (c : Turning)
@@ -186,7 +186,7 @@ jump-fits : (c : Jumping)
     × (l .loop2 .begun ≤ l .loop2 .number) × (l .loop2 .spared ≤ l .loop2 .number) × (1 ≤ c .before .jump-length .result)
 jump-fits c =
     let l = inner (c .before) in
-    jump-small (standing l) (ahead (c .before)) (length-known (c .before)) (wants-jump c)
+    jump-small (standing l) (ahead-of (c .before)) (length-known (c .before)) (wants-jump c)
 
 -- BEFORE THE LOOPS
 
@@ -209,7 +209,7 @@ lesser-requires : tie.Need-lesser-requires Inv-loop2 μ-loop2 Inv-loop μ-loop
 lesser-requires c κs = tt
 
 loop2-holds : tie.Need-loop2-holds Inv-loop2 μ-loop2 Inv-loop μ-loop
-loop2-holds c = record { at = λ h. h; later = omega arith; within-limit = window c .ahead }
+loop2-holds c = record { window = window c; at = λ h. h; later = omega arith; within-limit = window c .ahead }
 
 sub-jump-length : tie.Need-sub-jump-length Inv-loop2 μ-loop2 Inv-loop μ-loop
 sub-jump-length c = omega (arith, c .loop2-test .taken)
@@ -223,7 +223,7 @@ core-after-jump-requires : tie.Need-core-after-jump-requires Inv-loop2 μ-loop2 
 core-after-jump-requires c κs =
     let l = inner (c .before) in
     let v = entry (outer (l .before) .before) .pre in
-    jumpable (standing l) (ahead (c .before)) (length-known (c .before)) (wants-jump c) _ _
+    jumpable (standing l) (ahead-of (c .before)) (length-known (c .before)) (wants-jump c) _ _
     (v .position-table) (v .register-table)
 
 add-begun : tie.Need-add-begun Inv-loop2 μ-loop2 Inv-loop μ-loop
@@ -244,14 +244,8 @@ loop2-less c = omega (arith, jump-fits (c .before))
 loop2-again : tie.Need-loop2-again Inv-loop2 μ-loop2 Inv-loop μ-loop
 loop2-again c =
     let at-jump = c .before in
-    let l = inner (at-jump .before) in
-    record {
-      at = λ h.
-          jumps-on (l .loop2 .inv .at h) (ahead (at-jump .before)) (length-known (at-jump .before)) (wants-jump at-jump)
-          (c .core-after-jump .ensures);
-      later = omega (arith, l .loop2 .inv .later);
-      within-limit = jump-fits at-jump .0;
-    }
+    let at-length = at-jump .before in
+    jumps-to (inner at-length .loop2 .inv) (tested at-length .loop2-test .taken) (length-known at-length) (wants-jump at-jump) (c .core-after-jump .ensures) (jump-fits at-jump .0)
 
 -- A TURN
 
@@ -260,7 +254,7 @@ turn-requires c κs =
     let at-turning = c .before .before .before in
     let l = inner (at-turning .before) in
     let v = entry (outer (l .before) .before) .pre in (
-      turn-asks (standing l) (ahead (at-turning .before)) _ _ (v .instructions) (v .position-table) (no-jump at-turning),
+      turn-asks (standing l) (ahead-of (at-turning .before)) _ _ (v .instructions) (v .position-table) (no-jump at-turning),
       v .register-table,
     )
 
@@ -268,7 +262,7 @@ stop-of-requires : tie.Need-stop-of-requires Inv-loop2 μ-loop2 Inv-loop μ-loop
 stop-of-requires c κs =
     let t = stopped-at c in
     let l = inner (measured t) in
-    stop-known (standing l) (ahead (measured t)) (no-jump (turn-taken t)) (t .turn .ensures) (stops-with c)
+    stop-known (standing l) (ahead-of (measured t)) (no-jump (turn-taken t)) (t .turn .ensures) (stops-with c)
 
 state-of-requires : tie.Need-state-of-requires Inv-loop2 μ-loop2 Inv-loop μ-loop
 state-of-requires c κs = tt
@@ -286,7 +280,7 @@ same-length c =
     let at-stop-found = c .before .before .before in
     let t = stopped-at at-stop-found in
     let l = inner (measured t) in
-    stop-length (standing l) (ahead (measured t)) (no-jump (turn-taken t)) (t .turn .ensures) (stops-with at-stop-found)
+    stop-length (standing l) (ahead-of (measured t)) (no-jump (turn-taken t)) (t .turn .ensures) (stops-with at-stop-found)
 
 returns : tie.Need-returns Inv-loop2 μ-loop2 Inv-loop μ-loop
 returns c =
@@ -296,19 +290,18 @@ returns c =
     let t = stopped-at at-stop-found in
     let l = inner (measured t) in
     rw (c .answer .ensures, at-stop .stop-of .ensures)
-    (stops (standing l) (ahead (measured t)) (no-jump (turn-taken t)) (t .turn .ensures) (stops-with at-stop-found)
+    (stops (standing l) (ahead-of (measured t)) (no-jump (turn-taken t)) (t .turn .ensures) (stops-with at-stop-found)
     (at-state .state-of .ensures))
 
 -- the counts after a turn
 turn-fits : (c : Going)
     → let t = gone-at c in
     let l = inner (measured t) in
-    (l .loop2 .number + 1 ≤ t .turn .result .cycle) × (t .turn .result .cycle ≤ limit-of (l .before))
+    (l .loop2 .number < t .turn .result .cycle) × (t .turn .result .cycle ≤ limit-of (l .before))
 turn-fits c =
     let t = gone-at c in
     let l = inner (measured t) in
-    let v = turn-small (standing l) (ahead (measured t)) (no-jump (turn-taken t)) (t .turn .ensures) (goes-well c) in
-    (omega (arith, v .0), v .1)
+    turn-small (standing l) (ahead-of (measured t)) (no-jump (turn-taken t)) (t .turn .ensures) (goes-well c)
 
 loop2-less-2 : tie.Need-loop2-less-2 Inv-loop2 μ-loop2 Inv-loop μ-loop
 loop2-less-2 c = omega (arith, turn-fits (c .before))
@@ -317,14 +310,9 @@ loop2-again-2 : tie.Need-loop2-again-2 Inv-loop2 μ-loop2 Inv-loop μ-loop
 loop2-again-2 c =
     let at-going = c .before in
     let t = gone-at at-going in
-    let l = inner (measured t) in
+    let at-length = measured t in
     let z = turn-fits at-going in
-    record {
-      at = λ h.
-          goes-on (l .loop2 .inv .at h) (ahead (measured t)) (no-jump (turn-taken t)) (t .turn .ensures) (goes-well at-going);
-      later = omega (arith, l .loop2 .inv .later, z .0);
-      within-limit = z .1;
-    }
+    turns-to (inner at-length .loop2 .inv) (tested at-length .loop2-test .taken) (no-jump (turn-taken t)) (t .turn .ensures) (goes-well at-going) (z .0) (z .1)
 
 -- THE NEXT RECORD
 
