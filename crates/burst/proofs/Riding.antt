@@ -26,7 +26,7 @@ use Rattle.upd546.specs.Timer.{ticksLeft}
 use Rattle.upd546.specs.OneMachineCycle.{blocks, accepts, taken, given, execute, onOwed, onAccepts, ordinaryCycle}
 use Rattle.upd546.specs.TwoRunners.{atTtm, atJcpBack, mayJump, waitLength}
 use Rattle.laws.specs.Timer.{ticks}
-use Rattle.laws.specs.Ordinary.{ordinary}
+use Rattle.laws.specs.Ordinary.{stepsOf, ordinary}
 use Rattle.laws.specs.Burst.{Free, unticked, forward, broughtForward}
 use Rattle.laws.specs.Stops.{StopNumber}
 use Rattle.laws.specs.Valid.{Scalars, ValidStack, ValidPorts, ValidRam, Valid, ValidLines}
@@ -35,8 +35,7 @@ use Rattle.laws.proofs.Lines.{lines-valid}
 use Rattle.laws.proofs.Cycle.{taken-keeps, unticked-valid}
 use Rattle.laws.proofs.Stops.{steps-stop}
 use Rattle.laws.proofs.Tails.{put-none, put-more, put-length}
-use Rattle.laws.proofs.Jump.{free-accepts, blocked-accepts}
-use Rattle.laws.proofs.Ordinary.{steps-due, wait-none}
+use Rattle.laws.proofs.Jump.{free-accepts, blocked-accepts, cycle-due, wait-length-none}
 use Rattle.laws.proofs.Burst.{tm-stays, ticks-stopped, forward-none, forward-on, forward-stm, execute-late, Begun, begun-is, reaches-later}
 use Rattle.jump.specs.Boundary.{watchCode}
 use Rattle.jump.proofs.Lengths.{no-ttm, both-one, stopped, no-loop}
@@ -83,7 +82,7 @@ pub record Riding (skips : Bool) (rom sched : List ℕ) (l : Lines) (limit : ℕ
   pub done-is : p .done ≡ s .cycle .0 + d
   pub begun-is : p .begun ≡ begun₀ + b
   pub few : b ≤ d
-  pub due-is : ordinary .cycle rom sched t ≡ execute rom l t (withTimer (p .core) (ticks (p .done - p .since) (p .core .timer)))
+  pub due-is : stepsOf rom sched t ≡ execute rom l t (withTimer (p .core) (ticks (p .done - p .since) (p .core .timer)))
   pub valid : Valid (stateOf (p .core) (p .ram) (p .ports) (p .done))
   pub level : p .core .interrupt .level ≡ l .int
   pub no-jump : skips ≡ true → waitLength rom sched t (limit - s .cycle .0 - d) ≡ 0
@@ -138,7 +137,7 @@ module _ {skips : Bool} {rom sched table positions : List ℕ} {l : Lines} {limi
   l-valid = subst ValidLines lines-here (lines-valid rom sched (s .cycle .0) (k .turn .lent .panel .sched-bytes) (k .turn .lent .panel .not-refused))
 
   -- the first instruction
-  first-due : ordinary .cycle rom sched s ≡ execute rom l s first
+  first-due : stepsOf rom sched s ≡ execute rom l s first
   unfolding ordinaryCycle
   first-due =
       let n = linesAt sched (s .cycle .0) in
@@ -243,7 +242,7 @@ module _ {skips : Bool} {rom sched table positions : List ℕ} {l : Lines} {limi
     tm : ticks late (p .core .timer) .tm ≡ p .core .timer .tm
     tm = tm-stays late (p .core .timer) (c .valid .core .scalars .register) (λ q. omega (arith, c .inside, c .set, c .before-tick q))
 
-    outcome : ordinary .cycle rom sched (c .t) ≡ broughtForward (suc late) (unticked rom l here (p .core))
+    outcome : stepsOf rom sched (c .t) ≡ broughtForward (suc late) (unticked rom l here (p .core))
     outcome = c .due-is ∙ execute-late rom l (c .t) (p .core) late tm ∙ ap (broughtForward (suc late)) same-outcome
 
     module _ {r : Started} {ram′ ports′ log′ : List ℕ} (a : Answers rom l here (p .at) (p .log) r ram′ ports′ log′) where
@@ -260,12 +259,12 @@ module _ {skips : Bool} {rom sched table positions : List ℕ} {l : Lines} {limi
       unfolding answerOn
       unbegun g = go (unticked rom l here (p .core)) outcome (a .is)
         where
-          go : (o : Out State) → ordinary .cycle rom sched (c .t) ≡ broughtForward (suc late) o → startOf r ram′ ports′ log′ ≡ answerOn (p .at) o here (p .log) → Unbegun
+          go : (o : Out State) → stepsOf rom sched (c .t) ≡ broughtForward (suc late) o → startOf r ram′ ports′ log′ ≡ answerOn (p .at) o here (p .log) → Unbegun
           go (stop i) q z =
               let same : r .stop ≡ i = ap (λ (y : Answer). y .stop) z in
               record {
                 stops = one-stops ordinary rom sched (length log₀ - p .at) (c .t) i q ∙ ap (λ (y : ℕ). still (c .t) (some y)) (sym same);
-                known = λ d. subst StopNumber (sym same) (steps-stop rom (linesAt sched (c .t .cycle .0)) (c .t) i q);
+                known = λ d. subst StopNumber (sym same) (steps-stop rom sched (c .t) i q);
                 core-is = ap (λ (y : Answer). y .core) z;
                 ram-is = ap (λ (y : Answer). y .ram) z;
                 ports-is = ap (λ (y : Answer). y .ports) z;
@@ -348,9 +347,9 @@ module _ {skips : Bool} {rom sched table positions : List ℕ} {l : Lines} {limi
       unfolding answerOn
       gone g = go (unticked rom l here (p .core)) same-outcome outcome (a .is)
         where
-          go : (o : Out State) → unticked rom l (c .t) (p .core) ≡ o → ordinary .cycle rom sched (c .t) ≡ broughtForward (suc late) o
+          go : (o : Out State) → unticked rom l (c .t) (p .core) ≡ o → stepsOf rom sched (c .t) ≡ broughtForward (suc late) o
               → startOf r ram′ ports′ log′ ≡ answerOn (p .at) o here (p .log) → Gone
-          go (stop i) v q z = absurd (steps-stop rom (linesAt sched (c .t .cycle .0)) (c .t) i q .some (sym (ap (λ (y : Answer). y .stop) z) ∙ g))
+          go (stop i) v q z = absurd (steps-stop rom sched (c .t) i q .some (sym (ap (λ (y : Answer). y .stop) z) ∙ g))
           go (went u x e) v q z = fit (leb (length x) (length (p .log) - p .at)) refl z
             where
               fit : (f : Bool) → leb (length x) (length (p .log) - p .at) ≡ f
@@ -573,7 +572,7 @@ module _ {skips : Bool} {rom sched table positions : List ℕ} {l : Lines} {limi
                   done-is = omega (arith, c .done-is);
                   begun-is = omega (arith, c .begun-is);
                   few = omega (arith, c .few, c .done-is);
-                  due-is = steps-due rom (linesAt sched over) there refl not-accepted (ap (λ (y : Lines). y .int) lines-still ∙ sym level-still)
+                  due-is = cycle-due rom sched there refl not-accepted (ap (λ (y : Lines). y .int) lines-still ∙ sym level-still)
                       ∙ ap (λ (y : Lines). execute rom y there on) lines-still;
                   valid = valid-still;
                   level = level-still;
@@ -592,7 +591,7 @@ module _ {skips : Bool} {rom sched table positions : List ℕ} {l : Lines} {limi
 
             -- INT and INTE aren't both 1, and no loop waits on the timer: the code at PC isn't the one that is watched for
             pub rides-freely : Free (r .core .interrupt) → (byteAt rom (r .core .flow .pc) ≡ watch′ → ⊥) → Riding skips rom sched l limit s log₀ at₀ begun₀ after
-            rides-freely f n = rides-on (free-accepts on f) (λ q left. wait-none rom sched there left (go q (eqb (r .core .timer .register) 0) refl))
+            rides-freely f n = rides-on (free-accepts on f) (λ q left. wait-length-none rom sched there left (go q (eqb (r .core .timer .register) 0) refl))
               where
                 go : skips ≡ true → (x : Bool) → eqb (r .core .timer .register) 0 ≡ x → mayJump rom sched there ≡ false
                 go q true v =
@@ -606,13 +605,13 @@ module _ {skips : Bool} {rom sched table positions : List ℕ} {l : Lines} {limi
             pub rides-past : Free (r .core .interrupt) → atJcpBack rom (r .core .flow .pc) ≡ false → Riding skips rom sched l limit s log₀ at₀ begun₀ after
             rides-past f z =
                 rides-on (free-accepts on f)
-                (λ q left. wait-none rom sched there left (no-loop rom sched there (rw z (and-false (atTtm rom (r .core .flow .pc))))))
+                (λ q left. wait-length-none rom sched there left (no-loop rom sched there (rw z (and-false (atTtm rom (r .core .flow .pc))))))
 
             -- the mark keeps an interrupt back
             pub rides-kept : keptBack (r .core .interrupt) (r .core .mark) ≡ true → Riding skips rom sched l limit s log₀ at₀ begun₀ after
             rides-kept z =
                 rides-on (blocked-accepts on (and-right (mayBeDue (r .core .interrupt)) (blocks (r .core .mark)) z))
-                (λ q left. wait-none rom sched there left (both-one rom sched there (and-left (mayBeDue (r .core .interrupt)) (blocks (r .core .mark)) z)))
+                (λ q left. wait-length-none rom sched there left (both-one rom sched there (and-left (mayBeDue (r .core .interrupt)) (blocks (r .core .mark)) z)))
 
         pub near-still : {near : ℕ} → Near near (p .horizon) (p .core .interrupt) → (r .core .mark ≡ markEi → ⊥) → Near near (p .horizon) (r .core .interrupt)
         near-still v n = record { event = v .event; free = λ q. free-still n (v .free q) }

@@ -12,7 +12,7 @@ use Rattle.upd546.specs.declared.Lines.{Lines}
 use Rattle.upd546.specs.declared.State.{State}
 use Rattle.upd546.specs.TheLineSchedule.{linesAt}
 use Rattle.upd546.specs.OneMachineCycle.{accepts, accepted, taken, paid, ticked, quiet, onOwed, onAccepts, ordinaryCycle}
-use Rattle.laws.specs.Ordinary.{ordinary}
+use Rattle.laws.specs.Ordinary.{stepsOf}
 use Rattle.laws.proofs.Tails.{put-none}
 use Rattle.upd546.specs.Parts.{withParts, onward}
 use Rattle.burst.specs.Turn.{Turn, Turned, stretchOf}
@@ -22,7 +22,7 @@ module _ {skips : Bool} {rom sched table positions : List ℕ} {l : Lines} {limi
   lines-here : linesAt sched (s .cycle .0) ≡ l
   lines-here = k .lines (s .cycle .0) (omega arith) (k .ahead)
 
-  single : (core : Core) → ordinary .cycle rom sched s ≡ went (onward 1 s core (s .ram) (s .ports)) [] 0
+  single : (core : Core) → stepsOf rom sched s ≡ went (onward 1 s core (s .ram) (s .ports)) [] 0
       → Turned skips rom sched limit s log at begun (stretchOf core (s .cycle .0 + 1) begun at 0) (s .ram) (s .ports) log
   single core q = record {
     held = λ n. absurd (n refl);

@@ -1,12 +1,11 @@
--- A machine cycle keeps every field within its width, adds 1 to the cycle number and appends at most 8 bytes, but 8 more where
--- it leaves cycles owed. Assumes nothing.
+-- A machine cycle keeps every field within its width, adds 1 to the cycle number and appends at most 16 bytes. Assumes nothing.
 use mathlib.Core.Path.{_≡_, _∙_, refl, subst}
 use mathlib.Core.Bool.{Bool, true, false, cond}
 use mathlib.Core.List.{List, [], _∷_}
 use Prim.Native.Nat.{ℕ, zero, suc, _+_, _-_, _*_, _<_, _≤_}
 use native.Mathlib.Omega.{arith}
 use lib.Dec.{T, eqb, ltb, ltb→lt}
-use lib.ListN.{length, set, length-set}
+use lib.ListN.{length, set, length-set, replicate}
 use borrow.Author.Tests.{eqb-false, ltb-true}
 use Rattle.runs.specs.Machine.{Out, stop, went}
 use Rattle.runs.specs.Refusals.{cycleLimit}
@@ -16,21 +15,23 @@ use Rattle.upd546.specs.declared.Core.{Core}
 use Rattle.upd546.specs.declared.Timer.{Timer}
 use Rattle.upd546.specs.declared.Lines.{Lines}
 use Rattle.upd546.specs.declared.State.{State}
-use Rattle.upd546.specs.TheMachine.{addresses, byteAt, follows, past, withWord, placeOf, markStm}
-use Rattle.upd546.specs.Parts.{withTimer, setOwed, setPc}
+use Rattle.upd546.specs.TheMachine.{addresses, byteAt, follows, past, withWord, placeOf, markStm, latches, resetCount}
+use Rattle.upd546.specs.Parts.{withCount, withTimer, setOwed, setPc}
 use Rattle.upd546.specs.TheLineSchedule.{linesAt}
-use Rattle.upd546.specs.Ports.{Write, latched, logBytes, portC}
+use Rattle.upd546.specs.Ports.{Write, resetRecord, latched, logBytes, portC}
 use Rattle.upd546.specs.Timer.{stepRegister, tick}
 use Rattle.upd546.specs.Instructions.{Given, Effect, Instruction, instruction}
-use Rattle.upd546.specs.OneMachineCycle.{accepts, accepted, taken, paid, ticked, ended, quiet, given, instructionStop, passedOver, begun, onStop, execute, onOwed, onAccepts, cycle}
+use Rattle.upd546.specs.OneMachineCycle.{accepts, accepted, taken, paid, ticked, ended, quiet, given, instructionStop, passedOver, begun, onStop, execute, onOwed, onAccepts, ordinaryCycle, cleared, resetWrites, resetCycle, cycle}
 use Rattle.upd546.specs.TwoRunners.{panelNumber}
 use Rattle.upd546.proofs.Computed.{every-at}
 use Rattle.laws.specs.Burst.{started, unticked}
 use Rattle.laws.specs.Valid.{Scalars, ValidCore, ValidPorts, ValidRam, Valid, ValidLines}
-use Rattle.laws.proofs.Lists.{below-set, set-entry}
+use Rattle.laws.proofs.Lists.{below-set, set-entry, below-all}
 use Rattle.laws.proofs.Instructions.{ValidGiven, Keeps, keeps, pushed-valid}
 use Rattle.laws.specs.Writes.{All, _▹_, ValidWrite}
 use Rattle.laws.proofs.Lines.{lines-valid}
+use Rattle.laws.specs.Reset.{countAfter}
+use Rattle.laws.proofs.Reset.{counted-small, either}
 
 -- THE TIMER
 
@@ -109,6 +110,21 @@ pub paid-keeps : (c : Core) → ValidCore c → ValidCore (paid c)
 unfolding paid
 paid-keeps c v = record { scalars = omega arith; stack = v .stack }
 
+-- A RESET
+
+cleared-keeps : (c : Core) → ValidCore c → ValidCore (cleared c)
+unfolding cleared
+cleared-keeps c v = record { scalars = omega arith; stack = v .stack }
+
+reset-one : (count : ℕ) → length (resetWrites count) ≤ 1
+reset-one count = go (eqb count resetCount)
+  where
+    go : (b : Bool) → length (cond b [] resetRecord) ≤ 1
+    go true = omega arith
+    go false = omega arith
+
+-- ADDRESSES
+
 follows-small : (a : ℕ) → a < addresses → follows a < addresses
 unfolding follows
 follows-small a h = omega arith
@@ -136,32 +152,10 @@ records-length n (w ∷ ws) = omega (arith, records-length n ws)
 
 -- WHAT A CYCLE KEEPS
 
--- 8 while the last instruction begun still owes cycles, else 0: a second record is paid by an owed cycle
-abbrev pub debtOf : ℕ → ℕ
-debtOf zero = 0
-debtOf (suc k) = 8
-
-abbrev pub debt : State → ℕ
-debt s = debtOf (s .core .owed)
-
-pub debt-small : (owed : ℕ) → debtOf owed ≤ 8
-debt-small zero = omega arith
-debt-small (suc k) = omega arith
-
-debt-owes : (owed : ℕ) → 0 < owed → debtOf owed ≡ 8
-debt-owes zero h = absurd (omega arith)
-debt-owes (suc k) h = refl
-
--- n records of an instruction with so many base cycles
-room : (cycles n over : ℕ) → 0 < cycles → cycles ≤ 2 → n ≤ cycles → 8 * n + 0 ≤ 8 + debtOf (cycles - 1 + over)
-room zero n over p q r = absurd (omega arith)
-room (suc zero) n over p q r = omega arith
-room (suc (suc k)) n over p q r = omega (arith, debt-owes (suc (suc k) - 1 + over) (omega arith))
-
 pub record Cycled (s t : State) (w : List ℕ) : Type 0 where
   pub valid : Valid t
   pub rises : t .cycle .0 ≡ suc (s .cycle .0)
-  pub records : length w + debt s ≤ 8 + debt t
+  pub records : length w ≤ 16
 
 abbrev Fine : State → Out State → Type 0
 Fine s (stop k) = Unit {0}
@@ -170,14 +164,14 @@ Fine s (went t w b) = Cycled s t w
 module _ (s : State) (v : Valid s) (h : s .cycle .0 < cycleLimit) where
   -- the state after a cycle
   ended-valid : (c : Core) (ram ports : List ℕ) → ValidCore c → ValidRam ram → ValidPorts ports → Valid (ended s c ram ports)
-  ended-valid c ram ports vc vr vp = record { core = ticked-valid c vc; ports = vp; ram = vr; cycle = omega arith }
+  ended-valid c ram ports vc vr vp = record { core = ticked-valid c vc; ports = vp; ram = vr; count = v .count; cycle = omega arith }
 
   quiet-fine : (c : Core) → ValidCore c → Fine s (quiet s c)
   quiet-fine c vc =
       record {
         valid = ended-valid c (s .ram) (s .ports) vc (v .ram) (v .ports);
         rises = omega arith;
-        records = omega (arith, debt-small (s .core .owed));
+        records = omega arith;
       }
 
   module _ (rom : List ℕ) (l : Lines) (b : Bytes rom) (vl : ValidLines l) (c : Core) (vc : ValidCore c) where
@@ -231,7 +225,7 @@ module _ (s : State) (v : Valid s) (h : s .cycle .0 < cycleLimit) where
               ended-valid core (withWord (s .ram) (i .address (g .core)) (e .word)) (latched (e .writes) (s .ports)) (core-after i g over k vg ho)
               (ram-after i g k vg) (ports-after i g k vg);
           rises = omega arith;
-          records = rw (records-length (s .cycle .0) (e .writes), ticked-owed core, z) (room (i .cycles) (length (e .writes)) over hc (k .two-cycles) (k .records g vg));
+          records = omega (arith, records-length (s .cycle .0) (e .writes), k .two-cycles, k .records g vg);
         }
 
     -- and before the timer steps
@@ -254,6 +248,7 @@ module _ (s : State) (v : Valid s) (h : s .cycle .0 < cycleLimit) where
           core = core-after i g (passedOver rom (i .effect g)) (keeps (g .code)) given-valid (over-small (i .effect g));
           ports = ports-after i g (keeps (g .code)) given-valid;
           ram = ram-after i g (keeps (g .code)) given-valid;
+          count = v .count;
           cycle = omega arith;
         }
         go (suc k) = tt
@@ -279,19 +274,46 @@ module _ (s : State) (v : Valid s) (h : s .cycle .0 < cycleLimit) where
     owed-fine zero z = execute-fine z
     owed-fine (suc k) z = quiet-fine (paid c) (paid-keeps c vc)
 
-  cycle-fine : (rom sched : List ℕ) → Bytes rom → Bytes sched → panelNumber rom sched ≡ 0 → Fine s (cycle rom sched s)
-  unfolding cycle
-  cycle-fine rom sched br bs e = go (accepts (s .core))
+  -- the steps a to d
+  ordinary-fine : (rom : List ℕ) (l : Lines) → Bytes rom → ValidLines l → Fine s (ordinaryCycle rom l s)
+  unfolding ordinaryCycle
+  ordinary-fine rom l br vl = go (accepts (s .core))
     where
-      l : Lines
-      l = linesAt sched (s .cycle .0)
-
-      vl : ValidLines l
-      vl = lines-valid rom sched (s .cycle .0) bs e
-
       go : (t : Bool) → Fine s (onAccepts t rom l s)
       go true = quiet-fine (taken l (accepted (s .core))) (taken-keeps l (accepted (s .core)) vl (accepted-keeps (s .core) (v .core)))
       go false = owed-fine rom l br vl (taken l (s .core)) (taken-keeps l (s .core) vl (v .core)) (s .core .owed) refl
+
+  -- a reset cycle
+  reset-fine : (l : Lines) → ValidLines l → Fine s (resetCycle l s)
+  unfolding resetCycle
+  reset-fine l vl = record {
+    valid = record {
+      core = cleared-keeps (taken l (s .core)) (taken-keeps l (s .core) vl (v .core));
+      ports = record { count = refl; below = below-all 16 (replicate latches 0) (omega arith) refl; last = omega arith };
+      ram = v .ram;
+      count = omega arith;
+      cycle = omega arith;
+    };
+    rises = omega arith;
+    records = omega (arith, records-length (s .cycle .0) (resetWrites (s .count)), reset-one (s .count));
+  }
+
+module _ (s : State) (v : Valid s) (h : s .cycle .0 < cycleLimit) where
+  pub recounted-valid : (k : ℕ) → k ≤ resetCount → Valid (withCount k s)
+  recounted-valid k e = record { core = v .core; ports = v .ports; ram = v .ram; count = e; cycle = v .cycle }
+
+  -- of a cycle it doesn't matter which count it began with
+  from-count : (k : ℕ) (o : Out State) → Fine (withCount k s) o → Fine s o
+  from-count k (stop n) f = tt
+  from-count k (went t w b) f = record { valid = f .valid; rises = f .rises; records = f .records }
+
+  cycle-fine : (rom sched : List ℕ) → Bytes rom → Bytes sched → panelNumber rom sched ≡ 0 → Fine s (cycle rom sched s)
+  cycle-fine rom sched br bs e =
+      let l = linesAt sched (s .cycle .0) in
+      let vl = lines-valid rom sched (s .cycle .0) bs e in
+      let k = countAfter sched (s .cycle .0) (s .count) in
+      either rom sched s (Fine s) (reset-fine s v h l vl)
+      (from-count k (ordinaryCycle rom l (withCount k s)) (ordinary-fine (withCount k s) (recounted-valid k (counted-small (l .res) (s .count))) h rom l br vl))
 
 -- THE LAW: a cycle that is begun at a valid state below the cycle limit
 pub cycle-keeps : (rom sched : List ℕ) (s t : State) (w : List ℕ) (b : ℕ) → Bytes rom → Bytes sched → panelNumber rom sched ≡ 0 → Valid s

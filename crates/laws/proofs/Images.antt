@@ -1,13 +1,15 @@
 -- Save and restore are exact both ways. Assumes nothing.
 use mathlib.Core.Path.{_≡_, _∙_, refl, sym, ap, ap₂, subst}
-use mathlib.Core.Bool.{true, _&&_}
+use mathlib.Core.Bool.{Bool, true, false, _&&_}
 use mathlib.Core.List.{List, [], _∷_, _++_, append-assoc, append-nil}
 use Prim.Native.Nat.{ℕ, zero, suc, _+_, _-_, _*_, _/_, _%_, _<_, _≤_}
 use native.Mathlib.Omega.{arith}
 use lib.Dec.{eqb, ltb, eqb→eq}
-use lib.ListN.{length, getD, take, drop, length-append}
-use lib.Seq.{take-all, take-add, take-at, drop-at}
+use lib.ListN.{length, getD, take, drop, length-append, take-append-drop, drop-of-length-le, List·getD-eq-default}
+use lib.Seq.{take-add, take-at, drop-at, drop-cons, getD-append-add}
 use borrow.Author.Tests.{eq-eqb, eqb-true, lt-ltb, ltb-true, le-leb}
+use Rattle.runs.specs.declared.Version.{Version}
+use Rattle.runs.specs.declared.Version.the-variants.{One, Two}
 use Rattle.runs.specs.TwoRunners.{saveNumber, saveAnswer, restoreAnswer}
 use Rattle.runs.specs.Refusals.{firstOf, unless}
 use Rattle.runs.specs.Laws.{Bytes}
@@ -15,12 +17,12 @@ use Rattle.runs.proofs.Refusals.{first-at, passes}
 use Rattle.upd546.specs.declared.Core.{Core}
 use Rattle.upd546.specs.declared.State.{State}
 use Rattle.upd546.specs.TheMachine.{addresses, stackDepth, latches, dpOf}
-use Rattle.upd546.specs.Parts.{withCore, withFlow}
+use Rattle.upd546.specs.Parts.{withCore, withCount, withFlow}
 use Rattle.upd546.specs.Sequences.{entries}
 use Rattle.upd546.specs.Bytes.{bitAt, numberOf, bytesOf, part}
 use Rattle.upd546.specs.Sequences.{sameNumbers}
-use Rattle.upd546.specs.StateImage.{imageLength, imageMarkAt, versionAt, pcAt, stackAt, dpAt, flagsAt, portsAt, ramAt, ramBytes, cycleAt}
-use Rattle.upd546.specs.StateImage.{imageMark, imageVersion, wordsBytes, flagsByte, coreBytes, packed, bodyBytes, imageOf, byte, unpacked, ofImage, stateSound, stateNumber, fieldsNumber, imageNumber}
+use Rattle.upd546.specs.StateImage.{imageLength, imageMarkAt, versionAt, pcAt, stackAt, dpAt, flagsAt, portsAt, ramAt, ramBytes, cycleAt, countAt}
+use Rattle.upd546.specs.StateImage.{imageMark, ordinal, versionBytes, versionBy, versionOf, wordsBytes, flagsByte, coreBytes, packed, bodyBytes, countBytes, imageOf, byte, unpacked, ofImage, stateSound, stateNumber, versionNumber, fieldsNumber, imageNumber}
 use Rattle.upd546.specs.TwoRunners.{upd546}
 use Rattle.upd546.proofs.Computed.{every-at, entries-of}
 use Rattle.laws.specs.Valid.{Scalars, Valid}
@@ -97,8 +99,12 @@ flags-back {c} k =
 abbrev withStack : State → List ℕ → State
 withStack s stack = withCore s (withFlow (s .core) (record { pc = s .core .flow .pc; stack = stack }))
 
+-- an image of either version, with what stands behind its body
+abbrev framed : Version → State → List ℕ → List ℕ
+framed w s tail = imageMark ++ versionBytes w ++ bodyBytes s ++ tail
+
 -- whatever stands behind it
-module _ (tail : List ℕ) (s : State) (v : Valid s) (a b c : ℕ) (ha : a < addresses) (hb : b < addresses) (hc : c < addresses) where
+module _ (w : Version) (tail : List ℕ) (s : State) (v : Valid s) (a b c : ℕ) (ha : a < addresses) (hb : b < addresses) (hc : c < addresses) where
   abbrev here : State
   here = withStack s (a ∷ b ∷ c ∷ [])
 
@@ -134,8 +140,17 @@ module _ (tail : List ℕ) (s : State) (v : Valid s) (a b c : ℕ) (ha : a < add
       ∙ ap (λ (l : List ℕ). numberOf (take 6 l)) (drop-at (s .ports ++ packed (s .ram)) (bytesOf 6 (s .cycle .0) ++ tail) (latches + ramBytes) both-length)
       ∙ cycle-back (s .cycle .0) (omega (arith, v .cycle))
 
-  back : ofImage (imageOf here ++ tail) ≡ here
-  unfolding ofImage imageOf rest
+  -- the byte behind the cycle number is the first of what stands there, 0 where there is none
+  count-back : getD rest (latches + ramBytes + 6) 0 ≡ getD tail 0 0
+  unfolding rest
+  count-back =
+      let front = s .ports ++ packed (s .ram) ++ bytesOf 6 (s .cycle .0) in
+      let long : length front + 0 ≡ latches + ramBytes + 6 =
+      omega (arith, length-append (s .ports ++ packed (s .ram)) (bytesOf 6 (s .cycle .0)), both-length) in
+      ap (λ (n : ℕ). getD rest n 0) (sym long) ∙ getD-append-add front tail 0 0
+
+  back : ofImage (framed w here tail) ≡ withCount (getD tail 0 0) here
+  unfolding ofImage rest
   back =
       let k = v .core .scalars in
       let flags = flags-back k in
@@ -153,14 +168,32 @@ module _ (tail : List ℕ) (s : State) (v : Valid s) (a b c : ℕ) (ha : a < add
         };
         ports = ports-back i;
         ram = ram-back i;
+        count = count-back i;
         cycle = record { 0 = number-back i };
       }
 
-  flags-at : byte (imageOf here ++ tail) flagsAt ≡ flagsByte (s .core)
-  unfolding imageOf
+  flags-at : byte (framed w here tail) flagsAt ≡ flagsByte (s .core)
   flags-at = refl
 
 -- OF ANY ACCEPTED STATE
+
+-- the version that goes with an image's length
+pub version-by-length : (w : Version) (image : List ℕ) → length image ≡ imageLength w → versionOf image ≡ w
+version-by-length w image e = ap (λ (n : ℕ). versionBy (eqb n (imageLength Two))) e ∙ go w
+  where
+    go : (x : Version) → versionBy (eqb (imageLength x) (imageLength Two)) ≡ x
+    go One = refl
+    go Two = refl
+
+-- the count of version 2, and that version 1 has none
+tail-back : (w : Version) (s : State) → versionNumber w s ≡ 0 → getD (countBytes w (s .count)) 0 0 ≡ s .count
+unfolding versionNumber
+tail-back One s f = sym (eqb-true (s .count) 0 (passes (eqb (s .count) 0) 54 refl f))
+tail-back Two s f = refl
+
+tail-length : (w : Version) (count : ℕ) → countAt + length (countBytes w count) ≡ imageLength w
+tail-length One count = refl
+tail-length Two count = refl
 
 module _ (s : State) (v : Valid s) where
   stack-at : ℕ → ℕ
@@ -175,17 +208,17 @@ module _ (s : State) (v : Valid s) where
   stack-below i = v .core .stack .below i
 
   -- an image with bytes behind its body
-  body-back : (tail : List ℕ) → ofImage (imageOf s ++ tail) ≡ s
-  body-back tail =
-      subst (λ (t : State). ofImage (imageOf t ++ tail) ≡ t) three
-      (back tail s v (stack-at 0) (stack-at 1) (stack-at 2) (stack-below 0) (stack-below 1) (stack-below 2))
+  body-back : (w : Version) (tail : List ℕ) → ofImage (framed w s tail) ≡ withCount (getD tail 0 0) s
+  body-back w tail =
+      subst (λ (t : State). ofImage (framed w t tail) ≡ withCount (getD tail 0 0) t) three
+      (back w tail s v (stack-at 0) (stack-at 1) (stack-at 2) (stack-below 0) (stack-below 1) (stack-below 2))
 
-  flags-read : (tail : List ℕ) → byte (imageOf s ++ tail) flagsAt ≡ flagsByte (s .core)
-  flags-read tail =
-      subst (λ (t : State). byte (imageOf t ++ tail) flagsAt ≡ flagsByte (s .core)) three
-      (flags-at tail s v (stack-at 0) (stack-at 1) (stack-at 2) (stack-below 0) (stack-below 1) (stack-below 2))
+  flags-read : (w : Version) (tail : List ℕ) → byte (framed w s tail) flagsAt ≡ flagsByte (s .core)
+  flags-read w tail =
+      subst (λ (t : State). byte (framed w t tail) flagsAt ≡ flagsByte (s .core)) three
+      (flags-at w tail s v (stack-at 0) (stack-at 1) (stack-at 2) (stack-below 0) (stack-below 1) (stack-below 2))
 
-  body-length : length (bodyBytes s) ≡ imageLength - pcAt
+  body-length : length (bodyBytes s) ≡ countAt - pcAt
   body-length =
       let words = bytesOf 2 (s .core .flow .pc) ++ wordsBytes (s .core .flow .stack) in
       let front = words ++ coreBytes (s .core) in
@@ -201,29 +234,42 @@ module _ (s : State) (v : Valid s) where
         length-append (front ++ s .ports ++ packed (s .ram)) (bytesOf 6 (s .cycle .0)),
       )
 
-  -- with none behind it
-  pub image-back : ofImage (imageOf s) ≡ s
-  image-back = ap ofImage (sym (append-nil (imageOf s))) ∙ body-back []
-
-  pub image-length : length (imageOf s) ≡ imageLength
+module _ (w : Version) (s : State) (v : Valid s) (fits : versionNumber w s ≡ 0) where
+  pub image-back : ofImage (imageOf w s) ≡ s
   unfolding imageOf
-  image-length = omega (arith, body-length)
+  image-back = body-back s v w (countBytes w (s .count)) ∙ ap (λ (k : ℕ). withCount k s) (tail-back w s fits)
 
-  mark-at : sameNumbers (part (imageOf s) imageMarkAt 3) imageMark ≡ true
+  pub image-length : length (imageOf w s) ≡ imageLength w
+  unfolding imageOf
+  image-length =
+      omega (
+        arith,
+        body-length s v,
+        length-append (imageMark ++ versionBytes w ++ bodyBytes s) (countBytes w (s .count)),
+        tail-length w (s .count),
+      )
+
+  version-back : versionOf (imageOf w s) ≡ w
+  version-back = version-by-length w (imageOf w s) image-length
+
+  mark-at : sameNumbers (part (imageOf w s) imageMarkAt 3) imageMark ≡ true
   unfolding imageOf
   mark-at = refl
 
-  version-at : sameNumbers (part (imageOf s) versionAt 2) imageVersion ≡ true
+  version-at : sameNumbers (part (imageOf w s) versionAt 2) (versionBytes w) ≡ true
   unfolding imageOf
-  version-at = refl
+  version-at = rw (eq-eqb (ordinal w) (ordinal w) refl)
 
-  pub image-accepted : imageNumber (imageOf s) ≡ 0
+  flags-in : byte (imageOf w s) flagsAt < 64
+  unfolding imageOf
+  flags-in = omega (arith, flags-read s v w (countBytes w (s .count)), v .core .scalars)
+
+  pub image-accepted : imageNumber (imageOf w s) ≡ 0
   unfolding imageNumber fieldsNumber firstOf
   image-accepted =
-      let flags : byte (imageOf s) flagsAt ≡ flagsByte (s .core) = ap (λ (l : List ℕ). byte l flagsAt) (sym (append-nil (imageOf s))) ∙ flags-read [] in
-      let six : ltb (byte (imageOf s) flagsAt) 64 ≡ true = lt-ltb (byte (imageOf s) flagsAt) 64 (omega (arith, flags, v .core .scalars)) in
-      let sound : stateSound (ofImage (imageOf s)) ≡ true = ap stateSound image-back ∙ valid-sound s v in
-      rw (eq-eqb (length (imageOf s)) imageLength image-length, mark-at, version-at, six, sound)
+      let six : ltb (byte (imageOf w s) flagsAt) 64 ≡ true = lt-ltb (byte (imageOf w s) flagsAt) 64 flags-in in
+      let sound : stateSound (ofImage (imageOf w s)) ≡ true = ap stateSound image-back ∙ valid-sound s v in
+      rw (version-back, eq-eqb (length (imageOf w s)) (imageLength w) image-length, mark-at, version-at, six, sound)
 
 -- THE IMAGE OF THE STATE OF AN IMAGE
 same-eq : (l m : List ℕ) → sameNumbers l m ≡ true → l ≡ m
@@ -241,12 +287,22 @@ parts-joined : {a a′ b b′ c c′ d d′ e e′ f f′ : List ℕ} → a ≡ 
 parts-joined p q r s t u = λ i. p i ++ q i ++ r i ++ s i ++ t i ++ u i
 
 -- 31 comes first, whatever else may refuse the bytes
-pub length-fits : (image ks : List ℕ) → firstOf (unless (eqb (length image) imageLength) 31 ∷ ks) ≡ 0 → length image ≡ imageLength
-length-fits image ks e = eqb-true _ _ (passes (eqb (length image) imageLength) 31 refl (first-at _ e 0))
+pub length-fits : (image ks : List ℕ) → firstOf (unless (eqb (length image) (imageLength (versionOf image))) 31 ∷ ks) ≡ 0
+    → length image ≡ imageLength (versionOf image)
+length-fits image ks e = eqb-true _ _ (passes (eqb (length image) (imageLength (versionOf image))) 31 refl (first-at _ e 0))
 
-pub accepted-length : (image : List ℕ) → imageNumber image ≡ 0 → length image ≡ imageLength
+pub accepted-length : (image : List ℕ) → imageNumber image ≡ 0 → length image ≡ imageLength (versionOf image)
 unfolding imageNumber
 accepted-length image e = length-fits image _ e
+
+-- such a length is 82, or it is 81
+pub version-cases : (image : List ℕ) → length image ≡ imageLength (versionOf image) → (P : Version → Type 0)
+    → (length image ≡ imageLength One → P One) → (length image ≡ imageLength Two → P Two) → P (versionOf image)
+version-cases image e P one two = go (eqb (length image) (imageLength Two)) refl
+  where
+    go : (b : Bool) → eqb (length image) (imageLength Two) ≡ b → P (versionBy b)
+    go true f = two (eqb-true (length image) (imageLength Two) f)
+    go false f = one (e ∙ ap (λ (b : Bool). imageLength (versionBy b)) f)
 
 module _ (image : List ℕ) (bytes : Bytes image) (accepted : imageNumber image ≡ 0) where
   fields-sound : (ltb (byte image flagsAt) 64 && stateSound (ofImage image)) ≡ true
@@ -263,15 +319,17 @@ module _ (image : List ℕ) (bytes : Bytes image) (accepted : imageNumber image 
   unfolding imageNumber
   mark-same = sym (same-eq _ _ (passes (sameNumbers (part image imageMarkAt 3) imageMark) 32 refl (first-at _ accepted 1)))
 
-  version-same : imageVersion ≡ part image versionAt 2
+  version-same : versionBytes (versionOf image) ≡ part image versionAt 2
   unfolding imageNumber
-  version-same = sym (same-eq _ _ (passes (sameNumbers (part image versionAt 2) imageVersion) 33 refl (first-at _ accepted 2)))
+  version-same =
+      sym (same-eq _ _ (passes (sameNumbers (part image versionAt 2) (versionBytes (versionOf image))) 33 refl (first-at _ accepted 2)))
 
   -- the body is there
-  whole-body : imageLength ≤ length image
-  whole-body = omega (arith, accepted-length image accepted)
+  whole-body : countAt ≤ length image
+  whole-body =
+      version-cases image (accepted-length image accepted) (λ w. countAt ≤ length image) (λ e. omega (arith, e)) (λ e. omega (arith, e))
 
-  word-same : (at : ℕ) → at + 2 ≤ imageLength → bytesOf 2 (numberOf (part image at 2)) ≡ part image at 2
+  word-same : (at : ℕ) → at + 2 ≤ countAt → bytesOf 2 (numberOf (part image at 2)) ≡ part image at 2
   word-same at h = rw (part-two image at (omega (arith, whole-body))) (word-bytes (byte image at) (byte image (at + 1)) (bytes at) (bytes (at + 1)))
 
   stack-same : wordsBytes (entries stackDepth (λ i. numberOf (part image (stackAt + 2 * i) 2))) ≡ part image stackAt 6
@@ -296,7 +354,7 @@ module _ (image : List ℕ) (bytes : Bytes image) (accepted : imageNumber image 
       (cycle-bytes _ _ _ _ _ _ (bytes cycleAt) (bytes (cycleAt + 1)) (bytes (cycleAt + 2)) (bytes (cycleAt + 3)) (bytes (cycleAt + 4)) (bytes (cycleAt + 5)))
 
   -- the body, part by part
-  body-parts : part image pcAt (imageLength - pcAt)
+  body-parts : part image pcAt (countAt - pcAt)
       ≡ part image pcAt 2 ++ part image stackAt 6 ++ part image dpAt 7 ++ part image portsAt latches ++ part image ramAt ramBytes ++ part image cycleAt 6
   body-parts =
       rw (
@@ -307,28 +365,42 @@ module _ (image : List ℕ) (bytes : Bytes image) (accepted : imageNumber image 
         part-add image pcAt (stackAt - pcAt) 6,
       )
 
-  body-same : bodyBytes (ofImage image) ≡ part image pcAt (imageLength - pcAt)
+  body-same : bodyBytes (ofImage image) ≡ part image pcAt (countAt - pcAt)
   unfolding ofImage
   body-same = parts-joined (word-same pcAt (omega arith)) stack-same core-same refl (packed-unpacked (part image ramAt ramBytes)) cycle-same ∙ sym body-parts
 
-  -- the image: mark, version and body
-  three-parts : image ≡ part image imageMarkAt 3 ++ part image versionAt 2 ++ part image pcAt (imageLength - pcAt)
-  three-parts =
-      sym (take-all imageLength image (omega (arith, accepted-length image accepted)))
-      ∙ rw (take-add pcAt (imageLength - pcAt) image, take-add versionAt 2 image)
+  -- the count of version 2, and that version 1 has none
+  tail-same : countBytes (versionOf image) (ofImage image .count) ≡ drop countAt image
+  unfolding ofImage
+  tail-same =
+      version-cases image (accepted-length image accepted) (λ w. countBytes w (byte image countAt) ≡ drop countAt image)
+      (λ e. sym (drop-of-length-le image {i = 81} (omega (arith, e))))
+      (λ e. sym (drop-cons image countAt 0 (omega (arith, e)) ∙ ap (λ (l : List ℕ). byte image countAt ∷ l) (drop-of-length-le image {i = 82} (omega (arith, e)))))
 
-  pub image-same : imageOf (ofImage image) ≡ image
+  pub version-fits : versionNumber (versionOf image) (ofImage image) ≡ 0
+  unfolding ofImage versionNumber
+  version-fits =
+      version-cases image (accepted-length image accepted) (λ w. versionNumber w (ofImage image) ≡ 0)
+      (λ e. rw (eq-eqb (byte image countAt) 0 (List·getD-eq-default image 0 {n = 81} (omega (arith, e)))))
+      (λ e. refl)
+
+  -- the image: mark, version, body and tail
+  four-parts : image ≡ part image imageMarkAt 3 ++ part image versionAt 2 ++ part image pcAt (countAt - pcAt) ++ drop countAt image
+  four-parts = sym (take-append-drop countAt image) ∙ rw (take-add pcAt (countAt - pcAt) image, take-add versionAt 2 image)
+
+  pub image-same : imageOf (versionOf image) (ofImage image) ≡ image
   unfolding imageOf
-  image-same = (λ i. mark-same i ++ version-same i ++ body-same i) ∙ sym three-parts
+  image-same = (λ i. mark-same i ++ version-same i ++ body-same i ++ tail-same i) ∙ sym four-parts
 
 -- DEMAND 2, SECOND HALF
 
 pub saved-restores : SavedRestores
 unfolding saveAnswer saveNumber restoreAnswer firstOf
-saved-restores s buffer e h =
+saved-restores w s buffer e f h =
     let v = accepted-valid s e in
-    let first : take imageLength (imageOf s ++ drop imageLength buffer) ≡ imageOf s = take-at (imageOf s) _ imageLength (image-length s v) in
-    rw (e, le-leb imageLength (length buffer) h, first, image-accepted s v, image-back s v)
+    let first : take (imageLength w) (imageOf w s ++ drop (imageLength w) buffer) ≡ imageOf w s =
+    take-at (imageOf w s) _ (imageLength w) (image-length w s v f) in
+    rw (e, f, le-leb (imageLength w) (length buffer) h, first, image-accepted w s v f, image-back w s v f)
 
 -- the state that an accepted image restores to
 pub restores-to : (image : List ℕ) → imageNumber image ≡ 0 → restoreAnswer upd546 image ≡ record { number = 0; state = ofImage image }
@@ -348,7 +420,7 @@ unfolding saveAnswer saveNumber firstOf
 restored-saves image buffer b e h =
     let z = sym (restore-number image) ∙ e in
     let sound : stateNumber (ofImage image) ≡ 0 = valid-accepted (ofImage image) (sound-valid (ofImage image) (accepted-sound image b z)) in
-    rw (restores-to image z, sound, le-leb imageLength (length buffer) h, image-same image b z)
+    rw (restores-to image z, sound, version-fits image b z, le-leb (imageLength (versionOf image)) (length buffer) h, image-same image b z)
 
 pub accepted-exactly : AcceptedExactly
 accepted-exactly image b = (to, from)
@@ -359,8 +431,12 @@ accepted-exactly image b = (to, from)
         record {
           state = ofImage image;
           not-refused = valid-accepted (ofImage image) (sound-valid (ofImage image) (accepted-sound image b z));
+          fits = version-fits image b z;
           same = sym (image-same image b z);
         }
 
     from : ImageOfSome image → restoreAnswer upd546 image .number ≡ 0
-    from o = restore-number image ∙ ap imageNumber (o .same) ∙ image-accepted (o .state) (accepted-valid (o .state) (o .not-refused))
+    from o =
+        restore-number image
+        ∙ ap imageNumber (o .same)
+        ∙ image-accepted (versionOf image) (o .state) (accepted-valid (o .state) (o .not-refused)) (o .fits)

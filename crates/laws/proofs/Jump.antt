@@ -1,7 +1,7 @@
--- What a jump of the timer-skipping runner says is what so many plain cycles come to, and how long a jump is.
--- Assumes nothing.
+-- What a jump of the timer-skipping runner says is what so many plain cycles come to, and how long a jump is: of the ordinary machine,
+-- and then of the chip, which is that machine as long as it jumps. Assumes nothing.
 use mathlib.Core.Path.{_≡_, _∙_, refl, sym, ap, subst}
-use mathlib.Core.Bool.{Bool, true, false, true≢false, _&&_, and-false}
+use mathlib.Core.Bool.{Bool, true, false, true≢false, cond, _&&_, and-false}
 use mathlib.Core.List.{List, [], _∷_}
 use mathlib.Core.Option.{none}
 use Prim.Native.Nat.{ℕ, zero, suc, _+_, _-_, _*_, _/_, _%_, _<_, _≤_, min}
@@ -28,14 +28,17 @@ use Rattle.upd546.specs.TheLineSchedule.{recordCount, recordCycle, linesAt, non
 use Rattle.upd546.specs.Timer.{tick, ticksLeft}
 use Rattle.laws.specs.Timer.{timerLeft}
 use Rattle.upd546.specs.Instructions.{instruction, codes, jcp, none as noInstruction}
-use Rattle.upd546.specs.OneMachineCycle.{blocks, accepts, taken, ticked, given, instructionStop, passedOver, begun, execute, cycle}
+use Rattle.upd546.specs.OneMachineCycle.{blocks, accepts, taken, ticked, given, instructionStop, passedOver, begun, execute, ordinaryCycle}
 use Rattle.upd546.specs.StateImage.{stateNumber}
-use Rattle.upd546.specs.TwoRunners.{atTtm, atJcpBack, mayJump, jumpable, largest, onJump, jumpLength, upd546}
+use Rattle.upd546.specs.TwoRunners.{atTtm, atJcpBack, mayJump, jumpable, largest, onJump, waitLength, resetFar, jumpLength, upd546}
+use Rattle.laws.specs.Ordinary.{stepsOf, ordinary}
+use Rattle.laws.specs.Reset.{Unreset}
 use Rattle.laws.specs.Jump.{coreAfterJump, stateAfterJump}
 use Rattle.laws.specs.Valid.{Valid}
 use Rattle.laws.proofs.Lists.{and-left, and-right, all-at}
 use Rattle.laws.proofs.Sound.{accepted-valid, valid-accepted}
 use Rattle.laws.proofs.Lines.{lines-same}
+use Rattle.laws.proofs.Reset.{low-run}
 use Rattle.laws.proofs.Chip.{chip-laws}
 use Rattle.laws.proofs.Timer.{tick-left, running-left}
 
@@ -79,13 +82,13 @@ inLoop s pc t n = withParts s (setPc pc (setMark markOther (setOwed 0 (withTimer
 module _ (rom sched : List ℕ) (s : State) where
   -- an instruction is due where nothing is owed and no interrupt is accepted
   pub cycle-due : s .core .owed ≡ 0 → accepts (s .core) ≡ false → linesAt sched (s .cycle .0) .int ≡ s .core .interrupt .level
-      → cycle rom sched s ≡ execute rom (linesAt sched (s .cycle .0)) s (s .core)
-  unfolding cycle
+      → stepsOf rom sched s ≡ execute rom (linesAt sched (s .cycle .0)) s (s .core)
+  unfolding ordinaryCycle
   cycle-due o a l = rw (a, taken-same (linesAt sched (s .cycle .0)) (s .core) l, o)
 
   cycle-executes : s .core .owed ≡ 0 → (eqb (s .core .interrupt .int) 1 && eqb (s .core .interrupt .inte) 1) ≡ false
       → linesAt sched (s .cycle .0) .int ≡ s .core .interrupt .level
-      → cycle rom sched s ≡ execute rom (linesAt sched (s .cycle .0)) s (s .core)
+      → stepsOf rom sched s ≡ execute rom (linesAt sched (s .cycle .0)) s (s .core)
   cycle-executes o f l = cycle-due o (free-accepts (s .core) f) l
 
   -- TTM with TM 0
@@ -141,13 +144,13 @@ left-tm tm k = refl
 
 module _ (rom sched : List ℕ) (s : State) (w : Waits rom (s .core)) where
   ttm-cycle : s .core .timer .tm ≡ 0 → linesAt sched (s .cycle .0) .int ≡ s .core .interrupt .level
-      → cycle rom sched s ≡ went (inLoop s (follows (s .core .flow .pc)) (tick (s .core .timer)) (s .cycle .0 + 1)) [] 1
+      → stepsOf rom sched s ≡ went (inLoop s (follows (s .core .flow .pc)) (tick (s .core .timer)) (s .cycle .0 + 1)) [] 1
   ttm-cycle z l =
       cycle-executes rom sched s (w .owed) (w .free) l
       ∙ execute-ttm rom sched s (linesAt sched (s .cycle .0)) z (w .ttm-in) (w .ttm)
 
   jcp-cycle : (t : Timer) (n : ℕ) → linesAt sched n .int ≡ s .core .interrupt .level
-      → cycle rom sched (inLoop s (follows (s .core .flow .pc)) t n) ≡ went (inLoop s (s .core .flow .pc) (tick t) (n + 1)) [] 1
+      → stepsOf rom sched (inLoop s (follows (s .core .flow .pc)) t n) ≡ went (inLoop s (s .core .flow .pc) (tick t) (n + 1)) [] 1
   jcp-cycle t n l =
       let u = inLoop s (follows (s .core .flow .pc)) t n in
       cycle-executes rom sched u refl (w .free) l
@@ -156,7 +159,7 @@ module _ (rom sched : List ℕ) (s : State) (w : Waits rom (s .core)) where
 
   -- with q + 2 ticks left, TM is 0 at TTM; two cycles later PC is back
   turn : (q k : ℕ) → s .core .timer ≡ timerLeft 0 (suc (suc q)) → Level sched s (suc (suc k)) (s .cycle .0)
-      → unbroken upd546 rom sched (suc (suc k)) s ≡ begins [] 1 (begins [] 1 (unbroken upd546 rom sched k (atTtmAgain s q (s .cycle .0 + 1 + 1))))
+      → unbroken ordinary rom sched (suc (suc k)) s ≡ begins [] 1 (begins [] 1 (unbroken ordinary rom sched k (atTtmAgain s q (s .cycle .0 + 1 + 1))))
   unfolding unbroken
   turn q k t l =
       let n = s .cycle .0 in
@@ -178,14 +181,14 @@ again-waits : (rom : List ℕ) (s : State) (q n : ℕ) → Waits rom (s .core) �
 again-waits rom s q n w =
     record { owed = refl; free = w .free; ttm-in = w .ttm-in; ttm = w .ttm; jcp-in = w .jcp-in; jcp = w .jcp; back = w .back }
 
-last-turn : (rom sched : List ℕ) (s : State) → begins [] 1 (begins [] 1 (unbroken upd546 rom sched 0 s)) ≡ quietly 2 s
+last-turn : (rom sched : List ℕ) (s : State) → begins [] 1 (begins [] 1 (unbroken ordinary rom sched 0 s)) ≡ quietly 2 s
 unfolding unbroken
 last-turn rom sched s = two-more 0 s
 
 -- h + 1 turns; the first may find any mark
 turns : (rom sched : List ℕ) (h q : ℕ) (s : State) → Waits rom (s .core) → s .core .timer ≡ timerLeft 0 (double (suc h) + q)
     → Level sched s (double (suc h)) (s .cycle .0)
-    → unbroken upd546 rom sched (double (suc h)) s ≡ quietly (double (suc h)) (atTtmAgain s q (s .cycle .0 + double (suc h)))
+    → unbroken ordinary rom sched (double (suc h)) s ≡ quietly (double (suc h)) (atTtmAgain s q (s .cycle .0 + double (suc h)))
 turns rom sched zero q s w t l =
     let e : 2 + q ≡ suc (suc q) = omega arith in
     let a : s .cycle .0 + 1 + 1 ≡ s .cycle .0 + 2 = omega arith in
@@ -206,7 +209,7 @@ turns rom sched (suc h) q s w t l =
 -- LINES
 
 -- no record below a bound is none below a lesser one
-pub none-fewer : (sched : List ℕ) (a b d k : ℕ) → d ≤ b → noneAmong sched a b k ≡ true → noneAmong sched a d k ≡ true
+none-fewer : (sched : List ℕ) (a b d k : ℕ) → d ≤ b → noneAmong sched a b k ≡ true → noneAmong sched a d k ≡ true
 unfolding noneAmong
 none-fewer sched a b d zero h e = refl
 none-fewer sched a b d (suc k) h e = go (leb a r && ltb r b) refl (leb a r && ltb r d) refl (none-fewer sched a b d k h)
@@ -224,14 +227,16 @@ none-fewer sched a b d (suc k) h e = go (leb a r && ltb r b) refl (leb a r && lt
         cc
     go false p false q ih = rw (q, noneAmong) (ih (rw (p, noneAmong) at e))
 
--- where no record comes in the j - 1 cycles after cycle n, the INT line stays what it was
+-- where no record comes in the j - 1 cycles after cycle n, the lines stay what they were
+lines-stay : (sched : List ℕ) (n j : ℕ) → noRecord sched (n + 1) (n + j) ≡ true → (i : ℕ) → i < j → linesAt sched (n + i) ≡ linesAt sched n
+unfolding noRecord
+lines-stay sched n j q i h =
+    let f : noRecord sched (n + 1) (n + i + 1) ≡ true = none-fewer sched (n + 1) (n + j) (n + i + 1) (recordCount sched) (omega arith) q in
+    lines-same sched n (n + i) (omega arith) f
+
 level-stays : (sched : List ℕ) (s : State) (j : ℕ) → linesAt sched (s .cycle .0) .int ≡ s .core .interrupt .level
     → noRecord sched (s .cycle .0 + 1) (s .cycle .0 + j) ≡ true → Level sched s j (s .cycle .0)
-unfolding noRecord
-level-stays sched s j e q i h =
-    let n = s .cycle .0 in
-    let f : noRecord sched (n + 1) (n + i + 1) ≡ true = none-fewer sched (n + 1) (n + j) (n + i + 1) (recordCount sched) (omega arith) q in
-    ap (λ (l : Lines). l .int) (lines-same sched n (n + i) (omega arith) f) ∙ e
+level-stays sched s j e q i h = ap (λ (l : Lines). l .int) (lines-stay sched (s .cycle .0) j q i h) ∙ e
 
 -- AN EVEN NUMBER OF CYCLES
 
@@ -273,7 +278,7 @@ jumped-is s j o z = rw (o, z)
 module _ (rom sched : List ℕ) (s : State) (j : ℕ) (small : s .core .timer .register < 64) (may : mayJump rom sched s ≡ true)
     (even : j % 2 ≡ 0) (more : 0 < j) (left : j ≤ ticksLeft (s .core .timer))
     (between : noRecord sched (s .cycle .0 + 1) (s .cycle .0 + j) ≡ true) where
-  pub turns-unbroken : unbroken upd546 rom sched j s ≡ quietly j (stateAfterJump j s)
+  turns-unbroken : unbroken ordinary rom sched j s ≡ quietly j (stateAfterJump j s)
   turns-unbroken =
       let m = may-jump rom sched s may in
       let n = s .cycle .0 in
@@ -283,16 +288,11 @@ module _ (rom sched : List ℕ) (s : State) (j : ℕ) (small : s .core .timer .r
       let a : ticksLeft timer ≡ j + q = omega arith in
       let z : timerLeft (timer .tm) (ticksLeft timer) ≡ timerLeft 0 (ticksLeft timer) = ap (λ (x : ℕ). timerLeft x (ticksLeft timer)) (m .tm) in
       let t : timer ≡ timerLeft 0 (j + q) = running-left timer (m .runs) small ∙ z ∙ ap (timerLeft 0) a in
-      subst (λ (k : ℕ). timer ≡ timerLeft 0 (k + q) → Level sched s k n → unbroken upd546 rom sched k s ≡ quietly k (atTtmAgain s q (n + k))) e
+      subst (λ (k : ℕ). timer ≡ timerLeft 0 (k + q) → Level sched s k n → unbroken ordinary rom sched k s ≡ quietly k (atTtmAgain s q (n + k))) e
       (turns rom sched (j / 2 - 1) q s (m .waits)) t (level-stays sched s j (m .level) between)
       ∙ ap (quietly j) (jumped-is s j (m .waits .owed) (m .tm))
 
-  pub turns-within : (room : ℕ) → within upd546 rom sched room j s ≡ quietly j (stateAfterJump j s)
-  turns-within room =
-      let none : length (unbroken upd546 rom sched j s .bytes) ≤ room = omega (arith, ap (λ (r : Ran State). length (r .bytes)) turns-unbroken) in
-      roomy upd546 rom sched j room s none ∙ turns-unbroken
-
--- THE LENGTH OF A JUMP
+-- THE LENGTH OF A WAIT
 
 largest-most : (test : ℕ → Bool) (k : ℕ) → largest test k ≤ k
 unfolding largest
@@ -313,23 +313,23 @@ largest-passes test (suc k) h = go (test (suc k)) refl (largest-passes test k) h
     go true e ih h = rw (e, largest) e
     go false e ih h = rw (e, largest) (ih (rw (e, largest) at h))
 
-pub jump-within : (rom sched : List ℕ) (s : State) (left : ℕ) → jumpLength rom sched s left ≤ left
-unfolding jumpLength
-jump-within rom sched s left = go (mayJump rom sched s)
+pub wait-within : (rom sched : List ℕ) (s : State) (left : ℕ) → waitLength rom sched s left ≤ left
+unfolding waitLength
+wait-within rom sched s left = go (mayJump rom sched s)
   where
     go : (b : Bool) → onJump b sched s left ≤ left
     go true = omega (arith, largest-most (jumpable sched (s .cycle .0)) (min (ticksLeft (s .core .timer)) left))
     go false = omega arith
 
--- a jump is as the law above asks
+-- such a number is as the law above asks
 record Jumps (rom sched : List ℕ) (s : State) (j : ℕ) : Type 0 where
   may : mayJump rom sched s ≡ true
   even : j % 2 ≡ 0
   left : j ≤ ticksLeft (s .core .timer)
   between : noRecord sched (s .cycle .0 + 1) (s .cycle .0 + j) ≡ true
 
-jumps : (rom sched : List ℕ) (s : State) (left : ℕ) → (jumpLength rom sched s left ≡ 0 → ⊥) → Jumps rom sched s (jumpLength rom sched s left)
-unfolding jumpLength jumpable
+jumps : (rom sched : List ℕ) (s : State) (left : ℕ) → (waitLength rom sched s left ≡ 0 → ⊥) → Jumps rom sched s (waitLength rom sched s left)
+unfolding waitLength jumpable
 jumps rom sched s left h = go (mayJump rom sched s) refl h
   where
     go : (b : Bool) → mayJump rom sched s ≡ b → (onJump b sched s left ≡ 0 → ⊥) → Jumps rom sched s (onJump b sched s left)
@@ -346,29 +346,13 @@ jumps rom sched s left h = go (mayJump rom sched s) refl h
         }
     go false e h = absurd (h refl)
 
-module _ (rom sched : List ℕ) (s : State) (left j : ℕ) (e : jumpLength rom sched s left ≡ j) (more : j ≡ 0 → ⊥) where
-  is-jump : Jumps rom sched s j
-  is-jump = subst (Jumps rom sched s) e (jumps rom sched s left (λ z. more (sym e ∙ z)))
-
-  -- what a runner asks of the timer and the schedule where it jumps
-  pub jump-runs : 0 < s .core .timer .register
-  jump-runs = may-jump rom sched s (is-jump .may) .runs
-
-  pub jump-ticks : j ≤ ticksLeft (s .core .timer)
-  jump-ticks = is-jump .left
-
-  pub jump-between : noRecord sched (s .cycle .0 + 1) (s .cycle .0 + j) ≡ true
-  jump-between = is-jump .between
-
-  -- THE JUMP LAW: where the timer-skipping runner jumps j cycles, j plain cycles come to what the jump says
-  module _ (v : Valid s) where
-    pub jump-unbroken : unbroken upd546 rom sched j s ≡ quietly j (stateAfterJump j s)
-    jump-unbroken =
-        turns-unbroken rom sched s j (v .core .scalars .register) (is-jump .may) (is-jump .even) (omega arith) (is-jump .left) (is-jump .between)
-
-    pub jump-in-room : (room : ℕ) → within upd546 rom sched room j s ≡ quietly j (stateAfterJump j s)
-    jump-in-room room =
-        turns-within rom sched s j (v .core .scalars .register) (is-jump .may) (is-jump .even) (omega arith) (is-jump .left) (is-jump .between) room
+-- it is even: there is none where one cycle is left
+pub wait-of-one : (rom sched : List ℕ) (s : State) → waitLength rom sched s 1 ≡ 0
+wait-of-one rom sched s = go (eqb (waitLength rom sched s 1) 0) refl
+  where
+    go : (b : Bool) → eqb (waitLength rom sched s 1) 0 ≡ b → waitLength rom sched s 1 ≡ 0
+    go true e = eqb-true _ _ e
+    go false e = omega (arith, wait-within rom sched s 1, jumps rom sched s 1 (eqb-false _ _ e) .even)
 
 -- WHAT A RUNNER COMPUTES
 
@@ -392,6 +376,130 @@ largest-even sched n m (suc k) p q =
     go false e u f ih =
         let z : suc k % 2 ≡ 0 → ⊥ = eqb-false (suc k % 2) 0 e in
         rw (e, largest) (omega arith)
+
+-- the length where it may jump
+wait-length-even : (rom sched : List ℕ) (s : State) (left m : ℕ) → mayJump rom sched s ≡ true
+    → ((j : ℕ) → j ≤ m → noRecord sched (s .cycle .0 + 1) (s .cycle .0 + j) ≡ true)
+    → ((j : ℕ) → m < j → j ≤ left → noRecord sched (s .cycle .0 + 1) (s .cycle .0 + j) ≡ false)
+    → (k : ℕ) → k ≡ min (min (ticksLeft (s .core .timer)) left) m → waitLength rom sched s left ≡ k - k % 2
+unfolding waitLength
+wait-length-even rom sched s left m e p q k f =
+    rw (e, f) (largest-even sched (s .cycle .0) m (min (ticksLeft (s .core .timer)) left) p (λ j h l. q j h (omega arith)))
+
+-- and where it may not
+pub wait-length-none : (rom sched : List ℕ) (s : State) (left : ℕ) → mayJump rom sched s ≡ false → waitLength rom sched s left ≡ 0
+unfolding waitLength
+wait-length-none rom sched s left e = rw e
+
+-- the length where it may jump and no record comes before the cycles that are left are over
+pub wait-length-steady : (rom sched : List ℕ) (s : State) (left : ℕ) → mayJump rom sched s ≡ true
+    → noRecord sched (s .cycle .0 + 1) (s .cycle .0 + left) ≡ true
+    → (k : ℕ) → k ≡ min (ticksLeft (s .core .timer)) left → waitLength rom sched s left ≡ k - k % 2
+unfolding noRecord
+wait-length-steady rom sched s left e v k f =
+    let n = s .cycle .0 in
+    wait-length-even rom sched s left left e (λ j h. none-fewer sched (n + 1) (n + left) (n + j) (recordCount sched) (omega arith) v) (λ j h l. absurd (omega arith)) k
+    (omega (arith, f))
+
+-- THE CUT: as it ends before the next record, m cycles on, it is as long where no more cycles are left than those
+pub wait-length-cut : (rom sched : List ℕ) (s : State) (left m : ℕ)
+    → ((j : ℕ) → j ≤ m → noRecord sched (s .cycle .0 + 1) (s .cycle .0 + j) ≡ true)
+    → ((j : ℕ) → m < j → j ≤ left → noRecord sched (s .cycle .0 + 1) (s .cycle .0 + j) ≡ false)
+    → waitLength rom sched s left ≡ waitLength rom sched s (min left m)
+wait-length-cut rom sched s left m p q = go (mayJump rom sched s) refl
+  where
+    k : ℕ
+    k = min (min (ticksLeft (s .core .timer)) left) m
+
+    go : (b : Bool) → mayJump rom sched s ≡ b → waitLength rom sched s left ≡ waitLength rom sched s (min left m)
+    go true e =
+        wait-length-even rom sched s left m e p q k refl
+        ∙ sym (wait-length-even rom sched s (min left m) m e p (λ j h l. absurd (omega arith)) k (omega arith))
+    go false e = wait-length-none rom sched s left e ∙ sym (wait-length-none rom sched s (min left m) e)
+
+-- THE CHIP'S JUMP: a wait, where RES is low and the count 0
+
+-- what the test says
+far : (sched : List ℕ) (s : State) → resetFar sched s ≡ true → Unreset sched s
+unfolding resetFar
+far sched s e =
+    let n = linesAt sched (s .cycle .0) .res in
+    record { low = eqb-true n 0 (and-left (eqb n 0) (eqb (s .count) 0) e); none = eqb-true (s .count) 0 (and-right (eqb n 0) (eqb (s .count) 0) e) }
+
+pub jump-is-wait : (rom sched : List ℕ) (s : State) (left : ℕ) → Unreset sched s → jumpLength rom sched s left ≡ waitLength rom sched s left
+unfolding jumpLength resetFar
+jump-is-wait rom sched s left u = rw (u .low, u .none)
+
+-- a jump has an even number of cycles: there is none where one is left
+pub jump-of-one : (rom sched : List ℕ) (s : State) → jumpLength rom sched s 1 ≡ 0
+unfolding jumpLength
+jump-of-one rom sched s = go (resetFar sched s)
+  where
+    go : (b : Bool) → cond b (waitLength rom sched s 1) 0 ≡ 0
+    go true = wait-of-one rom sched s
+    go false = refl
+
+pub jump-within : (rom sched : List ℕ) (s : State) (left : ℕ) → jumpLength rom sched s left ≤ left
+unfolding jumpLength
+jump-within rom sched s left = go (resetFar sched s)
+  where
+    go : (b : Bool) → cond b (waitLength rom sched s left) 0 ≤ left
+    go true = wait-within rom sched s left
+    go false = omega arith
+
+pub jump-length-cut : (rom sched : List ℕ) (s : State) (left m : ℕ)
+    → ((j : ℕ) → j ≤ m → noRecord sched (s .cycle .0 + 1) (s .cycle .0 + j) ≡ true)
+    → ((j : ℕ) → m < j → j ≤ left → noRecord sched (s .cycle .0 + 1) (s .cycle .0 + j) ≡ false)
+    → jumpLength rom sched s left ≡ jumpLength rom sched s (min left m)
+unfolding jumpLength
+jump-length-cut rom sched s left m p q = ap (λ (k : ℕ). cond (resetFar sched s) k 0) (wait-length-cut rom sched s left m p q)
+
+-- a jump is a wait, and RES and the count are as it asks
+record JumpsSo (rom sched : List ℕ) (s : State) (j : ℕ) : Type 0 where
+  wait : Jumps rom sched s j
+  unreset : Unreset sched s
+
+jumps-so : (rom sched : List ℕ) (s : State) (left : ℕ) → (jumpLength rom sched s left ≡ 0 → ⊥) → JumpsSo rom sched s (jumpLength rom sched s left)
+unfolding jumpLength
+jumps-so rom sched s left h = go (resetFar sched s) refl h
+  where
+    go : (b : Bool) → resetFar sched s ≡ b → (cond b (waitLength rom sched s left) 0 ≡ 0 → ⊥) → JumpsSo rom sched s (cond b (waitLength rom sched s left) 0)
+    go true e h = record { wait = jumps rom sched s left h; unreset = far sched s e }
+    go false e h = absurd (h refl)
+
+module _ (rom sched : List ℕ) (s : State) (left j : ℕ) (e : jumpLength rom sched s left ≡ j) (more : j ≡ 0 → ⊥) where
+  is-jump : JumpsSo rom sched s j
+  is-jump = subst (JumpsSo rom sched s) e (jumps-so rom sched s left (λ z. more (sym e ∙ z)))
+
+  -- what a runner asks of the timer and the schedule where it jumps
+  pub jump-runs : 0 < s .core .timer .register
+  jump-runs = may-jump rom sched s (is-jump .wait .may) .runs
+
+  pub jump-ticks : j ≤ ticksLeft (s .core .timer)
+  jump-ticks = is-jump .wait .left
+
+  pub jump-between : noRecord sched (s .cycle .0 + 1) (s .cycle .0 + j) ≡ true
+  jump-between = is-jump .wait .between
+
+  pub jump-unreset : Unreset sched s
+  jump-unreset = is-jump .unreset
+
+  -- RES stays low
+  stays-low : (i : ℕ) → i < j → linesAt sched (s .cycle .0 + i) .res ≡ 0
+  stays-low i h = ap (λ (l : Lines). l .res) (lines-stay sched (s .cycle .0) j jump-between i h) ∙ jump-unreset .low
+
+  -- THE JUMP LAW: where the timer-skipping runner jumps j cycles, j plain cycles come to what the jump says
+  module _ (v : Valid s) where
+    pub jump-unbroken : unbroken upd546 rom sched j s ≡ quietly j (stateAfterJump j s)
+    jump-unbroken =
+        let w = is-jump .wait in
+        low-run rom sched j s (jump-unreset .none) stays-low
+        ∙ turns-unbroken rom sched s j (v .core .scalars .register) (w .may) (w .even) (omega arith) (w .left) (w .between)
+
+    pub jump-in-room : (room : ℕ) → within upd546 rom sched room j s ≡ quietly j (stateAfterJump j s)
+    jump-in-room room =
+        let none : length (unbroken upd546 rom sched j s .bytes) ≤ room = omega (arith, ap (λ (r : Ran State). length (r .bytes)) jump-unbroken) in
+        roomy upd546 rom sched j room s none ∙ jump-unbroken
 
 -- a jump leads from an accepted state to an accepted state
 pub jump-keeps : (rom sched : List ℕ) (s : State) (left j : ℕ) → Panel upd546 rom sched → Valid s → s .cycle .0 + j ≤ cycleLimit

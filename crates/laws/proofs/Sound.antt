@@ -74,7 +74,8 @@ sound-valid s e =
       core = record { scalars = scalars-of (s .core) (all-at _ e 0); stack = stack-of (s .core) (all-at _ e 0) };
       ports = ports-of (s .ports) (all-at _ e 1);
       ram = ram-of (s .ram) (all-at _ e 2);
-      cycle = leb-true _ _ (all-at _ e 3);
+      count = leb-true _ _ (all-at _ e 3);
+      cycle = leb-true _ _ (all-at _ e 4);
     }
 
 -- a valid state passes the test
@@ -105,6 +106,7 @@ valid-sound s v =
       lt-ltb _ _ (v .ports .last),
       eq-eqb _ _ (v .ram .count),
       all-below 16 _ (v .ram .below),
+      le-leb _ _ (v .count),
       le-leb _ _ (v .cycle),
     )
 

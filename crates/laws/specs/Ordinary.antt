@@ -1,22 +1,31 @@
--- The uPD546 without its reset line: a cycle is the steps a to d with the lines of the cycle, and a jump asks document 01's
--- conditions alone. Turns and jumps speak of it; `proofs/Ordinary` says where its cycles are the uPD546's. Assumes nothing: these
--- are definitions.
-use Rattle.runs.specs.Machine.{Machine}
+-- The machine whose every cycle is an ordinary one, steps a to d: RES isn't looked at, and the count stays. The chip is this machine
+-- while RES is low and its count 0, and what is known of strings of loads, waits on the timer and bursts is shown of it first.
+-- Assumes nothing: these are definitions.
+use Prim.Native.Nat.{ℕ}
+use mathlib.Core.List.{List}
+use Rattle.runs.specs.Machine.{Machine, Out}
 use Rattle.upd546.specs.declared.State.{State}
+use Rattle.upd546.specs.TheMachine.{fresh}
 use Rattle.upd546.specs.TheLineSchedule.{linesAt}
 use Rattle.upd546.specs.OneMachineCycle.{ordinaryCycle}
-use Rattle.upd546.specs.TwoRunners.{waitLength, upd546}
+use Rattle.upd546.specs.StateImage.{imageLength, imageOf, ofImage, stateNumber, versionNumber, imageNumber}
+use Rattle.upd546.specs.TwoRunners.{waitLength, panelNumber}
+
+-- an ordinary cycle of the state, with the lines of its cycle number
+abbrev pub stepsOf : List ℕ → List ℕ → State → Out State
+stepsOf rom sched s = ordinaryCycle rom (linesAt sched (s .cycle .0)) s
 
 abbrev pub ordinary : Machine State
 ordinary = record {
-  cycle = λ rom sched s. ordinaryCycle rom (linesAt sched (s .cycle .0)) s;
-  at = upd546 .at;
+  cycle = stepsOf;
+  at = λ s. s .cycle .0;
   jump = waitLength;
-  panelNumber = upd546 .panelNumber;
-  stateNumber = upd546 .stateNumber;
-  imageNumber = upd546 .imageNumber;
-  imageLength = upd546 .imageLength;
-  image = upd546 .image;
-  ofImage = upd546 .ofImage;
-  fresh = upd546 .fresh;
+  panelNumber = panelNumber;
+  stateNumber = stateNumber;
+  versionNumber = versionNumber;
+  imageNumber = imageNumber;
+  imageLength = imageLength;
+  image = imageOf;
+  ofImage = ofImage;
+  fresh = fresh;
 }

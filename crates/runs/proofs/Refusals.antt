@@ -31,6 +31,10 @@ unfolding firstOf
 first-here zero ks h = absurd (omega arith)
 first-here (suc k) ks h = refl
 
+pub first-is : (j k : ℕ) (ks : List ℕ) → j ≡ suc k → firstOf (j ∷ ks) ≡ suc k
+unfolding firstOf
+first-is j k ks e = rw e
+
 pub last-one : (k : ℕ) → firstOf (k ∷ []) ≡ k
 unfolding firstOf
 last-one zero = refl
@@ -61,6 +65,7 @@ numbered why.ImageLength = (30, refl)
 numbered why.ImageMark = (31, refl)
 numbered why.ImageVersion = (32, refl)
 numbered why.Field = (33, refl)
+numbered why.ResetCount = (53, refl)
 
 pub refusal-some : (w : Refusal) → refusalNumber w ≡ 0 → ⊥
 refusal-some w e = omega (arith, numbered w .1)

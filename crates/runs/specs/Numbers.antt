@@ -5,14 +5,15 @@ use lib.Dec.{eqb}
 use Rattle.runs.specs.declared.Stop.{Stop}
 use Rattle.runs.specs.declared.Stop.the-variants.{LogFull, RomEnd, NoInstruction}
 use Rattle.runs.specs.declared.Refusal.{Refusal}
-use Rattle.runs.specs.declared.Refusal.the-variants.{BufferShort, CycleLimit, ScheduleLength, ScheduleLong, RecordBytes, RecordOrder, RomLength, ImageLength, ImageMark, ImageVersion, Field}
+use Rattle.runs.specs.declared.Refusal.the-variants.{BufferShort, CycleLimit, ScheduleLength, ScheduleLong, RecordBytes, RecordOrder, RomLength, ImageLength, ImageMark, ImageVersion, Field, ResetCount}
 use Rattle.runs.specs.declared.RunEnd.{RunEnd}
 use Rattle.runs.specs.declared.RunEnd.the-variants.{Finished, Stopped, Refused}
 use Rattle.runs.specs.declared.Outcome.{Outcome}
 use Rattle.runs.specs.declared.Outcome.the-variants.{Done, Refused as NotDone}
 use Rattle.runs.specs.TwoRunners.{End, finished, stopped, refused}
 
--- "3 the log lacks the 8 or 16 bytes of the next instruction"; "22 a byte above 7CF is needed"; "23 code 1C or 45 due"
+-- "3 the log lacks the 8 or 16 bytes of the next instruction", or the 8 of a reset's record: "stop 3 covers it" (R-8);
+-- "22 a byte above 7CF is needed"; "23 code 1C or 45 due"
 abbrev pub stopNumber : Stop → ℕ
 stopNumber LogFull = 3
 stopNumber RomEnd = 22
@@ -24,7 +25,10 @@ isStop k = eqb k 3 || eqb k 22 || eqb k 23
 
 -- "1 image buffer under 81 bytes; 2 cycle number + n above 2^48 - 1";
 -- "12 over 40,960 bytes; 11 length no multiple of 10; then by record 13 bad INT or last byte, 14 cycle not above the last";
--- "21 not 2,000 bytes"; "31 length not 81; 32 bytes 0 to 2; 33 version; 34 a field, also in a state given as a value"
+-- "21 not 2,000 bytes"; "31 length not 81; 32 bytes 0 to 2; 33 version; 34 a field, also in a state given as a value";
+-- R-8: "The schedule's tenth byte becomes RES, 0 or 1, .. and 13 is amended so"; "31 is now a length of neither 81 nor 82, 33 a
+-- version that doesn't go with the length, 1 a buffer under the version's length"; "54, in a save between 34 and 1, a version 1
+-- image wanted while the count isn't 0"
 abbrev pub refusalNumber : Refusal → ℕ
 refusalNumber BufferShort = 1
 refusalNumber CycleLimit = 2
@@ -37,6 +41,7 @@ refusalNumber ImageLength = 31
 refusalNumber ImageMark = 32
 refusalNumber ImageVersion = 33
 refusalNumber Field = 34
+refusalNumber ResetCount = 54
 
 -- "unless it finished n, its number"; 0 stands for a finish
 abbrev pub endNumber : RunEnd → ℕ

@@ -4,21 +4,29 @@ use Prim.Native.Nat.{ℕ, zero, suc, _+_, _-_, _*_, _^_}
 use mathlib.Core.Bool.{Bool, true, false}
 use mathlib.Core.List.{List, [], _∷_, _++_}
 use mathlib.Core.Option.{Option, none, some}
-use lib.Dec.{leb}
+use lib.Dec.{eqb, leb}
 use lib.ListN.{length, drop}
+use Rattle.runs.specs.declared.Version.{Version}
+use Rattle.runs.specs.declared.Version.the-variants.{Two}
 use Rattle.runs.specs.Machine.{Machine, Out, stop, went}
 use Rattle.runs.specs.Refusals.{cycleLimit, firstOf, unless}
 use Rattle.runs.specs.Reports.{clocksPerCycle}
 
--- "a run of n cycles that isn't refused is lent a log of at least 8n + 8 bytes" (demand 3)
+-- "A reset can cut OCD short, so the power-off guarantee now wants a log of 16n bytes for n cycles." (R-8)
 abbrev pub logBound : ℕ → ℕ
-logBound n = 8 * n + 8
+logBound n = 16 * n
 
 -- How a run ends: all n cycles done; a stop, with its number; a refusal, with its number.
 pub data End : Type 0 where
   finished : End
   stopped : ℕ → End
   refused : ℕ → End
+
+-- "unless it finished n, its number": 0 stands for a finish
+abbrev pub numberOfEnd : End → ℕ
+numberOfEnd finished = 0
+numberOfEnd (stopped k) = k
+numberOfEnd (refused k) = k
 
 -- "Each .. answers state, cycles, instructions begun, log bytes written and steps, and, unless it finished n, its number";
 -- "A run also gives clock cycles". With it the lent log as it stands when the run returns.
@@ -158,17 +166,18 @@ module _ {S : Type 0} (M : Machine S) where
   unfoldable pub skipping : List ℕ → List ℕ → S → List ℕ → ℕ → RunAnswer S
   skipping rom sched s log n = told (runNumber rom sched s n) (strides rom sched n (length log) n s) s log
 
-  -- "save 34, 1"; "1 image buffer under 81 bytes"
-  unfoldable pub saveNumber : S → List ℕ → ℕ
-  saveNumber s buffer = firstOf (M .stateNumber s ∷ unless (leb (M .imageLength) (length buffer)) 1 ∷ [])
+  -- "save 34, 1"; "54, in a save between 34 and 1, a version 1 image wanted while the count isn't 0"; "1 a buffer under the
+  -- version's length" (R-8)
+  unfoldable pub saveNumber : Version → S → List ℕ → ℕ
+  saveNumber v s buffer = firstOf (M .stateNumber s ∷ M .versionNumber v s ∷ unless (leb (M .imageLength v) (length buffer)) 1 ∷ [])
 
-  abbrev pub put : ℕ → List ℕ → List ℕ → SaveAnswer
-  put zero bytes buffer = record { number = 0; buffer = bytes ++ drop (M .imageLength) buffer }
-  put (suc k) bytes buffer = record { number = suc k; buffer = buffer }
+  abbrev pub put : Version → ℕ → List ℕ → List ℕ → SaveAnswer
+  put v zero bytes buffer = record { number = 0; buffer = bytes ++ drop (M .imageLength v) buffer }
+  put v (suc k) bytes buffer = record { number = suc k; buffer = buffer }
 
-  -- SAVE: "and then writes 81 bytes only"
-  unfoldable pub saveAnswer : S → List ℕ → SaveAnswer
-  saveAnswer s buffer = put (saveNumber s buffer) (M .image s) buffer
+  -- SAVE, of the version wanted: "and then writes 81 bytes only", or 82
+  unfoldable pub saveAnswer : Version → S → List ℕ → SaveAnswer
+  saveAnswer v s buffer = put v (saveNumber v s buffer) (M .image v s) buffer
 
   abbrev pub got : ℕ → S → RestoreAnswer S
   got zero s = record { number = 0; state = s }
@@ -177,3 +186,11 @@ module _ {S : Type 0} (M : Machine S) where
   -- RESTORE: "restore 31 to 34", "a refused restore the fresh state"
   unfoldable pub restoreAnswer : List ℕ → RestoreAnswer S
   restoreAnswer bytes = got (M .imageNumber bytes) (M .ofImage bytes)
+
+  -- "R-3's call takes 82 bytes only, else 31, and R-7's entries hold version 2" (R-8): what refuses an image where version 2 is due
+  unfoldable pub currentNumber : List ℕ → ℕ
+  currentNumber bytes = firstOf (unless (eqb (length bytes) (M .imageLength Two)) 31 ∷ M .imageNumber bytes ∷ [])
+
+  -- A RESTORE WHERE VERSION 2 IS DUE
+  unfoldable pub currentAnswer : List ℕ → RestoreAnswer S
+  currentAnswer bytes = got (currentNumber bytes) (M .ofImage bytes)

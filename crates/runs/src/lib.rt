@@ -16,6 +16,12 @@ pub enum Stop {
     NoInstruction,
 }
 
+// The versions of an image. Version 1 is for old boards, and lacks the count of cycles with RES high.
+pub enum Version {
+    One,
+    Two,
+}
+
 // Why a call was refused.
 pub enum Refusal {
     BufferShort,
@@ -29,6 +35,7 @@ pub enum Refusal {
     ImageMark,
     ImageVersion,
     Field,
+    ResetCount,
 }
 
 // How a run ended.
@@ -69,6 +76,7 @@ pub fn refusal_number(r: Refusal) -> u8
         Refusal::ImageMark => 32,
         Refusal::ImageVersion => 33,
         Refusal::Field => 34,
+        Refusal::ResetCount => 54,
     }
 }
 

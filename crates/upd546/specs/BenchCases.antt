@@ -1,35 +1,198 @@
--- Document 01, "Bench cases, and what misleads": the cases as rows of one table, and behind them rows of document 02's requests.
--- Assumes nothing: these are definitions.
-use Prim.Native.Nat.{ℕ, _+_, _-_}
+-- Document 01, "Bench cases, and what misleads": the cases marked P by themselves, then rows of document 01's other sentences, then
+-- those of document 02's requests, all in one table, `cases`. Assumes nothing: these are definitions.
+use Prim.Native.Nat.{ℕ, _+_, _-_, _/_, _%_}
 use mathlib.Core.Bool.{Bool, true, _&&_}
 use mathlib.Core.List.{List, [], _∷_, _++_}
-use lib.ListN.{length, replicate}
-use Rattle.runs.specs.TwoRunners.{End, finished, stopped, refused, RunAnswer, unbroken, runNumber, plain, skipping}
+use lib.Dec.{eqb}
+use lib.ListN.{length, take, drop, replicate}
+use Rattle.runs.specs.declared.Version.the-variants.{One, Two}
+use Rattle.runs.specs.TwoRunners.{numberOfEnd, RunAnswer, unbroken, runNumber, saveNumber, plain, skipping}
 use Rattle.upd546.specs.declared.Core.{Core}
 use Rattle.upd546.specs.declared.State.{State}
 use Rattle.upd546.specs.TheMachine.{fresh, newest}
-use Rattle.upd546.specs.Parts.{withCore, stateOf, setAcc, setCarry, setDph, setDpl, setPc, setInt, setInte, setMark, setOwed}
+use Rattle.upd546.specs.Parts.{withCore, withCount, stateOf, withTimer, setAcc, setCarry, setDph, setDpl, setPc, setInt, setInte, setMark, setOwed}
 use Rattle.upd546.specs.StateImage.{imageOf, ofImage, stateNumber, imageNumber}
 use Rattle.upd546.specs.Sequences.{sameNumbers}
 use Rattle.upd546.specs.TwoRunners.{upd546}
 use Rattle.upd546.specs.Reports.{traceText}
 
--- A row: what the definitions give, and what the document says. What the document says stands in figures, and ROMs and states to
--- start from do too, so that no definition is compared with itself.
-pub record Case : Type 0 where
+-- What is due stands in figures, and ROMs and states to start from do too, so that no definition is compared with itself.
+--
+-- A row is a test that passes. There are five kinds, each with its columns.
+
+-- every one of the tests passes of x
+abbrev pub allPass : {A : Type 0} → List (A → Bool) → A → Bool
+allPass [] x = true
+allPass (t ∷ ts) x = t x && allPass ts x
+
+-- The machine cycle: so many cycles of a ROM with no schedule, and what the state then shows.
+pub record MachineRow : Type 0 where
+  pub rom : List ℕ
+  pub start : State
+  pub cycles : ℕ
+  pub shows : List (State → Bool)
+
+abbrev pub onMachine : MachineRow → Bool
+onMachine r = allPass (r .shows) (unbroken upd546 (r .rom) [] (r .cycles) (r .start) .state)
+
+-- The same with a schedule.
+pub record LinesRow : Type 0 where
+  pub rom : List ℕ
+  pub schedule : List ℕ
+  pub start : State
+  pub cycles : ℕ
+  pub shows : List (State → Bool)
+
+abbrev pub onLines : LinesRow → Bool
+onLines r = allPass (r .shows) (unbroken upd546 (r .rom) (r .schedule) (r .cycles) (r .start) .state)
+
+-- A runner on ROM, schedule, state, log and n: what it answers, and what the state that it answers shows.
+pub record RunnerRow : Type 0 where
+  pub run : RunAnswer State
+  pub answers : List (RunAnswer State → Bool)
+  pub shows : List (State → Bool)
+
+abbrev pub onRunner : RunnerRow → Bool
+onRunner r = allPass (r .answers) (r .run) && allPass (r .shows) (r .run .state)
+
+-- Numbers, bytes or a text: what the definitions give, and what the document says.
+pub record NumbersRow : Type 0 where
   pub given : List ℕ
   pub wanted : List ℕ
 
-abbrev pub holds : Case → Bool
-holds k = sameNumbers (k .given) (k .wanted)
+abbrev pub onNumbers : NumbersRow → Bool
+onNumbers r = sameNumbers (r .given) (r .wanted)
 
-abbrev pub allHold : List Case → Bool
-allHold [] = true
-allHold (k ∷ ks) = holds k && allHold ks
+-- A state: what the definitions give, and what the document says.
+pub record StateRow : Type 0 where
+  pub given : State
+  pub wanted : State
+
+-- the fields of a state, one by one
+abbrev pub coreNumbers : Core → List ℕ
+coreNumbers c =
+    c .registers .acc ∷ c .registers .carry ∷ c .registers .saved ∷ c .registers .dph ∷ c .registers .dpl
+    ∷ c .flow .pc ∷ c .flow .stack
+    ++ (c .interrupt .int ∷ c .interrupt .inte ∷ c .interrupt .level
+    ∷ c .timer .tm ∷ c .timer .register ∷ c .timer .counter ∷ c .mark ∷ c .owed ∷ [])
+
+abbrev pub stateNumbers : State → List ℕ
+stateNumbers s = coreNumbers (s .core) ++ s .ports ++ s .ram ++ (s .count ∷ s .cycle .0 ∷ [])
+
+abbrev pub onState : StateRow → Bool
+onState r = sameNumbers (stateNumbers (r .given)) (stateNumbers (r .wanted))
+
+-- What a state shows.
+
+abbrev pub pcIs : ℕ → State → Bool
+pcIs v s = eqb (s .core .flow .pc) v
+
+-- newest first
+abbrev pub stackIs : List ℕ → State → Bool
+stackIs v s = sameNumbers (s .core .flow .stack) v
+
+abbrev pub newestIs : ℕ → State → Bool
+newestIs v s = eqb (newest (s .core .flow .stack)) v
+
+abbrev pub accIs : ℕ → State → Bool
+accIs v s = eqb (s .core .registers .acc) v
+
+abbrev pub carryIs : ℕ → State → Bool
+carryIs v s = eqb (s .core .registers .carry) v
+
+abbrev pub dphIs : ℕ → State → Bool
+dphIs v s = eqb (s .core .registers .dph) v
+
+-- DPH and DPL, as 23 is DPH 2 and DPL 3
+abbrev pub dpIs : ℕ → State → Bool
+dpIs v s = eqb (s .core .registers .dph) (v / 16) && eqb (s .core .registers .dpl) (v % 16)
+
+abbrev pub intIs : ℕ → State → Bool
+intIs v s = eqb (s .core .interrupt .int) v
+
+abbrev pub inteIs : ℕ → State → Bool
+inteIs v s = eqb (s .core .interrupt .inte) v
+
+-- the INT level last seen
+abbrev pub levelIs : ℕ → State → Bool
+levelIs v s = eqb (s .core .interrupt .level) v
+
+abbrev pub tmIs : ℕ → State → Bool
+tmIs v s = eqb (s .core .timer .tm) v
+
+-- the timer's register and counter, 0 and 0 when it is stopped
+abbrev pub timerIs : ℕ → ℕ → State → Bool
+timerIs register counter s = eqb (s .core .timer .register) register && eqb (s .core .timer .counter) counter
+
+-- 0 other, 1 LDI, 2 EI, 3 STM, 4 LI
+abbrev pub markIs : ℕ → State → Bool
+markIs v s = eqb (s .core .mark) v
+
+abbrev pub owedIs : ℕ → State → Bool
+owedIs v s = eqb (s .core .owed) v
+
+-- latches C to I
+abbrev pub portsAre : List ℕ → State → Bool
+portsAre v s = sameNumbers (s .ports) v
+
+abbrev pub ramIs : List ℕ → State → Bool
+ramIs v s = sameNumbers (s .ram) v
+
+-- the count of consecutive cycles with RES high
+abbrev pub countIs : ℕ → State → Bool
+countIs v s = eqb (s .count) v
+
+-- What a run answers.
+
+-- of a stop or a refusal, 0 of a run that finished
+abbrev pub numberIs : ℕ → RunAnswer State → Bool
+numberIs v a = eqb (numberOfEnd (a .end)) v
+
+abbrev pub cyclesAre : ℕ → RunAnswer State → Bool
+cyclesAre v a = eqb (a .cycles) v
+
+abbrev pub clocksAre : ℕ → RunAnswer State → Bool
+clocksAre v a = eqb (a .clocks) v
+
+-- instructions begun
+abbrev pub begunAre : ℕ → RunAnswer State → Bool
+begunAre v a = eqb (a .begun) v
+
+abbrev pub stepsAre : ℕ → RunAnswer State → Bool
+stepsAre v a = eqb (a .steps) v
+
+-- log bytes written
+abbrev pub writtenAre : ℕ → RunAnswer State → Bool
+writtenAre v a = eqb (a .written) v
+
+-- the whole lent log, as it stands when the run returns
+abbrev pub logIs : List ℕ → RunAnswer State → Bool
+logIs v a = sameNumbers (a .log) v
+
+-- What a row is given.
 
 -- a ROM of 2,000 bytes that has the bytes from an address on, else zeros
 abbrev pub romAt : ℕ → List ℕ → List ℕ
 romAt a bytes = replicate a 0 ++ bytes ++ replicate (2000 - (a + length bytes)) 0
+
+-- a schedule of one record: from cycle 0 on these lines A and B, C and D, and INT high
+abbrev pub linesFrom0 : ℕ → ℕ → List ℕ
+linesFrom0 ab cd = replicate 6 0 ++ (ab ∷ cd ∷ 1 ∷ 0 ∷ [])
+
+-- and of one in which INT falls at cycle n, which is below 256
+abbrev pub fallAt : ℕ → List ℕ
+fallAt n = replicate 5 0 ++ (n ∷ 0 ∷ 0 ∷ 0 ∷ 0 ∷ [])
+
+-- a record at cycle n, which is below 256: ports 0, INT and RES
+abbrev pub recordAt : (n int res : ℕ) → List ℕ
+recordAt n int res = replicate 5 0 ++ (n ∷ 0 ∷ 0 ∷ int ∷ res ∷ [])
+
+-- RES high from cycle 0 on, and from cycle 0 up to cycle n, with INT high
+abbrev pub held : List ℕ
+held = recordAt 0 1 1
+
+abbrev pub heldTo : ℕ → List ℕ
+heldTo n = held ++ recordAt n 1 0
 
 -- the fresh state, whose fields a row has in figures, with another core
 abbrev pub from : (Core → Core) → State
@@ -47,168 +210,112 @@ fromWord f place v = stateOf (f (fresh .core)) (ramWith place v) (fresh .ports) 
 abbrev pub driving : (Core → Core) → List ℕ → State
 driving f ports = stateOf (f (fresh .core)) (fresh .ram) ports 0
 
--- the state after n cycles of a ROM with no schedule
-abbrev pub stateAfter : ℕ → List ℕ → State → State
-stateAfter n rom s = unbroken upd546 rom [] n s .state
+-- all zero, level high, with a mark and cycles owed: in figures
+abbrev pub zerosWith : (mark owed : ℕ) → State
+zerosWith mark owed = record {
+  core = record {
+    registers = record { acc = 0; carry = 0; saved = 0; dph = 0; dpl = 0 };
+    flow = record { pc = 0; stack = 0 ∷ 0 ∷ 0 ∷ [] };
+    interrupt = record { int = 0; inte = 0; level = 1 };
+    timer = record { tm = 0; register = 0; counter = 0 };
+    mark = mark;
+    owed = owed;
+  };
+  ports = replicate 7 0;
+  ram = replicate 96 0;
+  count = 0;
+  cycle = record { 0 = 0 };
+}
 
--- a schedule of one record: from cycle 0 on these lines A and B, C and D, and INT high
-abbrev pub lines : ℕ → ℕ → List ℕ
-lines ab cd = replicate 6 0 ++ (ab ∷ cd ∷ 1 ∷ 0 ∷ [])
-
--- and of one in which INT falls at cycle n, which is below 256
-abbrev pub fallAt : ℕ → List ℕ
-fallAt n = replicate 5 0 ++ (n ∷ 0 ∷ 0 ∷ 0 ∷ 0 ∷ [])
-
--- the state after one cycle of a ROM with a schedule, and after n cycles
-abbrev pub stateOn : List ℕ → List ℕ → State → State
-stateOn sched rom s = unbroken upd546 rom sched 1 s .state
-
-abbrev pub stateLater : ℕ → List ℕ → List ℕ → State → State
-stateLater n sched rom s = unbroken upd546 rom sched n s .state
-
--- what is looked at, of a state and of an answer
-abbrev pub see : (State → List ℕ) → State → List ℕ
-see f t = f t
-
-abbrev pub seeAnswer : (RunAnswer State → List ℕ) → RunAnswer State → List ℕ
-seeAnswer f a = f a
-
-abbrev pub pcOf : State → ℕ
-pcOf s = s .core .flow .pc
-
-abbrev pub accOf : State → ℕ
-accOf s = s .core .registers .acc
-
-abbrev pub carryOf : State → ℕ
-carryOf s = s .core .registers .carry
-
--- the fields of a state, one by one: a core has 17 numbers, then come 7 ports, 96 words and the cycle number
-abbrev pub coreNumbers : Core → List ℕ
-coreNumbers c =
-    c .registers .acc ∷ c .registers .carry ∷ c .registers .saved ∷ c .registers .dph ∷ c .registers .dpl
-    ∷ c .flow .pc ∷ c .flow .stack
-    ++ (c .interrupt .int ∷ c .interrupt .inte ∷ c .interrupt .level
-    ∷ c .timer .tm ∷ c .timer .register ∷ c .timer .counter ∷ c .mark ∷ c .owed ∷ [])
-
-abbrev pub stateNumbers : State → List ℕ
-stateNumbers s = coreNumbers (s .core) ++ s .ports ++ s .ram ++ (s .cycle .0 ∷ [])
-
--- The waiting loop: what the timer-skipping runner answers for n cycles of a ROM with no schedule. Nothing is written, so the log
--- has no byte.
-abbrev pub waits : ℕ → List ℕ → State → RunAnswer State
-waits n rom s = skipping upd546 rom [] s [] n
-
--- the number of an end, 0 if the run finished
-abbrev pub numberOf : End → ℕ
-numberOf finished = 0
-numberOf (stopped k) = k
-numberOf (refused k) = k
-
--- of its answer the number, cycles, instructions begun and steps, and of its state PC, mark, TM, register, counter, INT and INTE
-abbrev pub waited : RunAnswer State → List ℕ
-waited a =
-    let c = a .state .core in
-    numberOf (a .end)
-    ∷ a .cycles
-    ∷ a .begun
-    ∷ a .steps
-    ∷ c .flow .pc
-    ∷ c .mark
-    ∷ c .timer .tm
-    ∷ c .timer .register
-    ∷ c .timer .counter
-    ∷ c .interrupt .int
-    ∷ c .interrupt .inte
-    ∷ []
-
--- one cycle of TPB 1 at 7CF with latches and no line high: what is asked is whether its skip needs a byte above the ROM
-abbrev pub tpbAtTheEnd : ℕ → List ℕ → RunAnswer State
-tpbAtTheEnd port ports = plain upd546 (romAt 0x7CF (0x51 ∷ [])) [] (driving (λ c. setPc 0x7CF (setDpl port c)) ports) [] 1
-
--- n cycles of a load at 7CF, with a mark
-abbrev pub loadAtTheEnd : ℕ → ℕ → ℕ → RunAnswer State
-loadAtTheEnd code mark n = plain upd546 (romAt 0x7CF (code ∷ [])) [] (from (λ c. setPc 0x7CF (setMark mark c))) [] n
-
--- 81 bytes: zeros but for `U43`, version 1, the level in byte 15, the mark in byte 16 and the cycles owed in byte 17
-abbrev pub imageWith : ℕ → ℕ → List ℕ
+-- its image: zeros but for `U43`, version 1, the level in byte 15, the mark in byte 16 and the cycles owed in byte 17
+abbrev pub imageWith : (mark owed : ℕ) → List ℕ
 imageWith mark owed = (0x55 ∷ 0x34 ∷ 0x33 ∷ 0 ∷ 1 ∷ []) ++ replicate 10 0 ++ (32 ∷ mark ∷ owed ∷ replicate 63 0)
 
-abbrev pub owedImage : List ℕ
-owedImage = imageWith 0 2
+-- its image of version 2, with a count
+abbrev pub imageTwoWith : (count : ℕ) → List ℕ
+imageTwoWith count = (0x55 ∷ 0x34 ∷ 0x33 ∷ 0 ∷ 2 ∷ []) ++ replicate 10 0 ++ (32 ∷ replicate 65 0) ++ (count ∷ [])
 
--- what is looked at after loads: PC, Acc, DPH, DPL and the mark
-abbrev pub loaded : State → List ℕ
-loaded s = pcOf s ∷ accOf s ∷ s .core .registers .dph ∷ s .core .registers .dpl ∷ s .core .mark ∷ []
+-- THE CASES MARKED P, twelve, in the document's order. A case with two parts has two rows.
+abbrev pub pCases : List Bool
+pCases =
+    -- 1. "STM 80 at cycle 0: TTM at 64 doesn't skip, at 65 skips."
+    onMachine (record { rom = romAt 0 (0x14 ∷ 0x80 ∷ replicate 70 0x05); start = fresh; cycles = 65; shows = pcIs 65 ∷ [] })
+    ∷ onMachine (record { rom = romAt 0 (0x14 ∷ 0x80 ∷ replicate 70 0x05); start = fresh; cycles = 66; shows = pcIs 67 ∷ [] })
+    -- 2. "STM BF: 4,033 and 4,034." NOP, and then TTM in the odd cycles; TTM in the even cycles
+    ∷ onMachine (record { rom = romAt 0 (0x14 ∷ 0xBF ∷ 0x00 ∷ 0x05 ∷ 0xC3 ∷ []); start = fresh; cycles = 4034; shows = pcIs 4 ∷ [] })
+    ∷ onMachine (record { rom = romAt 0 (0x14 ∷ 0xBF ∷ 0x05 ∷ 0xC2 ∷ []); start = fresh; cycles = 4035; shows = pcIs 4 ∷ [] })
+    -- 3. "TC with C=1 before CI costs 3, before NOP 2." After its first cycle 2 are owed, and 1
+    ∷ onMachine (record { rom = romAt 0 (0x04 ∷ 0x17 ∷ []); start = from (setCarry 1); cycles = 1; shows = pcIs 3 ∷ owedIs 2 ∷ [] })
+    ∷ onMachine (record { rom = romAt 0 (0x04 ∷ 0x00 ∷ []); start = from (setCarry 1); cycles = 1; shows = pcIs 2 ∷ owedIs 1 ∷ [] })
+    -- 4. "NOP at 1FF leads to 100."
+    ∷ onMachine (record { rom = romAt 0x1FF (0x00 ∷ []); start = from (setPc 0x1FF); cycles = 1; shows = pcIs 0x100 ∷ [] })
+    -- 5. "BF calls 03C."
+    ∷ onMachine (record { rom = romAt 0 (0xBF ∷ []); start = fresh; cycles = 1; shows = pcIs 0x03C ∷ stackIs (1 ∷ 0 ∷ 0 ∷ []) ∷ [] })
+    -- 6. "DEM in row 5 skips, stores nothing."
+    ∷ onMachine (record { rom = romAt 0 (0x1F ∷ []); start = from (setDph 5); cycles = 1; shows = pcIs 2 ∷ ramIs (replicate 96 0) ∷ [] })
+    -- 7. "XHX with DPH 5, X 9: DPH 1, X 5."
+    ∷ onMachine (record {
+      rom = romAt 0 (0x4F ∷ []);
+      start = fromWord (setDph 5) 95 9;
+      cycles = 1;
+      shows = dphIs 1 ∷ ramIs (ramWith 95 5) ∷ [];
+    })
+    -- 8. "RAR of 1, C=0: Acc 0, C 1."
+    ∷ onMachine (record { rom = romAt 0 (0x30 ∷ []); start = from (setAcc 1); cycles = 1; shows = accIs 0 ∷ carryIs 1 ∷ [] })
+    -- 9. "ADS 9+8+1: Acc 2, C 1, skip."
+    ∷ onMachine (record {
+      rom = romAt 0 (0x09 ∷ []);
+      start = fromWord (λ c. setCarry 1 (setAcc 9 c)) 0 8;
+      cycles = 1;
+      shows = accIs 2 ∷ carryIs 1 ∷ pcIs 2 ∷ [];
+    })
+    -- 10. "JCP C5 at 03F goes to 005."
+    ∷ onMachine (record { rom = romAt 0x03F (0xC5 ∷ []); start = from (setPc 0x03F); cycles = 1; shows = pcIs 0x005 ∷ [] })
+    -- 11. "with INT set, EI then NOP: acceptance follows NOP." Not before NOP, and then
+    ∷ onMachine (record { rom = romAt 0 (0x31 ∷ 0x00 ∷ []); start = from (setInt 1); cycles = 2; shows = pcIs 2 ∷ [] })
+    ∷ onMachine (record {
+      rom = romAt 0 (0x31 ∷ 0x00 ∷ []);
+      start = from (setInt 1);
+      cycles = 3;
+      shows = pcIs 0x03C ∷ stackIs (2 ∷ 0 ∷ 0 ∷ []) ∷ intIs 0 ∷ inteIs 0 ∷ [];
+    })
+    -- 12. "a fourth call loses the first return." Calls at 000, 004, 008 and 00C
+    ∷ onMachine (record {
+      rom = romAt 0 (0xB1 ∷ 0 ∷ 0 ∷ 0 ∷ 0xB2 ∷ 0 ∷ 0 ∷ 0 ∷ 0xB3 ∷ 0 ∷ 0 ∷ 0 ∷ 0xB4 ∷ []);
+      start = fresh;
+      cycles = 4;
+      shows = stackIs (0x00D ∷ 0x009 ∷ 0x005 ∷ []) ∷ [];
+    })
+    ∷ []
 
--- and of an interrupt: PC, the newest return, Acc, INT and INTE
-abbrev pub answered : State → List ℕ
-answered s = pcOf s ∷ newest (s .core .flow .stack) ∷ accOf s ∷ s .core .interrupt .int ∷ s .core .interrupt .inte ∷ []
-
-abbrev pub cases : List Case
-cases =
-    -- P: STM 80 at cycle 0: TTM at 64 doesn't skip
-    record { given = pcOf (stateAfter 65 (romAt 0 (0x14 ∷ 0x80 ∷ replicate 70 0x05)) fresh) ∷ []; wanted = 65 ∷ [] }
-    -- P: at 65 skips
-    ∷ record { given = pcOf (stateAfter 66 (romAt 0 (0x14 ∷ 0x80 ∷ replicate 70 0x05)) fresh) ∷ []; wanted = 67 ∷ [] }
-    -- P: STM BF: TTM at 4,033 doesn't skip (NOP, and then TTM in the odd cycles)
-    ∷ record { given = pcOf (stateAfter 4034 (romAt 0 (0x14 ∷ 0xBF ∷ 0x00 ∷ 0x05 ∷ 0xC3 ∷ [])) fresh) ∷ []; wanted = 4 ∷ [] }
-    -- P: and at 4,034 skips (TTM in the even cycles)
-    ∷ record { given = pcOf (stateAfter 4035 (romAt 0 (0x14 ∷ 0xBF ∷ 0x05 ∷ 0xC2 ∷ [])) fresh) ∷ []; wanted = 4 ∷ [] }
-    -- P: TC with C=1 before CI costs 3: 2 are owed after its first cycle
-    ∷ record { given = see (λ t. pcOf t ∷ t .core .owed ∷ []) (stateAfter 1 (romAt 0 (0x04 ∷ 0x17 ∷ [])) (from (setCarry 1))); wanted = 3 ∷ 2 ∷ [] }
-    -- P: before NOP 2
-    ∷ record { given = see (λ t. pcOf t ∷ t .core .owed ∷ []) (stateAfter 1 (romAt 0 (0x04 ∷ 0x00 ∷ [])) (from (setCarry 1))); wanted = 2 ∷ 1 ∷ [] }
-    -- P: NOP at 1FF leads to 100
-    ∷ record { given = pcOf (stateAfter 1 (romAt 0 []) (from (setPc 0x1FF))) ∷ []; wanted = 0x100 ∷ [] }
-    -- P: BF calls 03C
-    ∷ record { given = see (λ t. pcOf t ∷ t .core .flow .stack) (stateAfter 1 (romAt 0 (0xBF ∷ [])) fresh); wanted = 0x03C ∷ 1 ∷ 0 ∷ 0 ∷ [] }
-    -- P: DEM in row 5 skips, stores nothing
-    ∷ record { given = see (λ t. pcOf t ∷ t .ram) (stateAfter 1 (romAt 0 (0x1F ∷ [])) (from (setDph 5))); wanted = 2 ∷ replicate 96 0 }
-    -- P: XHX with DPH 5, X 9: DPH 1, X 5
-    ∷ record {
-      given = see (λ t. t .core .registers .dph ∷ t .ram) (stateAfter 1 (romAt 0 (0x4F ∷ [])) (fromWord (setDph 5) 95 9));
-      wanted = 1 ∷ ramWith 95 5;
-    }
-    -- P: RAR of 1, C=0: Acc 0, C 1
-    ∷ record { given = see (λ t. accOf t ∷ carryOf t ∷ []) (stateAfter 1 (romAt 0 (0x30 ∷ [])) (from (setAcc 1))); wanted = 0 ∷ 1 ∷ [] }
-    -- P: ADS 9+8+1: Acc 2, C 1, skip
-    ∷ record {
-      given = see (λ t. accOf t ∷ carryOf t ∷ pcOf t ∷ []) (stateAfter 1 (romAt 0 (0x09 ∷ [])) (fromWord (λ c. setCarry 1 (setAcc 9 c)) 0 8));
-      wanted = 2 ∷ 1 ∷ 2 ∷ [];
-    }
-    -- P: JCP C5 at 03F goes to 005
-    ∷ record { given = pcOf (stateAfter 1 (romAt 0x03F (0xC5 ∷ [])) (from (setPc 0x03F))) ∷ []; wanted = 0x005 ∷ [] }
-    -- P: with INT set, EI then NOP: no acceptance before NOP
-    ∷ record { given = pcOf (stateAfter 2 (romAt 0 (0x31 ∷ [])) (from (setInt 1))) ∷ []; wanted = 2 ∷ [] }
-    -- P: acceptance follows NOP
-    ∷ record {
-      given = see (λ t. pcOf t ∷ t .core .flow .stack ++ (t .core .interrupt .int ∷ t .core .interrupt .inte ∷ [])) (stateAfter 3 (romAt 0 (0x31 ∷ [])) (from (setInt 1)));
-      wanted = 0x03C ∷ 2 ∷ 0 ∷ 0 ∷ 0 ∷ 0 ∷ [];
-    }
-    -- P: a fourth call loses the first return (calls at 000, 004, 008 and 00C)
-    ∷ record {
-      given = stateAfter 4 (romAt 0 (0xB1 ∷ 0 ∷ 0 ∷ 0 ∷ 0xB2 ∷ 0 ∷ 0 ∷ 0 ∷ 0xB3 ∷ 0 ∷ 0 ∷ 0 ∷ 0xB4 ∷ [])) fresh .core .flow .stack;
-      wanted = 0x00D ∷ 0x009 ∷ 0x005 ∷ [];
-    }
-    -- cycle limit reached exactly is taken, one more is 2
-    ∷ record {
-      given = runNumber upd546 (romAt 0 []) [] fresh 281474976710655 ∷ runNumber upd546 (romAt 0 []) [] fresh 281474976710656 ∷ [];
-      wanted = 0 ∷ 2 ∷ [];
-    }
-    -- misleading: AD setting C (9+8: Acc 1, C as it was, skip)
-    ∷ record {
-      given = see (λ t. accOf t ∷ carryOf t ∷ pcOf t ∷ []) (stateAfter 1 (romAt 0 (0x08 ∷ [])) (fromWord (setAcc 9) 0 8));
-      wanted = 1 ∷ 0 ∷ 2 ∷ [];
-    }
-    -- misleading: dropping owed cycles on save. The image of the fresh state with 2 cycles owed: `U43`, version 1, byte 15 with the
-    -- level, byte 17 with the cycles owed
-    ∷ record { given = imageOf (from (setOwed 2)); wanted = owedImage }
-    -- and the state of these bytes
-    ∷ record { given = stateNumbers (ofImage owedImage); wanted = replicate 11 0 ++ (1 ∷ 0 ∷ 0 ∷ 0 ∷ 0 ∷ 2 ∷ replicate 104 0) }
+-- THE REST OF DOCUMENT 01.
+abbrev pub otherCases : List Bool
+otherCases =
+    -- "cycle limit reached exactly is taken", and one more is 2
+    onNumbers (record { given = runNumber upd546 (romAt 0 []) [] fresh 281474976710655 ∷ []; wanted = 0 ∷ [] })
+    ∷ onNumbers (record { given = runNumber upd546 (romAt 0 []) [] fresh 281474976710656 ∷ []; wanted = 2 ∷ [] })
+    -- Misleading: "AD setting C". 9+8: Acc 1, C as it was, skip
+    ∷ onMachine (record {
+      rom = romAt 0 (0x08 ∷ []);
+      start = fromWord (setAcc 9) 0 8;
+      cycles = 1;
+      shows = accIs 1 ∷ carryIs 0 ∷ pcIs 2 ∷ [];
+    })
+    -- Misleading: "dropping owed cycles on save". The image of the fresh state with 2 cycles owed, and the state of these bytes
+    ∷ onNumbers (record { given = imageOf One (from (setOwed 2)); wanted = imageWith 0 2 })
+    ∷ onState (record { given = ofImage (imageWith 0 2); wanted = zerosWith 0 2 })
     -- "Fresh state: all zero, level high, mark other, timer stopped"
-    ∷ record { given = stateNumbers fresh; wanted = replicate 11 0 ++ (1 ∷ replicate 109 0) }
-    -- What reports show: n = 10, ROM 1E A5 93 44 1C then zeros, no schedule; the five lines of the document, to the letter
-    ∷ record {
+    ∷ onState (record { given = fresh; wanted = zerosWith 0 0 })
+    -- "22 a byte above 7CF is needed (the second byte of an LDI that is a NOP counts)": LDI at 7CF with mark LDI, and no cycle
+    ∷ onRunner (record {
+      run = plain upd546 (romAt 0x7CF (0x15 ∷ [])) [] (from (λ c. setPc 0x7CF (setMark 1 c))) [] 1;
+      answers = numberIs 22 ∷ cyclesAre 0 ∷ [];
+      shows = [];
+    })
+    -- "A run checks 21, 12, 11, 13/14, 34, 2": for n = 0 too
+    ∷ onRunner (record { run = plain upd546 (replicate 1999 0) [] fresh [] 0; answers = numberIs 21 ∷ []; shows = [] })
+    -- What reports show: n = 10, "ROM 1E A5 93 44 1C then zeros, no schedule"; the five lines of the document, to the letter
+    ∷ onNumbers (record {
       given = traceText (0 ∷ 0 ∷ 0 ∷ 10 ∷ romAt 0 (0x1E ∷ 0xA5 ∷ 0x93 ∷ 0x44 ∷ 0x1C ∷ []));
       wanted =
           (99 ∷ 121 ∷ 99 ∷ 108 ∷ 101 ∷ 32 ∷ 112 ∷ 111 ∷ 114 ∷ 116 ∷ 32 ∷ 118 ∷ 97 ∷ 108 ∷ 117 ∷ 101 ∷ 10 ∷ [])
@@ -216,158 +323,570 @@ cases =
           ++ (48 ∷ 32 ∷ 68 ∷ 32 ∷ 65 ∷ 10 ∷ [])
           ++ (51 ∷ 32 ∷ 69 ∷ 32 ∷ 51 ∷ 10 ∷ [])
           ++ (101 ∷ 110 ∷ 100 ∷ 32 ∷ 53 ∷ 32 ∷ 51 ∷ 32 ∷ 50 ∷ 51 ∷ 10 ∷ []);
-    }
-    -- Two runners: the timer-skipping one, STM 80 and then TTM and a JCP back to it: 2 steps for STM, a jump of 62 cycles, and then
-    -- cycle by cycle; TTM skips at 66
-    ∷ record {
-      given =
-          seeAnswer (λ a. pcOf (a .state) ∷ a .cycles ∷ a .clocks ∷ a .begun ∷ a .steps ∷ [])
-          (skipping upd546 (romAt 0 (0x14 ∷ 0x80 ∷ 0x05 ∷ 0xC2 ∷ [])) [] fresh (replicate 552 0) 68);
-      wanted = 4 ∷ 68 ∷ 272 ∷ 66 ∷ 7 ∷ [];
-    }
-    -- The mark plays no part in a jump, and is other after it. TTM directly after STM 81: a jump of 126 cycles begins with mark STM
-    ∷ record {
-      given = waited (waits 128 (romAt 0 (0x14 ∷ 0x81 ∷ 0x05 ∷ 0xC2 ∷ [])) fresh);
-      wanted = 0 ∷ 128 ∷ 127 ∷ 3 ∷ 0x002 ∷ 0 ∷ 1 ∷ 0 ∷ 0 ∷ 0 ∷ 0 ∷ [];
-    }
-    -- TTM directly after EI, which stands after STM 80: a jump of 62 cycles begins with mark EI
-    ∷ record {
-      given = waited (waits 65 (romAt 0 (0x14 ∷ 0x80 ∷ 0x31 ∷ 0x05 ∷ 0xC3 ∷ [])) fresh);
-      wanted = 0 ∷ 65 ∷ 64 ∷ 4 ∷ 0x003 ∷ 0 ∷ 1 ∷ 0 ∷ 0 ∷ 0 ∷ 1 ∷ [];
-    }
-    -- TTM directly after LDI, which stands after STM 80: a jump of 60 cycles begins with mark LDI, and one tick is left
-    ∷ record {
-      given = waited (waits 64 (romAt 0 (0x14 ∷ 0x80 ∷ 0x15 ∷ 0x25 ∷ 0x05 ∷ 0xC4 ∷ [])) fresh);
-      wanted = 0 ∷ 64 ∷ 62 ∷ 5 ∷ 0x004 ∷ 0 ∷ 0 ∷ 32 ∷ 0 ∷ 0 ∷ 0 ∷ [];
-    }
-    -- INT and INTE both 1 with mark EI: no jump, though no interrupt is taken yet; TTM is begun, and acceptance follows it
-    ∷ record {
-      given = waited (waits 5 (romAt 0 (0x14 ∷ 0x80 ∷ 0x31 ∷ 0x05 ∷ 0xC3 ∷ [])) (from (setInt 1)));
-      wanted = 0 ∷ 5 ∷ 3 ∷ 5 ∷ 0x03C ∷ 0 ∷ 0 ∷ 8 ∷ 0 ∷ 0 ∷ 0 ∷ [];
-    }
-    -- TTM at 03F: JCP FF at 040 leads to 07F and not back, so there is no jump
-    ∷ record {
-      given = waited (waits 4 (romAt 0x03D (0x14 ∷ 0x80 ∷ 0x05 ∷ 0xFF ∷ [])) (from (setPc 0x03D)));
-      wanted = 0 ∷ 4 ∷ 3 ∷ 4 ∷ 0x07F ∷ 0 ∷ 0 ∷ 4 ∷ 0 ∷ 0 ∷ 0 ∷ [];
-    }
-    -- TTM at 7CF: there is no next address, so no jump; 22 where a JCP would be due
-    ∷ record {
-      given = waited (waits 10 (romAt 0x7CD (0x14 ∷ 0x80 ∷ 0x05 ∷ [])) (from (setPc 0x7CD)));
-      wanted = 22 ∷ 3 ∷ 2 ∷ 3 ∷ 0x7D0 ∷ 0 ∷ 0 ∷ 2 ∷ 0 ∷ 0 ∷ 0 ∷ [];
-    }
-    -- "22 a byte above 7CF is needed (the second byte of an LDI that is a NOP counts)": LDI at 7CF with mark LDI, and no cycle
-    ∷ record { given = seeAnswer (λ a. numberOf (a .end) ∷ a .cycles ∷ []) (loadAtTheEnd 0x15 1 1); wanted = 22 ∷ 0 ∷ [] }
-    -- "A run checks 21, 12, 11, 13/14, 34, 2": for n = 0 too
-    ∷ record { given = numberOf (plain upd546 (replicate 1999 0) [] fresh [] 0 .end) ∷ []; wanted = 21 ∷ [] }
-    -- R-2: C reads back a strobe while its lines are low (LDZ 2, LI 5, OP, IP)
-    ∷ record { given = accOf (stateAfter 4 (romAt 0 (0x82 ∷ 0x95 ∷ 0x0E ∷ 0x32 ∷ [])) fresh) ∷ []; wanted = 5 ∷ [] }
-    -- R-2: C reads a line that is high while the latch is low
-    ∷ record { given = accOf (stateOn (lines 0 0xA0) (romAt 0 (0x32 ∷ [])) (from (setDpl 2))) ∷ []; wanted = 10 ∷ [] }
-    -- R-2: line 3 or latch 5 is 7, and the latches are as before
-    ∷ record {
-      given = see (λ t. accOf t ∷ t .ports) (stateOn (lines 0 0x30) (romAt 0 (0x32 ∷ [])) (driving (setDpl 2) (5 ∷ 8 ∷ replicate 5 0)));
-      wanted = 7 ∷ 5 ∷ 8 ∷ replicate 5 0;
-    }
-    -- R-2: D likewise, line 1 or latch 8 is 9
-    ∷ record { given = accOf (stateOn (lines 0 0x31) (romAt 0 (0x32 ∷ [])) (driving (setDpl 3) (5 ∷ 8 ∷ replicate 5 0))) ∷ []; wanted = 9 ∷ [] }
-    -- R-2: TPB 2 on C skips by the latch alone, TPB 1 doesn't
-    ∷ record { given = pcOf (stateAfter 1 (romAt 0 (0x52 ∷ [])) (driving (setDpl 2) (5 ∷ replicate 6 0))) ∷ []; wanted = 2 ∷ [] }
-    ∷ record { given = pcOf (stateAfter 1 (romAt 0 (0x51 ∷ [])) (driving (setDpl 2) (5 ∷ replicate 6 0))) ∷ []; wanted = 1 ∷ [] }
-    -- R-2: E still reads 0, although its latch is 15
-    ∷ record {
-      given = accOf (stateOn (lines 0xFF 0xFF) (romAt 0 (0x32 ∷ [])) (driving (λ c. setAcc 3 (setDpl 4 c)) (0 ∷ 0 ∷ 15 ∷ replicate 4 0))) ∷ [];
-      wanted = 0 ∷ [];
-    }
-    -- R-2: IA still reads line A alone, here 9, with C named by DPL and both latches 15
-    ∷ record { given = accOf (stateOn (lines 0x90 0) (romAt 0 (0x40 ∷ [])) (driving (setDpl 2) (15 ∷ 15 ∷ replicate 5 0))) ∷ []; wanted = 9 ∷ [] }
-    -- R-2: TPB on D at 7CF needs a byte above it because of the latch: 22, and no cycle; with another bit it is begun
-    ∷ record { given = seeAnswer (λ a. numberOf (a .end) ∷ a .cycles ∷ []) (tpbAtTheEnd 3 (0 ∷ 2 ∷ replicate 5 0)); wanted = 22 ∷ 0 ∷ [] }
-    ∷ record { given = seeAnswer (λ a. numberOf (a .end) ∷ a .cycles ∷ []) (tpbAtTheEnd 3 (2 ∷ 13 ∷ replicate 5 0)); wanted = 0 ∷ 1 ∷ [] }
-    -- R-5: LI 5, LI 9: the second is an instruction of one cycle that changes nothing but PC, and keeps the mark LI
-    ∷ record { given = loaded (stateAfter 1 (romAt 0 (0x95 ∷ 0x99 ∷ [])) fresh); wanted = 1 ∷ 5 ∷ 0 ∷ 0 ∷ 4 ∷ [] }
-    ∷ record { given = loaded (stateAfter 2 (romAt 0 (0x95 ∷ 0x99 ∷ [])) fresh); wanted = 2 ∷ 5 ∷ 0 ∷ 0 ∷ 4 ∷ [] }
-    ∷ record { given = unbroken upd546 (romAt 0 (0x95 ∷ 0x99 ∷ [])) [] 2 fresh .begun ∷ []; wanted = 2 ∷ [] }
-    -- R-5: so do the third and the fourth
-    ∷ record { given = loaded (stateAfter 4 (romAt 0 (0x95 ∷ 0x99 ∷ 0x92 ∷ 0x9F ∷ [])) fresh); wanted = 4 ∷ 5 ∷ 0 ∷ 0 ∷ 4 ∷ [] }
-    -- R-5: CLA is LI 0, before an LI and after it
-    ∷ record { given = loaded (stateAfter 2 (romAt 0 (0x90 ∷ 0x97 ∷ [])) (from (setAcc 3))); wanted = 2 ∷ 0 ∷ 0 ∷ 0 ∷ 4 ∷ [] }
-    ∷ record { given = loaded (stateAfter 2 (romAt 0 (0x97 ∷ 0x90 ∷ [])) fresh); wanted = 2 ∷ 7 ∷ 0 ∷ 0 ∷ 4 ∷ [] }
-    -- R-5: LI 5, NOP, LI 9: both load
-    ∷ record { given = loaded (stateAfter 3 (romAt 0 (0x95 ∷ 0x00 ∷ 0x99 ∷ [])) fresh); wanted = 3 ∷ 9 ∷ 0 ∷ 0 ∷ 4 ∷ [] }
-    -- LDI 23, LDI 45: the second is a NOP of two cycles that keeps the mark LDI
-    ∷ record { given = loaded (stateAfter 4 (romAt 0 (0x15 ∷ 0x23 ∷ 0x15 ∷ 0x45 ∷ [])) fresh); wanted = 4 ∷ 0 ∷ 2 ∷ 3 ∷ 1 ∷ [] }
-    -- R-5: LDI 23, LI 5, LDI 45, LI 9: LI after LDI loads, and LDI after LI
-    ∷ record { given = loaded (stateAfter 3 (romAt 0 (0x15 ∷ 0x23 ∷ 0x95 ∷ [])) fresh); wanted = 3 ∷ 5 ∷ 2 ∷ 3 ∷ 4 ∷ [] }
-    ∷ record {
-      given = loaded (stateAfter 6 (romAt 0 (0x15 ∷ 0x23 ∷ 0x95 ∷ 0x15 ∷ 0x45 ∷ 0x99 ∷ [])) fresh);
-      wanted = 6 ∷ 9 ∷ 4 ∷ 5 ∷ 4 ∷ [];
-    }
-    -- R-5: JCP 003 enters the string LI 1, LI 2, LI 3, LI 4 at its third load, also with mark LI before it: LI 7, JCP 003
-    ∷ record { given = loaded (stateAfter 3 (romAt 0 (0xC3 ∷ 0x91 ∷ 0x92 ∷ 0x93 ∷ 0x94 ∷ [])) fresh); wanted = 5 ∷ 3 ∷ 0 ∷ 0 ∷ 4 ∷ [] }
-    ∷ record { given = loaded (stateAfter 4 (romAt 0 (0x97 ∷ 0xC3 ∷ 0x92 ∷ 0x93 ∷ 0x94 ∷ [])) fresh); wanted = 5 ∷ 3 ∷ 0 ∷ 0 ∷ 4 ∷ [] }
-    -- R-5: a skipped LI isn't begun: LI 5, TC with C=1 over LI 9, LI 3, which loads
-    ∷ record { given = loaded (stateAfter 4 (romAt 0 (0x95 ∷ 0x04 ∷ 0x99 ∷ 0x93 ∷ [])) (from (setCarry 1))); wanted = 4 ∷ 3 ∷ 0 ∷ 0 ∷ 4 ∷ [] }
-    -- R-5: LI 9 at 7CF with mark LI is a NOP of one byte: it is begun, and the byte above 7CF is needed one cycle later
-    ∷ record {
-      given = seeAnswer (λ a. numberOf (a .end) ∷ a .cycles ∷ loaded (a .state)) (loadAtTheEnd 0x99 4 1);
-      wanted = 0 ∷ 1 ∷ 0x7D0 ∷ 0 ∷ 0 ∷ 0 ∷ 4 ∷ [];
-    }
-    ∷ record { given = seeAnswer (λ a. numberOf (a .end) ∷ a .cycles ∷ []) (loadAtTheEnd 0x99 4 2); wanted = 22 ∷ 1 ∷ [] }
-    -- R-5: INT falls between LI 5 and LI 9, in cycle 1. The interrupt isn't accepted before NOP, and follows it
-    ∷ record { given = answered (stateLater 3 (fallAt 1) (romAt 0 (0x95 ∷ 0x99 ∷ [])) (from (setInte 1))); wanted = 3 ∷ 0 ∷ 5 ∷ 1 ∷ 1 ∷ [] }
-    ∷ record { given = answered (stateLater 4 (fallAt 1) (romAt 0 (0x95 ∷ 0x99 ∷ [])) (from (setInte 1))); wanted = 0x03C ∷ 3 ∷ 5 ∷ 0 ∷ 0 ∷ [] }
-    -- R-5: so on the plain runner and on the timer-skipping one
-    ∷ record {
-      given = answered (plain upd546 (romAt 0 (0x95 ∷ 0x99 ∷ [])) (fallAt 1) (from (setInte 1)) [] 4 .state);
-      wanted = 0x03C ∷ 3 ∷ 5 ∷ 0 ∷ 0 ∷ [];
-    }
-    ∷ record {
-      given = answered (skipping upd546 (romAt 0 (0x95 ∷ 0x99 ∷ [])) (fallAt 1) (from (setInte 1)) [] 4 .state);
-      wanted = 0x03C ∷ 3 ∷ 5 ∷ 0 ∷ 0 ∷ [];
-    }
-    -- R-5: also after a single LI, here in cycle 0
-    ∷ record { given = answered (stateLater 2 (fallAt 0) (romAt 0 (0x95 ∷ [])) (from (setInte 1))); wanted = 2 ∷ 0 ∷ 5 ∷ 1 ∷ 1 ∷ [] }
-    ∷ record { given = answered (stateLater 3 (fallAt 0) (romAt 0 (0x95 ∷ [])) (from (setInte 1))); wanted = 0x03C ∷ 2 ∷ 5 ∷ 0 ∷ 0 ∷ [] }
-    -- R-5: between two LDI, in cycle 2
-    ∷ record {
-      given = answered (stateLater 5 (fallAt 2) (romAt 0 (0x15 ∷ 0x23 ∷ 0x15 ∷ 0x45 ∷ [])) (from (setInte 1)));
-      wanted = 5 ∷ 0 ∷ 0 ∷ 1 ∷ 1 ∷ [];
-    }
-    ∷ record {
-      given = answered (stateLater 6 (fallAt 2) (romAt 0 (0x15 ∷ 0x23 ∷ 0x15 ∷ 0x45 ∷ [])) (from (setInte 1)));
-      wanted = 0x03C ∷ 5 ∷ 0 ∷ 0 ∷ 0 ∷ [];
-    }
-    -- R-5: with EI at the string's end, LI 5, LI 9, EI: the NOP after EI is begun first
-    ∷ record { given = answered (stateLater 4 (fallAt 1) (romAt 0 (0x95 ∷ 0x99 ∷ 0x31 ∷ [])) (from (setInte 1))); wanted = 4 ∷ 0 ∷ 5 ∷ 1 ∷ 1 ∷ [] }
-    ∷ record { given = answered (stateLater 5 (fallAt 1) (romAt 0 (0x95 ∷ 0x99 ∷ 0x31 ∷ [])) (from (setInte 1))); wanted = 0x03C ∷ 4 ∷ 5 ∷ 0 ∷ 0 ∷ [] }
-    -- R-5: EI, LI 5: acceptance follows the NOP after LI
-    ∷ record { given = answered (stateAfter 3 (romAt 0 (0x31 ∷ 0x95 ∷ [])) (from (setInt 1))); wanted = 3 ∷ 0 ∷ 5 ∷ 1 ∷ 1 ∷ [] }
-    ∷ record { given = answered (stateAfter 4 (romAt 0 (0x31 ∷ 0x95 ∷ [])) (from (setInt 1))); wanted = 0x03C ∷ 3 ∷ 5 ∷ 0 ∷ 0 ∷ [] }
-    -- R-5: LI 5, a switch-off, LI 9: the string goes on
-    ∷ record {
-      given = loaded (stateAfter 1 (romAt 0 (0x95 ∷ 0x99 ∷ [])) (ofImage (imageOf (stateAfter 1 (romAt 0 (0x95 ∷ 0x99 ∷ [])) fresh))));
-      wanted = 2 ∷ 5 ∷ 0 ∷ 0 ∷ 4 ∷ [];
-    }
-    -- R-5: byte 16 of an image has mark 4, and it is read back
-    ∷ record { given = imageOf (from (setMark 4)); wanted = imageWith 4 0 }
-    ∷ record { given = stateNumbers (ofImage (imageWith 4 0)); wanted = replicate 11 0 ++ (1 ∷ 0 ∷ 0 ∷ 0 ∷ 4 ∷ replicate 105 0) }
-    -- R-5: marks 0 to 4 are restored, 5 is 34; of a state given as a value too
-    ∷ record {
-      given =
-          imageNumber (imageWith 0 0) ∷ imageNumber (imageWith 1 0) ∷ imageNumber (imageWith 2 0)
-          ∷ imageNumber (imageWith 3 0) ∷ imageNumber (imageWith 4 0) ∷ imageNumber (imageWith 5 0) ∷ [];
-      wanted = 0 ∷ 0 ∷ 0 ∷ 0 ∷ 0 ∷ 34 ∷ [];
-    }
-    ∷ record { given = stateNumber (from (setMark 4)) ∷ stateNumber (from (setMark 5)) ∷ []; wanted = 0 ∷ 34 ∷ [] }
-    -- R-5: TTM directly after LI, which stands after STM 80: a jump of 62 cycles begins with mark LI
-    ∷ record {
-      given = waited (waits 65 (romAt 0 (0x14 ∷ 0x80 ∷ 0x95 ∷ 0x05 ∷ 0xC3 ∷ [])) fresh);
-      wanted = 0 ∷ 65 ∷ 64 ∷ 4 ∷ 0x003 ∷ 0 ∷ 1 ∷ 0 ∷ 0 ∷ 0 ∷ 0 ∷ [];
-    }
-    -- R-5: STM 80, EI, LI 5 with INT set: at TTM the mark is LI and INT and INTE are both 1, so there is no jump; TTM is begun, and
-    -- acceptance follows it
-    ∷ record {
-      given = waited (waits 6 (romAt 0 (0x14 ∷ 0x80 ∷ 0x31 ∷ 0x95 ∷ 0x05 ∷ 0xC4 ∷ [])) (from (setInt 1)));
-      wanted = 0 ∷ 6 ∷ 4 ∷ 6 ∷ 0x03C ∷ 0 ∷ 0 ∷ 16 ∷ 0 ∷ 0 ∷ 0 ∷ [];
-    }
+    })
     ∷ []
+
+-- WHERE THE TIMER-SKIPPING RUNNER JUMPS. Document 01, "Two runners".
+abbrev pub jumpCases : List Bool
+jumpCases =
+    -- STM 80 and then TTM and a JCP back to it: 2 steps for STM, a jump of 62 cycles, and then cycle by cycle; TTM skips at 66
+    onRunner (record {
+      run = skipping upd546 (romAt 0 (0x14 ∷ 0x80 ∷ 0x05 ∷ 0xC2 ∷ [])) [] fresh (replicate 552 0) 68;
+      answers = numberIs 0 ∷ cyclesAre 68 ∷ clocksAre 272 ∷ begunAre 66 ∷ stepsAre 7 ∷ [];
+      shows = pcIs 4 ∷ [];
+    })
+    -- The mark plays no part in a jump, and is other after it. TTM directly after STM 81: a jump of 126 cycles begins with mark STM
+    ∷ onRunner (record {
+      run = skipping upd546 (romAt 0 (0x14 ∷ 0x81 ∷ 0x05 ∷ 0xC2 ∷ [])) [] fresh [] 128;
+      answers = numberIs 0 ∷ cyclesAre 128 ∷ begunAre 127 ∷ stepsAre 3 ∷ [];
+      shows = pcIs 0x002 ∷ markIs 0 ∷ tmIs 1 ∷ timerIs 0 0 ∷ intIs 0 ∷ inteIs 0 ∷ [];
+    })
+    -- TTM directly after EI, which stands after STM 80: a jump of 62 cycles begins with mark EI
+    ∷ onRunner (record {
+      run = skipping upd546 (romAt 0 (0x14 ∷ 0x80 ∷ 0x31 ∷ 0x05 ∷ 0xC3 ∷ [])) [] fresh [] 65;
+      answers = numberIs 0 ∷ cyclesAre 65 ∷ begunAre 64 ∷ stepsAre 4 ∷ [];
+      shows = pcIs 0x003 ∷ markIs 0 ∷ tmIs 1 ∷ timerIs 0 0 ∷ intIs 0 ∷ inteIs 1 ∷ [];
+    })
+    -- TTM directly after LDI, which stands after STM 80: a jump of 60 cycles begins with mark LDI, and one tick is left
+    ∷ onRunner (record {
+      run = skipping upd546 (romAt 0 (0x14 ∷ 0x80 ∷ 0x15 ∷ 0x25 ∷ 0x05 ∷ 0xC4 ∷ [])) [] fresh [] 64;
+      answers = numberIs 0 ∷ cyclesAre 64 ∷ begunAre 62 ∷ stepsAre 5 ∷ [];
+      shows = pcIs 0x004 ∷ markIs 0 ∷ tmIs 0 ∷ timerIs 32 0 ∷ intIs 0 ∷ inteIs 0 ∷ [];
+    })
+    -- INT and INTE both 1 with mark EI: no jump, though no interrupt is taken yet; TTM is begun, and acceptance follows it
+    ∷ onRunner (record {
+      run = skipping upd546 (romAt 0 (0x14 ∷ 0x80 ∷ 0x31 ∷ 0x05 ∷ 0xC3 ∷ [])) [] (from (setInt 1)) [] 5;
+      answers = numberIs 0 ∷ cyclesAre 5 ∷ begunAre 3 ∷ stepsAre 5 ∷ [];
+      shows = pcIs 0x03C ∷ markIs 0 ∷ tmIs 0 ∷ timerIs 8 0 ∷ intIs 0 ∷ inteIs 0 ∷ [];
+    })
+    -- TTM at 03F: JCP FF at 040 leads to 07F and not back, so there is no jump
+    ∷ onRunner (record {
+      run = skipping upd546 (romAt 0x03D (0x14 ∷ 0x80 ∷ 0x05 ∷ 0xFF ∷ [])) [] (from (setPc 0x03D)) [] 4;
+      answers = numberIs 0 ∷ cyclesAre 4 ∷ begunAre 3 ∷ stepsAre 4 ∷ [];
+      shows = pcIs 0x07F ∷ markIs 0 ∷ tmIs 0 ∷ timerIs 4 0 ∷ intIs 0 ∷ inteIs 0 ∷ [];
+    })
+    -- TTM at 7CF: there is no next address, so no jump; 22 where a JCP would be due
+    ∷ onRunner (record {
+      run = skipping upd546 (romAt 0x7CD (0x14 ∷ 0x80 ∷ 0x05 ∷ [])) [] (from (setPc 0x7CD)) [] 10;
+      answers = numberIs 22 ∷ cyclesAre 3 ∷ begunAre 2 ∷ stepsAre 3 ∷ [];
+      shows = pcIs 0x7D0 ∷ markIs 0 ∷ tmIs 0 ∷ timerIs 2 0 ∷ intIs 0 ∷ inteIs 0 ∷ [];
+    })
+    ∷ []
+
+-- R-2, "C and D read back what they drive."
+abbrev pub readBackCases : List Bool
+readBackCases =
+    -- "On C and D a bit now reads 1 if the line or the latch is 1." C reads back a strobe while its lines are low: LDZ 2, LI 5, OP, IP
+    onMachine (record { rom = romAt 0 (0x82 ∷ 0x95 ∷ 0x0E ∷ 0x32 ∷ []); start = fresh; cycles = 4; shows = accIs 5 ∷ [] })
+    -- C reads a line that is high while the latch is low
+    ∷ onLines (record {
+      rom = romAt 0 (0x32 ∷ []);
+      schedule = linesFrom0 0 0xA0;
+      start = from (setDpl 2);
+      cycles = 1;
+      shows = accIs 10 ∷ [];
+    })
+    -- line 3 or latch 5 is 7, and the latches are as before
+    ∷ onLines (record {
+      rom = romAt 0 (0x32 ∷ []);
+      schedule = linesFrom0 0 0x30;
+      start = driving (setDpl 2) (5 ∷ 8 ∷ replicate 5 0);
+      cycles = 1;
+      shows = accIs 7 ∷ portsAre (5 ∷ 8 ∷ replicate 5 0) ∷ [];
+    })
+    -- D likewise, line 1 or latch 8 is 9
+    ∷ onLines (record {
+      rom = romAt 0 (0x32 ∷ []);
+      schedule = linesFrom0 0 0x31;
+      start = driving (setDpl 3) (5 ∷ 8 ∷ replicate 5 0);
+      cycles = 1;
+      shows = accIs 9 ∷ [];
+    })
+    -- TPB 2 on C skips by the latch alone, TPB 1 doesn't
+    ∷ onMachine (record { rom = romAt 0 (0x52 ∷ []); start = driving (setDpl 2) (5 ∷ replicate 6 0); cycles = 1; shows = pcIs 2 ∷ [] })
+    ∷ onMachine (record { rom = romAt 0 (0x51 ∷ []); start = driving (setDpl 2) (5 ∷ replicate 6 0); cycles = 1; shows = pcIs 1 ∷ [] })
+    -- TPB on D at 7CF needs a byte above it because of the latch: 22, and no cycle; with another bit it is begun
+    ∷ onRunner (record {
+      run = plain upd546 (romAt 0x7CF (0x51 ∷ [])) [] (driving (λ c. setPc 0x7CF (setDpl 3 c)) (0 ∷ 2 ∷ replicate 5 0)) [] 1;
+      answers = numberIs 22 ∷ cyclesAre 0 ∷ [];
+      shows = [];
+    })
+    ∷ onRunner (record {
+      run = plain upd546 (romAt 0x7CF (0x51 ∷ [])) [] (driving (λ c. setPc 0x7CF (setDpl 3 c)) (2 ∷ 13 ∷ replicate 5 0)) [] 1;
+      answers = numberIs 0 ∷ cyclesAre 1 ∷ [];
+      shows = [];
+    })
+    -- "Only IP and TPB on C and D change": E still reads 0, although its latch is 15
+    ∷ onLines (record {
+      rom = romAt 0 (0x32 ∷ []);
+      schedule = linesFrom0 0xFF 0xFF;
+      start = driving (λ c. setAcc 3 (setDpl 4 c)) (0 ∷ 0 ∷ 15 ∷ replicate 4 0);
+      cycles = 1;
+      shows = accIs 0 ∷ [];
+    })
+    -- IA still reads line A alone, here 9, with C named by DPL and both latches 15
+    ∷ onLines (record {
+      rom = romAt 0 (0x40 ∷ []);
+      schedule = linesFrom0 0x90 0;
+      start = driving (setDpl 2) (15 ∷ 15 ∷ replicate 5 0);
+      cycles = 1;
+      shows = accIs 9 ∷ [];
+    })
+    ∷ []
+
+-- R-5, "Load strings hold together."
+abbrev pub loadCases : List Bool
+loadCases =
+    -- "an LI (CLA too) directly after an LI is a NOP that keeps its mark": LI 5, LI 9, the second an instruction of one cycle that
+    -- changes nothing but PC
+    onMachine (record { rom = romAt 0 (0x95 ∷ 0x99 ∷ []); start = fresh; cycles = 1; shows = pcIs 1 ∷ accIs 5 ∷ dpIs 0 ∷ markIs 4 ∷ [] })
+    ∷ onMachine (record { rom = romAt 0 (0x95 ∷ 0x99 ∷ []); start = fresh; cycles = 2; shows = pcIs 2 ∷ accIs 5 ∷ dpIs 0 ∷ markIs 4 ∷ [] })
+    ∷ onRunner (record {
+      run = plain upd546 (romAt 0 (0x95 ∷ 0x99 ∷ [])) [] fresh [] 2;
+      answers = numberIs 0 ∷ cyclesAre 2 ∷ begunAre 2 ∷ [];
+      shows = [];
+    })
+    -- so are the third and the fourth
+    ∷ onMachine (record {
+      rom = romAt 0 (0x95 ∷ 0x99 ∷ 0x92 ∷ 0x9F ∷ []);
+      start = fresh;
+      cycles = 4;
+      shows = pcIs 4 ∷ accIs 5 ∷ dpIs 0 ∷ markIs 4 ∷ [];
+    })
+    -- CLA is LI 0, before an LI and after it
+    ∷ onMachine (record {
+      rom = romAt 0 (0x90 ∷ 0x97 ∷ []);
+      start = from (setAcc 3);
+      cycles = 2;
+      shows = pcIs 2 ∷ accIs 0 ∷ dpIs 0 ∷ markIs 4 ∷ [];
+    })
+    ∷ onMachine (record { rom = romAt 0 (0x97 ∷ 0x90 ∷ []); start = fresh; cycles = 2; shows = pcIs 2 ∷ accIs 7 ∷ dpIs 0 ∷ markIs 4 ∷ [] })
+    -- LI 5, NOP, LI 9: both load
+    ∷ onMachine (record {
+      rom = romAt 0 (0x95 ∷ 0x00 ∷ 0x99 ∷ []);
+      start = fresh;
+      cycles = 3;
+      shows = pcIs 3 ∷ accIs 9 ∷ dpIs 0 ∷ markIs 4 ∷ [];
+    })
+    -- LDI 23, LDI 45: the second is a NOP of two cycles that keeps the mark LDI, as in document 01
+    ∷ onMachine (record {
+      rom = romAt 0 (0x15 ∷ 0x23 ∷ 0x15 ∷ 0x45 ∷ []);
+      start = fresh;
+      cycles = 4;
+      shows = pcIs 4 ∷ accIs 0 ∷ dpIs 0x23 ∷ markIs 1 ∷ [];
+    })
+    -- LDI 23, LI 5, LDI 45, LI 9: LI after LDI loads, and LDI after LI
+    ∷ onMachine (record {
+      rom = romAt 0 (0x15 ∷ 0x23 ∷ 0x95 ∷ []);
+      start = fresh;
+      cycles = 3;
+      shows = pcIs 3 ∷ accIs 5 ∷ dpIs 0x23 ∷ markIs 4 ∷ [];
+    })
+    ∷ onMachine (record {
+      rom = romAt 0 (0x15 ∷ 0x23 ∷ 0x95 ∷ 0x15 ∷ 0x45 ∷ 0x99 ∷ []);
+      start = fresh;
+      cycles = 6;
+      shows = pcIs 6 ∷ accIs 9 ∷ dpIs 0x45 ∷ markIs 4 ∷ [];
+    })
+    -- "Panel firmware enters tables in the middle of a string of loads": JCP 003 enters LI 1, LI 2, LI 3, LI 4 at its third load, also
+    -- with mark LI before it: LI 7, JCP 003
+    ∷ onMachine (record {
+      rom = romAt 0 (0xC3 ∷ 0x91 ∷ 0x92 ∷ 0x93 ∷ 0x94 ∷ []);
+      start = fresh;
+      cycles = 3;
+      shows = pcIs 5 ∷ accIs 3 ∷ dpIs 0 ∷ markIs 4 ∷ [];
+    })
+    ∷ onMachine (record {
+      rom = romAt 0 (0x97 ∷ 0xC3 ∷ 0x92 ∷ 0x93 ∷ 0x94 ∷ []);
+      start = fresh;
+      cycles = 4;
+      shows = pcIs 5 ∷ accIs 3 ∷ dpIs 0 ∷ markIs 4 ∷ [];
+    })
+    -- a skipped LI isn't begun: LI 5, TC with C=1 over LI 9, LI 3, which loads
+    ∷ onMachine (record {
+      rom = romAt 0 (0x95 ∷ 0x04 ∷ 0x99 ∷ 0x93 ∷ []);
+      start = from (setCarry 1);
+      cycles = 4;
+      shows = pcIs 4 ∷ accIs 3 ∷ dpIs 0 ∷ markIs 4 ∷ [];
+    })
+    -- LI 9 at 7CF with mark LI is a NOP of one byte: it is begun, and the byte above 7CF is needed one cycle later
+    ∷ onRunner (record {
+      run = plain upd546 (romAt 0x7CF (0x99 ∷ [])) [] (from (λ c. setPc 0x7CF (setMark 4 c))) [] 1;
+      answers = numberIs 0 ∷ cyclesAre 1 ∷ [];
+      shows = pcIs 0x7D0 ∷ accIs 0 ∷ dpIs 0 ∷ markIs 4 ∷ [];
+    })
+    ∷ onRunner (record {
+      run = plain upd546 (romAt 0x7CF (0x99 ∷ [])) [] (from (λ c. setPc 0x7CF (setMark 4 c))) [] 2;
+      answers = numberIs 22 ∷ cyclesAre 1 ∷ [];
+      shows = [];
+    })
+    -- LI 5, a switch-off, LI 9: the string goes on
+    ∷ onMachine (record {
+      rom = romAt 0 (0x95 ∷ 0x99 ∷ []);
+      start = ofImage (imageOf One (unbroken upd546 (romAt 0 (0x95 ∷ 0x99 ∷ [])) [] 1 fresh .state));
+      cycles = 1;
+      shows = pcIs 2 ∷ accIs 5 ∷ dpIs 0 ∷ markIs 4 ∷ [];
+    })
+    ∷ []
+
+-- "No interrupt is accepted while the mark is LDI or LI", "with cases for an edge between two loads"
+abbrev pub edgeCases : List Bool
+edgeCases =
+    -- INT falls between LI 5 and LI 9, in cycle 1. The interrupt isn't accepted before NOP, and follows it
+    onLines (record {
+      rom = romAt 0 (0x95 ∷ 0x99 ∷ []);
+      schedule = fallAt 1;
+      start = from (setInte 1);
+      cycles = 3;
+      shows = pcIs 3 ∷ newestIs 0 ∷ accIs 5 ∷ intIs 1 ∷ inteIs 1 ∷ [];
+    })
+    ∷ onLines (record {
+      rom = romAt 0 (0x95 ∷ 0x99 ∷ []);
+      schedule = fallAt 1;
+      start = from (setInte 1);
+      cycles = 4;
+      shows = pcIs 0x03C ∷ newestIs 3 ∷ accIs 5 ∷ intIs 0 ∷ inteIs 0 ∷ [];
+    })
+    -- so on the plain runner and on the timer-skipping one
+    ∷ onRunner (record {
+      run = plain upd546 (romAt 0 (0x95 ∷ 0x99 ∷ [])) (fallAt 1) (from (setInte 1)) [] 4;
+      answers = numberIs 0 ∷ [];
+      shows = pcIs 0x03C ∷ newestIs 3 ∷ accIs 5 ∷ intIs 0 ∷ inteIs 0 ∷ [];
+    })
+    ∷ onRunner (record {
+      run = skipping upd546 (romAt 0 (0x95 ∷ 0x99 ∷ [])) (fallAt 1) (from (setInte 1)) [] 4;
+      answers = numberIs 0 ∷ [];
+      shows = pcIs 0x03C ∷ newestIs 3 ∷ accIs 5 ∷ intIs 0 ∷ inteIs 0 ∷ [];
+    })
+    -- also after a single LI, here in cycle 0
+    ∷ onLines (record {
+      rom = romAt 0 (0x95 ∷ []);
+      schedule = fallAt 0;
+      start = from (setInte 1);
+      cycles = 2;
+      shows = pcIs 2 ∷ newestIs 0 ∷ accIs 5 ∷ intIs 1 ∷ inteIs 1 ∷ [];
+    })
+    ∷ onLines (record {
+      rom = romAt 0 (0x95 ∷ []);
+      schedule = fallAt 0;
+      start = from (setInte 1);
+      cycles = 3;
+      shows = pcIs 0x03C ∷ newestIs 2 ∷ accIs 5 ∷ intIs 0 ∷ inteIs 0 ∷ [];
+    })
+    -- between two LDI, in cycle 2
+    ∷ onLines (record {
+      rom = romAt 0 (0x15 ∷ 0x23 ∷ 0x15 ∷ 0x45 ∷ []);
+      schedule = fallAt 2;
+      start = from (setInte 1);
+      cycles = 5;
+      shows = pcIs 5 ∷ newestIs 0 ∷ accIs 0 ∷ intIs 1 ∷ inteIs 1 ∷ [];
+    })
+    ∷ onLines (record {
+      rom = romAt 0 (0x15 ∷ 0x23 ∷ 0x15 ∷ 0x45 ∷ []);
+      schedule = fallAt 2;
+      start = from (setInte 1);
+      cycles = 6;
+      shows = pcIs 0x03C ∷ newestIs 5 ∷ accIs 0 ∷ intIs 0 ∷ inteIs 0 ∷ [];
+    })
+    -- with EI at the string's end, LI 5, LI 9, EI: the NOP after EI is begun first
+    ∷ onLines (record {
+      rom = romAt 0 (0x95 ∷ 0x99 ∷ 0x31 ∷ []);
+      schedule = fallAt 1;
+      start = from (setInte 1);
+      cycles = 4;
+      shows = pcIs 4 ∷ newestIs 0 ∷ accIs 5 ∷ intIs 1 ∷ inteIs 1 ∷ [];
+    })
+    ∷ onLines (record {
+      rom = romAt 0 (0x95 ∷ 0x99 ∷ 0x31 ∷ []);
+      schedule = fallAt 1;
+      start = from (setInte 1);
+      cycles = 5;
+      shows = pcIs 0x03C ∷ newestIs 4 ∷ accIs 5 ∷ intIs 0 ∷ inteIs 0 ∷ [];
+    })
+    -- EI, LI 5 with INT set: acceptance follows the NOP after LI
+    ∷ onMachine (record {
+      rom = romAt 0 (0x31 ∷ 0x95 ∷ []);
+      start = from (setInt 1);
+      cycles = 3;
+      shows = pcIs 3 ∷ newestIs 0 ∷ accIs 5 ∷ intIs 1 ∷ inteIs 1 ∷ [];
+    })
+    ∷ onMachine (record {
+      rom = romAt 0 (0x31 ∷ 0x95 ∷ []);
+      start = from (setInt 1);
+      cycles = 4;
+      shows = pcIs 0x03C ∷ newestIs 3 ∷ accIs 5 ∷ intIs 0 ∷ inteIs 0 ∷ [];
+    })
+    -- TTM directly after LI, which stands after STM 80: a jump of 62 cycles begins with mark LI
+    ∷ onRunner (record {
+      run = skipping upd546 (romAt 0 (0x14 ∷ 0x80 ∷ 0x95 ∷ 0x05 ∷ 0xC3 ∷ [])) [] fresh [] 65;
+      answers = numberIs 0 ∷ cyclesAre 65 ∷ begunAre 64 ∷ stepsAre 4 ∷ [];
+      shows = pcIs 0x003 ∷ markIs 0 ∷ tmIs 1 ∷ timerIs 0 0 ∷ intIs 0 ∷ inteIs 0 ∷ [];
+    })
+    -- STM 80, EI, LI 5 with INT set: at TTM the mark is LI and INT and INTE are both 1, so there is no jump; TTM is begun, and
+    -- acceptance follows it
+    ∷ onRunner (record {
+      run = skipping upd546 (romAt 0 (0x14 ∷ 0x80 ∷ 0x31 ∷ 0x95 ∷ 0x05 ∷ 0xC4 ∷ [])) [] (from (setInt 1)) [] 6;
+      answers = numberIs 0 ∷ cyclesAre 6 ∷ begunAre 4 ∷ stepsAre 6 ∷ [];
+      shows = pcIs 0x03C ∷ markIs 0 ∷ tmIs 0 ∷ timerIs 16 0 ∷ intIs 0 ∷ inteIs 0 ∷ [];
+    })
+    ∷ []
+
+-- "The mark gains the value 4 for LI in image byte 16, so 34 starts at 5 there."
+abbrev pub markCases : List Bool
+markCases =
+    -- it is written, and read back
+    onNumbers (record { given = imageOf One (from (setMark 4)); wanted = imageWith 4 0 })
+    ∷ onState (record { given = ofImage (imageWith 4 0); wanted = zerosWith 4 0 })
+    -- marks 0 to 4 are restored, 5 is 34; of a state given as a value too
+    ∷ onNumbers (record { given = imageNumber (imageWith 0 0) ∷ []; wanted = 0 ∷ [] })
+    ∷ onNumbers (record { given = imageNumber (imageWith 1 0) ∷ []; wanted = 0 ∷ [] })
+    ∷ onNumbers (record { given = imageNumber (imageWith 2 0) ∷ []; wanted = 0 ∷ [] })
+    ∷ onNumbers (record { given = imageNumber (imageWith 3 0) ∷ []; wanted = 0 ∷ [] })
+    ∷ onNumbers (record { given = imageNumber (imageWith 4 0) ∷ []; wanted = 0 ∷ [] })
+    ∷ onNumbers (record { given = imageNumber (imageWith 5 0) ∷ []; wanted = 34 ∷ [] })
+    ∷ onNumbers (record { given = stateNumber (from (setMark 4)) ∷ []; wanted = 0 ∷ [] })
+    ∷ onNumbers (record { given = stateNumber (from (setMark 5)) ∷ []; wanted = 34 ∷ [] })
+    ∷ []
+
+-- R-8, "The reset line." The count.
+abbrev pub countCases : List Bool
+countCases =
+    -- "a count of consecutive cycles with RES high, at most 4": with RES high from cycle 0 on, cycles 0 to 2 are ordinary ones, here NOPs
+    onLines (record { rom = romAt 0 []; schedule = held; start = fresh; cycles = 1; shows = pcIs 1 ∷ countIs 1 ∷ [] })
+    ∷ onLines (record { rom = romAt 0 []; schedule = held; start = fresh; cycles = 2; shows = pcIs 2 ∷ countIs 2 ∷ [] })
+    ∷ onLines (record { rom = romAt 0 []; schedule = held; start = fresh; cycles = 3; shows = pcIs 3 ∷ countIs 3 ∷ [] })
+    -- "A cycle with RES high that brings or finds the count at 4 is a reset cycle": cycle 3 brings it there, later ones find it
+    ∷ onLines (record { rom = romAt 0 []; schedule = held; start = fresh; cycles = 4; shows = pcIs 0 ∷ countIs 4 ∷ [] })
+    ∷ onLines (record { rom = romAt 0 []; schedule = held; start = fresh; cycles = 5; shows = pcIs 0 ∷ countIs 4 ∷ [] })
+    ∷ onLines (record { rom = romAt 0 []; schedule = held; start = fresh; cycles = 9; shows = pcIs 0 ∷ countIs 4 ∷ [] })
+    -- "low makes the count 0": RES high for three cycles is no reset, and three more after one with RES low are none
+    ∷ onLines (record { rom = romAt 0 []; schedule = heldTo 3; start = fresh; cycles = 4; shows = pcIs 4 ∷ countIs 0 ∷ [] })
+    ∷ onLines (record {
+      rom = romAt 0 [];
+      schedule = heldTo 3 ++ recordAt 4 1 1;
+      start = fresh;
+      cycles = 7;
+      shows = pcIs 7 ∷ countIs 3 ∷ [];
+    })
+    -- after a reset too
+    ∷ onLines (record { rom = romAt 0 []; schedule = heldTo 5; start = fresh; cycles = 6; shows = pcIs 1 ∷ countIs 0 ∷ [] })
+    -- in an owed cycle and in one of an acceptance as well
+    ∷ onMachine (record { rom = romAt 0 []; start = withCount 3 (from (setOwed 2)); cycles = 1; shows = owedIs 1 ∷ countIs 0 ∷ [] })
+    ∷ onMachine (record {
+      rom = romAt 0 [];
+      start = withCount 3 (from (λ c. setInt 1 (setInte 1 c)));
+      cycles = 1;
+      shows = pcIs 0x03C ∷ countIs 0 ∷ [];
+    })
+    -- and these count RES, as any other
+    ∷ onLines (record { rom = romAt 0 []; schedule = held; start = from (setOwed 2); cycles = 1; shows = owedIs 1 ∷ countIs 1 ∷ [] })
+    ∷ onLines (record {
+      rom = romAt 0 [];
+      schedule = held;
+      start = withCount 2 (from (λ c. setInt 1 (setInte 1 c)));
+      cycles = 1;
+      shows = pcIs 0x03C ∷ countIs 3 ∷ [];
+    })
+    -- "The schedule's tenth byte becomes RES, 0 or 1, .. and 13 is amended so"
+    ∷ onNumbers (record { given = runNumber upd546 (romAt 0 []) (recordAt 0 1 0) fresh 1 ∷ []; wanted = 0 ∷ [] })
+    ∷ onNumbers (record { given = runNumber upd546 (romAt 0 []) (recordAt 0 1 1) fresh 1 ∷ []; wanted = 0 ∷ [] })
+    ∷ onNumbers (record { given = runNumber upd546 (romAt 0 []) (recordAt 0 1 2) fresh 1 ∷ []; wanted = 13 ∷ [] })
+    ∷ []
+
+-- A state with no field 0, but for its cycle number; and what a reset cycle leaves of it, INT being high.
+abbrev pub busy : (count : ℕ) → State
+busy count = record {
+  core = record {
+    registers = record { acc = 9; carry = 1; saved = 1; dph = 5; dpl = 6 };
+    flow = record { pc = 0x123; stack = 0x456 ∷ 0x321 ∷ 0x100 ∷ [] };
+    interrupt = record { int = 1; inte = 1; level = 1 };
+    timer = record { tm = 1; register = 7; counter = 8 };
+    mark = 1;
+    owed = 2;
+  };
+  ports = 1 ∷ 2 ∷ 3 ∷ 4 ∷ 5 ∷ 6 ∷ 7 ∷ [];
+  ram = replicate 96 11;
+  count = count;
+  cycle = record { 0 = 0 };
+}
+
+abbrev pub afterReset : State
+afterReset = record {
+  core = record {
+    registers = record { acc = 9; carry = 1; saved = 1; dph = 5; dpl = 6 };
+    flow = record { pc = 0; stack = 0x456 ∷ 0x321 ∷ 0x100 ∷ [] };
+    interrupt = record { int = 0; inte = 0; level = 1 };
+    timer = record { tm = 0; register = 0; counter = 0 };
+    mark = 0;
+    owed = 0;
+  };
+  ports = replicate 7 0;
+  ram = replicate 96 11;
+  count = 4;
+  cycle = record { 0 = 1 };
+}
+
+-- The reset cycle.
+abbrev pub resetCases : List Bool
+resetCases =
+    -- "PC, owed, INT, INTE, TM, timer and ports become 0 and the mark other; RAM, Acc, DP, carries and stack are kept", on reaching 4 and
+    -- where 4 is found
+    onState (record { given = unbroken upd546 (romAt 0 []) held 1 (busy 3) .state; wanted = afterReset })
+    ∷ onState (record { given = unbroken upd546 (romAt 0 []) held 1 (busy 4) .state; wanted = afterReset })
+    -- "lines are taken first": a fall of INT in a reset cycle is lost, and a level that stays low falls no second time
+    ∷ onLines (record { rom = romAt 0 []; schedule = recordAt 0 0 1; start = withCount 3 fresh; cycles = 1; shows = intIs 0 ∷ levelIs 0 ∷ [] })
+    ∷ onLines (record {
+      rom = romAt 0 [];
+      schedule = recordAt 0 0 1 ++ recordAt 1 0 0;
+      start = withCount 3 fresh;
+      cycles = 3;
+      shows = intIs 0 ∷ levelIs 0 ∷ pcIs 2 ∷ [];
+    })
+    -- "nothing is accepted or executed": an interrupt that is due is gone, and so is the instruction, here LI 5
+    ∷ onLines (record {
+      rom = romAt 0 (0x95 ∷ []);
+      schedule = held;
+      start = withCount 3 (from (λ c. setInt 1 (setInte 1 c)));
+      cycles = 1;
+      shows = pcIs 0 ∷ stackIs (0 ∷ 0 ∷ 0 ∷ []) ∷ intIs 0 ∷ inteIs 0 ∷ accIs 0 ∷ [];
+    })
+    -- it is a cycle and a step, and no instruction; no byte of the ROM is needed, so 22 doesn't come at 7D0, nor 23 at 1C
+    ∷ onRunner (record {
+      run = plain upd546 (romAt 0 (0x1C ∷ [])) held (withCount 4 (from (setPc 0x7D0))) [] 2;
+      answers = numberIs 0 ∷ cyclesAre 2 ∷ begunAre 0 ∷ stepsAre 2 ∷ writtenAre 0 ∷ [];
+      shows = pcIs 0 ∷ countIs 4 ∷ [];
+    })
+    -- the mark is other after it, so a string of loads starts afresh: LI 9 at 000 loads, though the mark was LI
+    ∷ onLines (record {
+      rom = romAt 0 (0x99 ∷ []);
+      schedule = heldTo 1;
+      start = withCount 3 (from (λ c. setAcc 5 (setMark 4 c)));
+      cycles = 2;
+      shows = pcIs 1 ∷ accIs 9 ∷ markIs 4 ∷ countIs 0 ∷ [];
+    })
+    -- and latches are 0, so C then reads its lines alone: IP at 000, with latch 5 before the reset
+    ∷ onLines (record {
+      rom = romAt 0 (0x32 ∷ []);
+      schedule = heldTo 1;
+      start = withCount 3 (driving (λ c. setAcc 3 (setDpl 2 c)) (5 ∷ replicate 6 0));
+      cycles = 2;
+      shows = accIs 0 ∷ [];
+    })
+    ∷ []
+
+-- Its record.
+abbrev pub resetRecordCases : List Bool
+resetRecordCases =
+    -- "On reaching 4 it appends one record with port 0, value 0": in cycle 3, and none while RES stays high
+    onRunner (record {
+      run = plain upd546 (romAt 0 []) held fresh (replicate 9 7) 8;
+      answers = numberIs 0 ∷ cyclesAre 8 ∷ begunAre 3 ∷ stepsAre 8 ∷ writtenAre 8 ∷ logIs (0 ∷ 0 ∷ 0 ∷ 0 ∷ 0 ∷ 3 ∷ 0 ∷ 0 ∷ 7 ∷ []) ∷ [];
+      shows = pcIs 0 ∷ countIs 4 ∷ [];
+    })
+    -- and one more after RES was low, in cycle 9
+    ∷ onRunner (record {
+      run = plain upd546 (romAt 0 []) (heldTo 5 ++ recordAt 6 1 1) fresh (replicate 16 7) 11;
+      answers =
+          numberIs 0 ∷ begunAre 7 ∷ writtenAre 16
+          ∷ logIs (0 ∷ 0 ∷ 0 ∷ 0 ∷ 0 ∷ 3 ∷ 0 ∷ 0 ∷ 0 ∷ 0 ∷ 0 ∷ 0 ∷ 0 ∷ 9 ∷ 0 ∷ 0 ∷ []) ∷ [];
+      shows = pcIs 0 ∷ countIs 4 ∷ [];
+    })
+    -- "and stop 3 covers it": nothing of the cycle happens, so the count stays 3
+    ∷ onRunner (record {
+      run = plain upd546 (romAt 0 []) held fresh (replicate 7 7) 8;
+      answers = numberIs 3 ∷ cyclesAre 3 ∷ begunAre 3 ∷ stepsAre 3 ∷ writtenAre 0 ∷ logIs (replicate 7 7) ∷ [];
+      shows = pcIs 3 ∷ countIs 3 ∷ [];
+    })
+    -- and a run that goes on with a new log counts that cycle once
+    ∷ onRunner (record {
+      run = plain upd546 (romAt 0 []) held (plain upd546 (romAt 0 []) held fresh (replicate 7 7) 8 .state) (replicate 8 7) 1;
+      answers = numberIs 0 ∷ cyclesAre 1 ∷ begunAre 0 ∷ writtenAre 8 ∷ logIs (0 ∷ 0 ∷ 0 ∷ 0 ∷ 0 ∷ 3 ∷ 0 ∷ 0 ∷ []) ∷ [];
+      shows = pcIs 0 ∷ countIs 4 ∷ [];
+    })
+    -- a stop with 23 counts nothing either, with RES high or low
+    ∷ onRunner (record {
+      run = plain upd546 (romAt 0 (0x1C ∷ [])) held (withCount 2 fresh) [] 1;
+      answers = numberIs 23 ∷ cyclesAre 0 ∷ [];
+      shows = countIs 2 ∷ [];
+    })
+    ∷ onRunner (record {
+      run = plain upd546 (romAt 0 (0x1C ∷ [])) [] (withCount 2 fresh) [] 1;
+      answers = numberIs 23 ∷ cyclesAre 0 ∷ [];
+      shows = countIs 2 ∷ [];
+    })
+    -- "A reset can cut OCD short": OCD, a reset in its second cycle, OCD again: 40 bytes in 3 cycles
+    ∷ onRunner (record {
+      run = plain upd546 (romAt 0 (0x1E ∷ 0xA5 ∷ [])) (heldTo 2) (withCount 2 fresh) (replicate 48 0) 3;
+      answers = numberIs 0 ∷ cyclesAre 3 ∷ begunAre 2 ∷ writtenAre 40 ∷ [];
+      shows = owedIs 1 ∷ countIs 0 ∷ [];
+    })
+    -- "`trace` letters it R": four cycles with RES high
+    ∷ onNumbers (record {
+      given = traceText ((0 ∷ 0 ∷ 0 ∷ 4 ∷ romAt 0 []) ++ held);
+      wanted =
+          (99 ∷ 121 ∷ 99 ∷ 108 ∷ 101 ∷ 32 ∷ 112 ∷ 111 ∷ 114 ∷ 116 ∷ 32 ∷ 118 ∷ 97 ∷ 108 ∷ 117 ∷ 101 ∷ 10 ∷ [])
+          ++ (51 ∷ 32 ∷ 82 ∷ 32 ∷ 48 ∷ 10 ∷ [])
+          ++ (101 ∷ 110 ∷ 100 ∷ 32 ∷ 52 ∷ 32 ∷ 51 ∷ 32 ∷ 48 ∷ 10 ∷ []);
+    })
+    ∷ []
+
+-- at TTM with a JCP back to it, and 63 ticks left
+abbrev pub waiting : State
+waiting = from (λ c. withTimer c (record { tm = 0; register = 1; counter = 0 }))
+
+-- "The timer jump needs RES low and a count of 0."
+abbrev pub resetJumpCases : List Bool
+resetJumpCases =
+    -- with both, one step
+    onRunner (record {
+      run = skipping upd546 (romAt 0 (0x05 ∷ 0xC0 ∷ [])) [] waiting [] 40;
+      answers = numberIs 0 ∷ cyclesAre 40 ∷ begunAre 40 ∷ stepsAre 1 ∷ [];
+      shows = pcIs 0 ∷ [];
+    })
+    -- RES high: three steps for three cycles
+    ∷ onRunner (record {
+      run = skipping upd546 (romAt 0 (0x05 ∷ 0xC0 ∷ [])) held waiting [] 3;
+      answers = numberIs 0 ∷ cyclesAre 3 ∷ begunAre 3 ∷ stepsAre 3 ∷ [];
+      shows = pcIs 1 ∷ countIs 3 ∷ [];
+    })
+    -- a count left over: TTM and JCP by themselves, and then a jump of 38
+    ∷ onRunner (record {
+      run = skipping upd546 (romAt 0 (0x05 ∷ 0xC0 ∷ [])) [] (withCount 1 waiting) [] 40;
+      answers = numberIs 0 ∷ cyclesAre 40 ∷ begunAre 40 ∷ stepsAre 3 ∷ [];
+      shows = pcIs 0 ∷ countIs 0 ∷ [];
+    })
+    ∷ []
+
+-- "Images become version 2, 82 bytes, the count last"
+abbrev pub versionCases : List Bool
+versionCases =
+    onNumbers (record { given = imageOf Two (withCount 3 fresh); wanted = imageTwoWith 3 })
+    ∷ onState (record { given = ofImage (imageTwoWith 3); wanted = withCount 3 (zerosWith 0 0) })
+    -- "Version 1 is still restored, with count 0, and can be written for old boards"
+    ∷ onNumbers (record { given = imageNumber (imageWith 0 0) ∷ []; wanted = 0 ∷ [] })
+    ∷ onState (record { given = ofImage (imageWith 0 0); wanted = zerosWith 0 0 })
+    ∷ onNumbers (record { given = imageOf One fresh; wanted = imageWith 0 0 })
+    -- a count up to 4 is taken, and 5 is 34, in byte 81 and in a state given as a value
+    ∷ onNumbers (record { given = imageNumber (imageTwoWith 4) ∷ imageNumber (imageTwoWith 5) ∷ []; wanted = 0 ∷ 34 ∷ [] })
+    ∷ onNumbers (record { given = stateNumber (withCount 4 fresh) ∷ stateNumber (withCount 5 fresh) ∷ []; wanted = 0 ∷ 34 ∷ [] })
+    -- "31 is now a length of neither 81 nor 82": 80 and 83 bytes
+    ∷ onNumbers (record { given = imageNumber (take 80 (imageWith 0 0)) ∷ imageNumber (imageTwoWith 0 ++ (0 ∷ [])) ∷ []; wanted = 31 ∷ 31 ∷ [] })
+    -- "33 a version that doesn't go with the length": version 1 with 82 bytes, version 2 with 81
+    ∷ onNumbers (record { given = imageNumber (imageWith 0 0 ++ (0 ∷ [])) ∷ imageNumber (take 81 (imageTwoWith 0)) ∷ []; wanted = 33 ∷ 33 ∷ [] })
+    -- and 32 before it
+    ∷ onNumbers (record { given = imageNumber (0 ∷ drop 1 (take 81 (imageTwoWith 0))) ∷ []; wanted = 32 ∷ [] })
+    -- "54, in a save between 34 and 1, a version 1 image wanted while the count isn't 0"; version 2 takes it
+    ∷ onNumbers (record { given = saveNumber upd546 One (withCount 1 fresh) (replicate 82 0) ∷ []; wanted = 54 ∷ [] })
+    ∷ onNumbers (record { given = saveNumber upd546 One (withCount 1 fresh) [] ∷ []; wanted = 54 ∷ [] })
+    ∷ onNumbers (record { given = saveNumber upd546 One (withCount 5 fresh) [] ∷ []; wanted = 34 ∷ [] })
+    ∷ onNumbers (record { given = saveNumber upd546 Two (withCount 1 fresh) (replicate 82 0) ∷ []; wanted = 0 ∷ [] })
+    -- "1 a buffer under the version's length": 81 bytes hold version 1, and not version 2
+    ∷ onNumbers (record { given = saveNumber upd546 One fresh (replicate 81 0) ∷ saveNumber upd546 One fresh (replicate 80 0) ∷ []; wanted = 0 ∷ 1 ∷ [] })
+    ∷ onNumbers (record { given = saveNumber upd546 Two fresh (replicate 82 0) ∷ saveNumber upd546 Two fresh (replicate 81 0) ∷ []; wanted = 0 ∷ 1 ∷ [] })
+    ∷ []
+
+-- THE TABLE. Its theorem is `cases-hold`.
+abbrev pub cases : List Bool
+cases =
+    pCases ++ otherCases ++ jumpCases ++ readBackCases ++ loadCases ++ edgeCases ++ markCases ++ countCases ++ resetCases
+    ++ resetRecordCases ++ resetJumpCases ++ versionCases

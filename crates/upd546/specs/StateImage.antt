@@ -1,9 +1,12 @@
--- Document 01, "State image, 81 bytes". Assumes nothing: these are definitions.
+-- Document 01, "State image, 81 bytes"; with document 02, R-5 and R-8: "Images become version 2, 82 bytes, the count last".
+-- Assumes nothing: these are definitions.
 use Prim.Native.Nat.{ℕ, _+_, _-_, _*_, _/_, _%_}
-use mathlib.Core.Bool.{Bool, _&&_, _||_}
+use mathlib.Core.Bool.{Bool, true, false, _&&_, _||_}
 use mathlib.Core.List.{List, [], _∷_, _++_}
 use lib.Dec.{eqb, leb, ltb}
 use lib.ListN.{length, getD}
+use Rattle.runs.specs.declared.Version.{Version}
+use Rattle.runs.specs.declared.Version.the-variants.{One, Two}
 use Rattle.runs.specs.Refusals.{cycleLimit, firstOf, unless}
 use Rattle.upd546.specs.declared.Registers.{Registers}
 use Rattle.upd546.specs.declared.Flow.{Flow}
@@ -11,14 +14,15 @@ use Rattle.upd546.specs.declared.Interrupt.{Interrupt}
 use Rattle.upd546.specs.declared.Timer.{Timer}
 use Rattle.upd546.specs.declared.Core.{Core}
 use Rattle.upd546.specs.declared.State.{State}
-use Rattle.upd546.specs.TheMachine.{addresses, stackDepth, latches, ramLength, dpOf, lastMark}
+use Rattle.upd546.specs.TheMachine.{addresses, stackDepth, latches, ramLength, dpOf, lastMark, resetCount}
 use Rattle.upd546.specs.Sequences.{entries}
 use Rattle.upd546.specs.Bytes.{bitAt, part, numberAt, bytesOf}
 use Rattle.upd546.specs.Sequences.{allOf, allBelow, sameNumbers}
 
--- "State image, 81 bytes"
-abbrev pub imageLength : ℕ
-imageLength = 81
+-- "State image, 81 bytes"; R-8: "version 2, 82 bytes"
+abbrev pub imageLength : Version → ℕ
+imageLength One = 81
+imageLength Two = 82
 
 -- Where each part begins: "0-2 the mark `U43`; 3-4 version 1; 5-6 PC; 7-12 stack, newest first"
 abbrev pub imageMarkAt : ℕ
@@ -69,13 +73,21 @@ ramBytes = ramLength / 2
 abbrev pub cycleAt : ℕ
 cycleAt = 75
 
+-- R-8: "the count last"
+abbrev pub countAt : ℕ
+countAt = 81
+
 -- "0-2 the mark `U43`"
 abbrev pub imageMark : List ℕ
 imageMark = 0x55 ∷ 0x34 ∷ 0x33 ∷ []
 
--- "3-4 version 1"
-abbrev pub imageVersion : List ℕ
-imageVersion = 0 ∷ 1 ∷ []
+-- "3-4 version 1"; R-8: "version 2"
+abbrev pub ordinal : Version → ℕ
+ordinal One = 1
+ordinal Two = 2
+
+abbrev pub versionBytes : Version → List ℕ
+versionBytes v = 0 ∷ ordinal v ∷ []
 
 -- "7-12 stack, newest first": two bytes each
 abbrev pub wordsBytes : List ℕ → List ℕ
@@ -107,9 +119,14 @@ bodyBytes s =
     ++ packed (s .ram)
     ++ bytesOf 6 (s .cycle .0)
 
--- The image of a state.
-unfoldable pub imageOf : State → List ℕ
-imageOf s = imageMark ++ imageVersion ++ bodyBytes s
+-- R-8: "the count last"; version 1 has none
+abbrev pub countBytes : Version → ℕ → List ℕ
+countBytes One count = []
+countBytes Two count = count ∷ []
+
+-- The image of a state, of either version: R-8: "Version 1 .. can be written for old boards".
+unfoldable pub imageOf : Version → State → List ℕ
+imageOf v s = imageMark ++ versionBytes v ++ bodyBytes s ++ countBytes v (s .count)
 
 abbrev pub byte : List ℕ → ℕ → ℕ
 byte image at = getD image at 0
@@ -118,7 +135,7 @@ abbrev pub unpacked : List ℕ → List ℕ
 unpacked [] = []
 unpacked (b ∷ bs) = (b / 16) ∷ (b % 16) ∷ unpacked bs
 
--- The state of an image.
+-- The state of an image. R-8: "Version 1 is still restored, with count 0": it has no byte 81.
 unfoldable pub ofImage : List ℕ → State
 ofImage image = record {
   core = record {
@@ -137,6 +154,7 @@ ofImage image = record {
   };
   ports = part image portsAt latches;
   ram = unpacked (part image ramAt ramBytes);
+  count = byte image countAt;
   cycle = record { 0 = numberAt image cycleAt 6 };
 }
 
@@ -170,24 +188,39 @@ portsSound ports = allOf (eqb (length ports) latches ∷ allBelow 16 ports ∷ l
 unfoldable pub ramSound : List ℕ → Bool
 ramSound ram = allOf (eqb (length ram) ramLength ∷ allBelow 16 ram ∷ [])
 
--- all fields of a state; "Cycle number, at most 2^48 - 1."
+-- all fields of a state; R-8: "a count .., at most 4"; "Cycle number, at most 2^48 - 1."
 unfoldable pub stateSound : State → Bool
-stateSound s = allOf (coreSound (s .core) ∷ portsSound (s .ports) ∷ ramSound (s .ram) ∷ leb (s .cycle .0) cycleLimit ∷ [])
+stateSound s =
+    allOf (coreSound (s .core) ∷ portsSound (s .ports) ∷ ramSound (s .ram) ∷ leb (s .count) resetCount ∷ leb (s .cycle .0) cycleLimit ∷ [])
 
 -- "34 a field, also in a state given as a value"
 unfoldable pub stateNumber : State → ℕ
 stateNumber s = unless (stateSound s) 34
 
+-- R-8: "54, in a save between 34 and 1, a version 1 image wanted while the count isn't 0"
+unfoldable pub versionNumber : Version → State → ℕ
+versionNumber One s = unless (eqb (s .count) 0) 54
+versionNumber Two s = 0
+
 -- of an image the flags byte has a width of its own: 6 bits
 unfoldable pub fieldsNumber : List ℕ → ℕ
 fieldsNumber image = unless (ltb (byte image flagsAt) 64 && stateSound (ofImage image)) 34
 
--- "31 length not 81; 32 bytes 0 to 2; 33 version; 34 a field"
+-- the version that goes with an image's length: 82 bytes are version 2's, and of other lengths only version 1's is none of 31
+abbrev pub versionBy : Bool → Version
+versionBy true = Two
+versionBy false = One
+
+abbrev pub versionOf : List ℕ → Version
+versionOf image = versionBy (eqb (length image) (imageLength Two))
+
+-- "31 length not 81; 32 bytes 0 to 2; 33 version; 34 a field"; R-8: "31 is now a length of neither 81 nor 82, 33 a version that
+-- doesn't go with the length"
 unfoldable pub imageNumber : List ℕ → ℕ
 imageNumber image =
     firstOf
-    (unless (eqb (length image) imageLength) 31
+    (unless (eqb (length image) (imageLength (versionOf image))) 31
     ∷ unless (sameNumbers (part image imageMarkAt 3) imageMark) 32
-    ∷ unless (sameNumbers (part image versionAt 2) imageVersion) 33
+    ∷ unless (sameNumbers (part image versionAt 2) (versionBytes (versionOf image))) 33
     ∷ fieldsNumber image
     ∷ [])

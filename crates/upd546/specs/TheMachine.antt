@@ -127,6 +127,10 @@ markLi = 4
 abbrev pub lastMark : ℕ
 lastMark = markLi
 
+-- Document 02, R-8: "The state gains a count of consecutive cycles with RES high, at most 4."
+abbrev pub resetCount : ℕ
+resetCount = 4
+
 -- "Fresh state: all zero, level high, mark other, timer stopped"
 abbrev pub fresh : State
 fresh = record {
@@ -140,5 +144,6 @@ fresh = record {
   };
   ports = replicate latches 0;
   ram = replicate ramLength 0;
+  count = 0;
   cycle = record { 0 = 0 };
 }

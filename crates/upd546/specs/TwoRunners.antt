@@ -1,7 +1,7 @@
--- Document 01, "Two runners": where the timer-skipping one jumps, and the chip as the machine that the runners run.
--- Assumes nothing: these are definitions.
+-- Document 01, "Two runners": where the timer-skipping one jumps, and the chip as the machine that the runners run; with
+-- document 02, R-8. Assumes nothing: these are definitions.
 use Prim.Native.Nat.{ℕ, zero, suc, _+_, _-_, _%_, min}
-use mathlib.Core.Bool.{Bool, true, false, not, _&&_}
+use mathlib.Core.Bool.{Bool, true, false, cond, not, _&&_}
 use mathlib.Core.List.{List, [], _∷_}
 use lib.Dec.{eqb, leb, ltb}
 use lib.ListN.{length}
@@ -18,7 +18,7 @@ use Rattle.upd546.specs.Sequences.{allOf}
 use Rattle.upd546.specs.TheLineSchedule.{scheduleNumber, linesAt, noRecord}
 use Rattle.upd546.specs.Timer.{ticksLeft}
 use Rattle.upd546.specs.OneMachineCycle.{cycle}
-use Rattle.upd546.specs.StateImage.{imageLength, imageOf, ofImage, stateNumber, imageNumber}
+use Rattle.upd546.specs.StateImage.{imageLength, imageOf, ofImage, stateNumber, versionNumber, imageNumber}
 
 -- "the byte at PC is TTM"
 unfoldable pub atTtm : List ℕ → ℕ → Bool
@@ -62,9 +62,13 @@ onJump false sched s left = 0
 unfoldable pub waitLength : List ℕ → List ℕ → State → ℕ → ℕ
 waitLength rom sched s left = onJump (mayJump rom sched s) sched s left
 
--- the cycles that the timer-skipping runner jumps in one step, or 0
+-- Document 02, R-8: "RES low and a count of 0"
+unfoldable pub resetFar : List ℕ → State → Bool
+resetFar sched s = eqb (linesAt sched (s .cycle .0) .res) 0 && eqb (s .count) 0
+
+-- the cycles that the timer-skipping runner jumps in one step, or 0; R-8: "The timer jump needs RES low and a count of 0."
 unfoldable pub jumpLength : List ℕ → List ℕ → State → ℕ → ℕ
-jumpLength rom sched s left = onJump (mayJump rom sched s) sched s left
+jumpLength rom sched s left = cond (resetFar sched s) (waitLength rom sched s left) 0
 
 -- "21 not 2,000 bytes", before the schedule's numbers
 unfoldable pub panelNumber : List ℕ → List ℕ → ℕ
@@ -78,6 +82,7 @@ upd546 = record {
   jump = jumpLength;
   panelNumber = panelNumber;
   stateNumber = stateNumber;
+  versionNumber = versionNumber;
   imageNumber = imageNumber;
   imageLength = imageLength;
   image = imageOf;

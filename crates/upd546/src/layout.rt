@@ -4,10 +4,12 @@ use crate::LATCHES;
 use crate::RAM_WORDS;
 use crate::STACK_DEPTH;
 
-// "0-2 the mark `U43`; 3-4 version 1": written on save and compared on restore.
+// "0-2 the mark `U43`; 3-4 version 1", or 2: written on save and compared on restore.
 pub const IMAGE_MARK: [u8; 3] = *b"U43";
 
-pub const IMAGE_VERSION: [u8; 2] = *b"\x00\x01";
+pub const VERSION_ONE: [u8; 2] = *b"\x00\x01";
+
+pub const VERSION_TWO: [u8; 2] = *b"\x00\x02";
 
 // A PC, in the stack too, is two bytes.
 pub const WORD_BYTES: usize = 2;
@@ -46,4 +48,9 @@ pub const RAM_AT: usize = PORTS_AT + LATCHES;
 
 pub const CYCLE_AT: usize = RAM_AT + RAM_BYTES;
 
-pub const IMAGE_LENGTH: usize = CYCLE_AT + CYCLE_BYTES;
+// "the count last": version 1 ends before it.
+pub const COUNT_AT: usize = CYCLE_AT + CYCLE_BYTES;
+
+pub const IMAGE_LENGTH_ONE: usize = COUNT_AT;
+
+pub const IMAGE_LENGTH: usize = COUNT_AT + 1;

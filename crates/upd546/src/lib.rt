@@ -27,6 +27,9 @@ pub const CYCLE_BYTES: usize = 6;
 // The bytes of a record of the log: the cycle, the port, the value.
 pub const LOG_RECORD: usize = 8;
 
+// The count at which a cycle with RES high is a reset cycle; no count is above it.
+pub const RESET_COUNT: u8 = 4;
+
 // The mark: the kind of the last instruction begun.
 pub const MARK_OTHER: u8 = 0;
 
@@ -41,7 +44,9 @@ pub const MARK_LI: u8 = 4;
 // No mark is above it.
 pub const LAST_MARK: u8 = MARK_LI;
 
-// Ports, as DPL names them: A to I are 0 to 8.
+// Ports, as DPL names them: A to I are 0 to 8. In a record of the log 0 is a reset.
+pub const PORT_RESET: u8 = 0;
+
 pub const PORT_C: u8 = 2;
 
 pub const PORT_D: u8 = 3;
@@ -89,21 +94,24 @@ pub struct Core {
     pub owed: u8,
 }
 
-// The whole machine: the core, the output latches of ports C to I, the RAM (rows 0 to 4 and 7) and the cycle number.
+// The whole machine: the core, the output latches of ports C to I, the RAM (rows 0 to 4 and 7), the count of consecutive cycles
+// with RES high, and the cycle number.
 pub struct State {
     pub core: Core,
     pub ports: [u8; LATCHES],
     pub ram: [u8; RAM_WORDS],
+    pub count: u8,
     pub cycle: MachineCycles,
 }
 
-// The lines of one cycle: ports A to D and the INT level.
+// The lines of one cycle: ports A to D, the INT level and RES.
 pub struct Lines {
     pub a: u8,
     pub b: u8,
     pub c: u8,
     pub d: u8,
     pub int: u8,
+    pub res: u8,
 }
 
 // What a run answers. The log that it was lent holds `written` bytes of records.
@@ -155,6 +163,7 @@ pub fn fresh_state() -> State
         },
         ports: [0; LATCHES],
         ram: [0; RAM_WORDS],
+        count: 0,
         cycle: MachineCycles(0),
     }
 }
