@@ -1,15 +1,15 @@
 -- A schedule's number from its records' numbers, and the cycles of an accepted one. Assumes nothing.
 use mathlib.Core.Path.{_≡_, _∙_, refl, sym, ap}
-use mathlib.Core.Bool.{Bool, true, false}
+use mathlib.Core.Bool.{Bool, true, false, _&&_}
 use mathlib.Core.List.{List}
 use mathlib.Core.Logic.{⊎-elim}
 use Prim.Native.Nat.{ℕ, zero, suc, _+_, _-_, _*_, _/_, _%_, _<_, _≤_}
 use native.Mathlib.Nat.{eq-or-lt-of-le}
 use native.Mathlib.Numerals.{add-one}
 use native.Mathlib.Omega.{arith}
-use lib.Dec.{ltb, leb, eqb}
+use lib.Dec.{ltb, leb}
 use lib.ListN.{length, getD}
-use borrow.Author.Tests.{ltb-true, leb-true, eqb-true, lt-ltb, le-ltb, le-leb, lt-leb, eq-eqb, ne-eqb}
+use borrow.Author.Tests.{ltb-true, leb-true, lt-ltb, le-ltb, le-leb, lt-leb, eq-eqb, ne-eqb}
 use Rattle.runs.specs.Refusals.{firstOf, unless}
 use Rattle.runs.proofs.Refusals.{first-at, first-past, first-here, last-one, passes}
 use Rattle.upd546.specs.Bytes.{numberAt}
@@ -31,19 +31,23 @@ head-cycle sched at h b =
     let sixth : getD sched (at + 4 + 1) 0 ≡ getD sched (at + 5) 0 = ap (λ (k : ℕ). getD sched k 0) (omega arith) in
     omega (arith, five, six, one, two, three, four, fifth, sixth, b (at + 4 + 2), b (at + 4 + 3))
 
--- one record: its bytes, the last two as one number, then its order
-pub bad-bytes : (sched : List ℕ) (i : ℕ) → 1 < 256 * recordByte sched i 9 + recordByte sched i 8 → recordNumber sched i ≡ 13
-unfolding bytesNumber firstOf
-bad-bytes sched i h = go (leb (recordByte sched i 8) 1) refl (eqb (recordByte sched i 9) 0) refl
-  where
-    go : (s : Bool) → leb (recordByte sched i 8) 1 ≡ s → (t : Bool) → eqb (recordByte sched i 9) 0 ≡ t → recordNumber sched i ≡ 13
-    go true p true q = absurd (omega (arith, leb-true (recordByte sched i 8) 1 p, eqb-true (recordByte sched i 9) 0 q))
-    go true p false q = rw (p, q)
-    go false p t q = rw p
+-- one record: its levels, then its order
+abbrev levels : List ℕ → ℕ → Bool
+levels sched i = leb (recordByte sched i 8) 1 && leb (recordByte sched i 9) 1
 
-pub by-order : (sched : List ℕ) (i : ℕ) → recordByte sched i 8 ≤ 1 → recordByte sched i 9 ≡ 0 → recordNumber sched i ≡ orderNumber sched i
+pub levels-of : (int res : ℕ) → int < 256 → (leb ((256 * res + int) % 256) 1 && leb ((256 * res + int) / 256) 1) ≡ (leb int 1 && leb res 1)
+levels-of int res h =
+    let low : (256 * res + int) % 256 ≡ int = omega arith in
+    let high : (256 * res + int) / 256 ≡ res = omega arith in
+    rw (low, high)
+
+pub bad-bytes : (sched : List ℕ) (i : ℕ) → levels sched i ≡ false → recordNumber sched i ≡ 13
 unfolding bytesNumber firstOf
-by-order sched i h e = rw (le-leb (recordByte sched i 8) 1 h, eq-eqb (recordByte sched i 9) 0 e) (last-one (orderNumber sched i))
+bad-bytes sched i e = rw e
+
+pub by-order : (sched : List ℕ) (i : ℕ) → levels sched i ≡ true → recordNumber sched i ≡ orderNumber sched i
+unfolding bytesNumber firstOf
+by-order sched i e = rw e (last-one (orderNumber sched i))
 
 -- the order, by the cycle of the record before record i; the first has none before it
 pub order-first : (sched : List ℕ) (i : ℕ) → i ≡ 0 → orderNumber sched i ≡ 0

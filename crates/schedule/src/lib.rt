@@ -7,14 +7,15 @@ use upd546::CYCLE_BYTES;
 use upd546::Lines;
 ghost use mathlib.Core.Path.{_≡_};
 ghost use Prim.Native.Nat.{_+_, _*_, _/_, _<_, _≤_, _^_};
-ghost use lib.Dec.{eqb};
+ghost use mathlib.Core.Bool.{_&&_};
+ghost use lib.Dec.{eqb, leb};
 ghost use Rattle.runs.specs.Numbers.{outcomeNumber};
 ghost use Rattle.runs.specs.Refusals.{cycleLimit};
 ghost use Rattle.upd546.specs.TheLineSchedule.{recordLength, recordCount, recordByte, recordCycle, recordLines, recordNumber, scheduleNumber};
 ghost use Rattle.schedule.specs.Checked.{lastCycle, FirstRefused};
 ghost use Rattle.schedule.specs.Cursor.{nextCycle, linesAfter, Counted, Stands};
 
-// A record's bytes: 0 to 5 the cycle, 6 ports A and B, 7 ports C and D, 8 the INT level, 9 zero.
+// A record's bytes: 0 to 5 the cycle, 6 ports A and B, 7 ports C and D, 8 the INT level, 9 RES.
 const RECORD_LENGTH: usize = 10;
 
 // 4,096 records.
@@ -56,12 +57,14 @@ fn lines_at(sched: &[u8], i: usize) -> Lines
     let ab = byte_at(sched, i, 6);
     let cd = byte_at(sched, i, 7);
     let int = byte_at(sched, i, 8);
+    let res = byte_at(sched, i, 9);
     Lines {
         a: ab / 16,
         b: ab % 16,
         c: cd / 16,
         d: cd % 16,
         int: int,
+        res: res,
     }
 }
 
@@ -77,15 +80,15 @@ fn head_at(sched: &[u8], i: usize) -> u64
     4294967296 * high + low
 }
 
-// The last two bytes of record i as one number with the INT level as its low byte: one load, and one test of both. It is at most 1
-// where the level is 0 or 1 and the last byte is zero.
-fn tail_at(sched: &[u8], i: usize) -> u16
+// Whether the INT level and RES of record i are 0 or 1. Read as one number, the compiler makes one load and one test of them.
+fn levels_sound(sched: &[u8], i: usize) -> bool
     requires { ⌜ i < recordCount (now sched) ⌝ }
-    ensures { λ r. ⌜ r ≡ 256 * recordByte (now (sched .entry)) i 9 + recordByte (now (sched .entry)) i 8 ⌝ }
+    ensures { λ r. ⌜ r ≡ (leb (recordByte (now (sched .entry)) i 8) 1 && leb (recordByte (now (sched .entry)) i 9) 1) ⌝ }
 {
     let int = byte_at(sched, i, 8) as u16;
-    let zero = byte_at(sched, i, 9) as u16;
-    256 * zero + int
+    let res = byte_at(sched, i, 9) as u16;
+    let tail = 256 * res + int;
+    (tail % 256 <= 1) & (tail / 256 <= 1)
 }
 
 // Whether record i, which has this head, is accepted, where those before it are. `last` is the greatest head that has the cycle
@@ -94,7 +97,7 @@ fn accepts(sched: &[u8], i: usize, head: u64, last: u64) -> bool
     requires { ⌜ (i < recordCount (now sched)) × (head / 65536 ≡ recordCycle (now sched) i) × (last ≡ 65536 * lastCycle (now sched) i + 65535) ⌝ }
     ensures { λ r. ⌜ r ≡ eqb (recordNumber (now (sched .entry)) i) 0 ⌝ }
 {
-    if 1 < tail_at(sched, i) {
+    if !levels_sound(sched, i) {
         return false;
     }
     if i == 0 {
@@ -129,7 +132,7 @@ fn refusal_at(sched: &[u8], i: usize) -> Outcome
     requires { ⌜ (i < recordCount (now sched)) × (recordNumber (now sched) i ≡ 0 → ⊥) ⌝ }
     ensures { λ r. ⌜ outcomeNumber r ≡ recordNumber (now (sched .entry)) i ⌝ }
 {
-    if tail_at(sched, i) <= 1 {
+    if levels_sound(sched, i) {
         return Outcome::Refused(Refusal::RecordOrder);
     }
     Outcome::Refused(Refusal::RecordBytes)
@@ -193,6 +196,7 @@ fn lines_after(sched: &[u8], taken: usize) -> Lines
             c: 0,
             d: 0,
             int: 1,
+            res: 0,
         }
     } else {
         lines_at(sched, taken - 1)
@@ -227,6 +231,7 @@ pub fn moved(sched: &[u8], cursor: Cursor, n: MachineCycles) -> Cursor
                 c: cursor.lines.c,
                 d: cursor.lines.d,
                 int: cursor.lines.int,
+                res: cursor.lines.res,
             },
         };
     }
@@ -241,6 +246,7 @@ pub fn moved(sched: &[u8], cursor: Cursor, n: MachineCycles) -> Cursor
             c: lines.c,
             d: lines.d,
             int: lines.int,
+            res: lines.res,
         },
     }
 }
