@@ -181,6 +181,7 @@ module _ {skips : Bool} {rom sched table positions : List ℕ} {l : Lines} {limi
           core = rw (k .first-is) (taken-keeps l (s .core) l-valid (k .turn .valid .core));
           ports = k .turn .valid .ports;
           ram = k .turn .valid .ram;
+          count = omega arith;
           cycle = k .turn .valid .cycle;
         };
         level = first-level;
@@ -538,6 +539,7 @@ module _ {skips : Bool} {rom sched table positions : List ℕ} {l : Lines} {limi
                   core = record { scalars = omega (arith, scalars); stack = subst (λ (y : Core). ValidStack (y .flow .stack)) (sym (o .core-is)) (v .core .stack) };
                   ports = subst ValidPorts (sym (o .ports-is)) (v .ports);
                   ram = subst ValidRam (sym (o .ram-is)) (v .ram);
+                  count = omega arith;
                   cycle = omega (arith, ahead, m .in-limit, k .turn .in-limit);
                 }
 
