@@ -24,7 +24,7 @@ use Rattle.upd546.specs.TheLineSchedule.{recordLength, maxRecords, recordCount,
 use Rattle.upd546.specs.StateImage.{stateSound, stateNumber}
 use Rattle.upd546.specs.TwoRunners.{panelNumber, upd546}
 use Rattle.laws.proofs.Images.{cycle-back}
-use Rattle.schedule.proofs.Records.{by-order, by-records, none-refused, one-more}
+use Rattle.schedule.proofs.Records.{good-bytes, by-order, by-records, none-refused, one-more}
 use Rattle.generator.specs.Loads.{drawn, drawnBytes, romOf, cycleFrom, recordFrom, standsAt, lastDrawn, recordOf, scheduleOf}
 use Rattle.generator.specs.EveryLoad.{AcceptedSchedule, EverySchedule, EveryRom, EveryLoad, EveryBeginning}
 use Rattle.generator.proofs.Loads.{length-drawn, length-record, length-schedule, drawn-byte, gap-within, cycle-most}
@@ -83,7 +83,7 @@ none-refuses seed m zero h few = none-refused (scheduleOf seed m)
 none-refuses seed m (suc k) h few =
     let sched = scheduleOf seed m in
     let more : recordsNumber sched (k + 1) ≡ recordNumber sched k = one-more sched k (none-refuses seed m k (omega arith) few) in
-    rw add-one at more ∙ by-order sched k (level seed m k h few) (last-byte seed m k h few) ∙ in-order seed m k h few
+    rw add-one at more ∙ by-order sched k (good-bytes sched k (level seed m k h few) (omega (arith, last-byte seed m k h few))) ∙ in-order seed m k h few
 
 pub schedule-accepted : (seed m : ℕ) → m ≤ maxRecords → scheduleNumber (scheduleOf seed m) ≡ 0
 schedule-accepted seed m few =
@@ -145,7 +145,7 @@ every-schedule seed m few =
 -- no number of a schedule is 21
 bytes-other : (sched : List ℕ) (i : ℕ) → bytesNumber sched i ≡ 21 → ⊥
 unfolding bytesNumber
-bytes-other sched i = unless-other (leb (recordByte sched i 8) 1 && eqb (recordByte sched i 9) 0) 13 21 (omega arith) (λ q. omega arith)
+bytes-other sched i = unless-other (leb (recordByte sched i 8) 1 && leb (recordByte sched i 9) 1) 13 21 (omega arith) (λ q. omega arith)
 
 order-other : (sched : List ℕ) (i : ℕ) → orderNumber sched i ≡ 21 → ⊥
 unfolding orderNumber

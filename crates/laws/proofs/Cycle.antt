@@ -6,11 +6,10 @@ use Prim.Native.Nat.{ℕ, zero, suc, _+_, _-_, _*_, _<_, _≤_}
 use native.Mathlib.Omega.{arith}
 use lib.Dec.{T, eqb, ltb, ltb→lt}
 use lib.ListN.{length, set, length-set, replicate}
-use borrow.Author.Tests.{eqb-false, ltb-true}
+use borrow.Author.Tests.{eqb-false}
 use Rattle.runs.specs.Machine.{Out, stop, went}
 use Rattle.runs.specs.Refusals.{cycleLimit}
 use Rattle.runs.specs.Laws.{Bytes}
-use Rattle.runs.proofs.Refusals.{first-at, passes}
 use Rattle.upd546.specs.declared.Core.{Core}
 use Rattle.upd546.specs.declared.Timer.{Timer}
 use Rattle.upd546.specs.declared.Lines.{Lines}
@@ -78,14 +77,6 @@ ticked-valid c v = go (eqb (c .mark) markStm)
     go : (b : Bool) → ValidCore (cond b c (withTimer c (tick (c .timer))))
     go true = v
     go false = record { scalars = omega (arith, tick-valid (c .timer) (timer-of c (v .scalars))); stack = v .stack }
-
-ticked-owed : (c : Core) → ticked c .owed ≡ c .owed
-unfolding ticked
-ticked-owed c = go (eqb (c .mark) markStm)
-  where
-    go : (b : Bool) → cond b c (withTimer c (tick (c .timer))) .owed ≡ c .owed
-    go true = refl
-    go false = refl
 
 pub accepted-keeps : (c : Core) → ValidCore c → ValidCore (accepted c)
 unfolding accepted
@@ -214,10 +205,10 @@ module _ (s : State) (v : Valid s) (h : s .cycle .0 < cycleLimit) where
     ports-after : (i : Instruction) (g : Given) → Keeps i → ValidGiven g → ValidPorts (latched (i .effect g .writes) (s .ports))
     ports-after i g k vg = latched-valid (i .effect g .writes) (s .ports) (k .effect g vg .writes) (v .ports)
 
-    -- an instruction that is begun; a base cycle at least, for each record
-    begun-fine : (i : Instruction) (g : Given) (over : ℕ) → Keeps i → ValidGiven g → over ≤ 2 → 0 < i .cycles → s .core .owed ≡ 0 → Fine s (begun i g (i .effect g) over s)
+    -- an instruction that is begun: at most two records, one for each base cycle
+    begun-fine : (i : Instruction) (g : Given) (over : ℕ) → Keeps i → ValidGiven g → over ≤ 2 → Fine s (begun i g (i .effect g) over s)
     unfolding begun
-    begun-fine i g over k vg ho hc z =
+    begun-fine i g over k vg ho =
         let e = i .effect g in
         let core = setOwed (i .cycles - 1 + over) (setPc (past over (e .core .flow .pc)) (e .core)) in
         record {
@@ -257,22 +248,20 @@ module _ (s : State) (v : Valid s) (h : s .cycle .0 < cycleLimit) where
     unticked-valid u x e q = subst Whole q unticked-whole
 
     -- a stop before any of it, or the instruction
-    on-stop : (i : Instruction) (g : Given) (over : ℕ) → Keeps i → ValidGiven g → over ≤ 2 → s .core .owed ≡ 0 → (k : ℕ) → instructionStop i g (i .effect g) ≡ k
-        → Fine s (onStop k (begun i g (i .effect g) over s))
-    unfolding instructionStop
-    on-stop i g over k vg ho z zero e = begun-fine i g over k vg ho (ltb-true 0 (i .cycles) (passes (ltb 0 (i .cycles)) 23 refl (first-at _ e 1))) z
-    on-stop i g over k vg ho z (suc n) e = tt
+    on-stop : (i : Instruction) (g : Given) (over : ℕ) → Keeps i → ValidGiven g → over ≤ 2 → (k : ℕ) → Fine s (onStop k (begun i g (i .effect g) over s))
+    on-stop i g over k vg ho zero = begun-fine i g over k vg ho
+    on-stop i g over k vg ho (suc n) = tt
 
-    execute-fine : s .core .owed ≡ 0 → Fine s (execute rom l s c)
+    execute-fine : Fine s (execute rom l s c)
     unfolding execute
-    execute-fine z =
+    execute-fine =
         let g = given rom l s c in
         let i = instruction (g .code) in
-        on-stop i g (passedOver rom (i .effect g)) (keeps (g .code)) given-valid (over-small (i .effect g)) z (instructionStop i g (i .effect g)) refl
+        on-stop i g (passedOver rom (i .effect g)) (keeps (g .code)) given-valid (over-small (i .effect g)) (instructionStop i g (i .effect g))
 
-    owed-fine : (owed : ℕ) → s .core .owed ≡ owed → Fine s (onOwed owed rom l s c)
-    owed-fine zero z = execute-fine z
-    owed-fine (suc k) z = quiet-fine (paid c) (paid-keeps c vc)
+    owed-fine : (owed : ℕ) → Fine s (onOwed owed rom l s c)
+    owed-fine zero = execute-fine
+    owed-fine (suc k) = quiet-fine (paid c) (paid-keeps c vc)
 
   -- the steps a to d
   ordinary-fine : (rom : List ℕ) (l : Lines) → Bytes rom → ValidLines l → Fine s (ordinaryCycle rom l s)
@@ -281,7 +270,7 @@ module _ (s : State) (v : Valid s) (h : s .cycle .0 < cycleLimit) where
     where
       go : (t : Bool) → Fine s (onAccepts t rom l s)
       go true = quiet-fine (taken l (accepted (s .core))) (taken-keeps l (accepted (s .core)) vl (accepted-keeps (s .core) (v .core)))
-      go false = owed-fine rom l br vl (taken l (s .core)) (taken-keeps l (s .core) vl (v .core)) (s .core .owed) refl
+      go false = owed-fine rom l br vl (taken l (s .core)) (taken-keeps l (s .core) vl (v .core)) (s .core .owed)
 
   -- a reset cycle
   reset-fine : (l : Lines) → ValidLines l → Fine s (resetCycle l s)

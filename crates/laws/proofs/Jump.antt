@@ -420,7 +420,7 @@ wait-length-cut rom sched s left m p q = go (mayJump rom sched s) refl
 -- THE CHIP'S JUMP: a wait, where RES is low and the count 0
 
 -- what the test says
-far : (sched : List ℕ) (s : State) → resetFar sched s ≡ true → Unreset sched s
+pub far : (sched : List ℕ) (s : State) → resetFar sched s ≡ true → Unreset sched s
 unfolding resetFar
 far sched s e =
     let n = linesAt sched (s .cycle .0) .res in
