@@ -402,7 +402,7 @@ wait-length-steady rom sched s left e v k f =
     (omega (arith, f))
 
 -- THE CUT: as it ends before the next record, m cycles on, it is as long where no more cycles are left than those
-pub wait-length-cut : (rom sched : List ℕ) (s : State) (left m : ℕ)
+wait-length-cut : (rom sched : List ℕ) (s : State) (left m : ℕ)
     → ((j : ℕ) → j ≤ m → noRecord sched (s .cycle .0 + 1) (s .cycle .0 + j) ≡ true)
     → ((j : ℕ) → m < j → j ≤ left → noRecord sched (s .cycle .0 + 1) (s .cycle .0 + j) ≡ false)
     → waitLength rom sched s left ≡ waitLength rom sched s (min left m)
