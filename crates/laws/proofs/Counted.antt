@@ -54,7 +54,7 @@ low-one-by-one rom sched skips room m s z low _ _ _ _ (also {t} {u} {y} {d} {a} 
 -- A CYCLE WITH A COUNT
 
 -- there is no jump where RES is high or a count is left over
-counted-no-jump : (rom sched : List ℕ) (s : State) (left : ℕ) → (Unreset sched s → ⊥) → jumpLength rom sched s left ≡ 0
+pub counted-no-jump : (rom sched : List ℕ) (s : State) (left : ℕ) → (Unreset sched s → ⊥) → jumpLength rom sched s left ≡ 0
 unfolding jumpLength
 counted-no-jump rom sched s left n = go (resetFar sched s) refl
   where

@@ -313,7 +313,7 @@ largest-passes test (suc k) h = go (test (suc k)) refl (largest-passes test k) h
     go true e ih h = rw (e, largest) e
     go false e ih h = rw (e, largest) (ih (rw (e, largest) at h))
 
-wait-within : (rom sched : List ℕ) (s : State) (left : ℕ) → waitLength rom sched s left ≤ left
+pub wait-within : (rom sched : List ℕ) (s : State) (left : ℕ) → waitLength rom sched s left ≤ left
 unfolding waitLength
 wait-within rom sched s left = go (mayJump rom sched s)
   where
