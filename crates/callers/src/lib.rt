@@ -104,8 +104,8 @@ pub fn two_conversions(
 ) -> Numbers
     ensures { λ r. ⌜ (record { number = r .first; buffer = now (between .exit) } ≡ convertAnswer upd546 (now (from .entry)) (now (between .entry)) one) × (record { number = r .second; buffer = now (to .exit) } ≡ convertAnswer upd546 (now (between .exit)) (now (to .entry)) other) ⌝ }
 {
-    let first = board::wharfnettle_convert(from, between, one);
-    let second = board::wharfnettle_convert(between, to, other);
+    let first = conversion::wharfnettle_convert(from, between, one);
+    let second = conversion::wharfnettle_convert(between, to, other);
     Numbers { first, second }
 }
 

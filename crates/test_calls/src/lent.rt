@@ -62,7 +62,7 @@ fn converted(c: Command, s: Session, image: &mut [u8], buffer: &mut [u8]) -> Ses
 
 fn made_version(image: &[u8], buffer: &mut [u8], version: u64) -> u8 {
     test_stream::fill(buffer);
-    board::wharfnettle_convert(image, buffer, version)
+    conversion::wharfnettle_convert(image, buffer, version)
 }
 
 // A list goes on from the buffer.

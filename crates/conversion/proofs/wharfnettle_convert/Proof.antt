@@ -11,8 +11,8 @@ use Rattle.runs.proofs.Versions.{unnamed, convert-refused, converts}
 use Rattle.upd546.specs.declared.State.{State}
 use Rattle.upd546.specs.TwoRunners.{upd546}
 use borrow.Author.Needs.{needs}
-use Rattle.board.proofs.wharfnettle_convert.Statement.{statement}
-use Rattle.board.proofs.wharfnettle_convert.Tie as tie
+use Rattle.conversion.proofs.wharfnettle_convert.Statement.{statement}
+use Rattle.conversion.proofs.wharfnettle_convert.Tie as tie
 
 -- where the number of the restore is known
 abbrev entry : tie.After-outcome-number → tie.Start
