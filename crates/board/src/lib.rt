@@ -1,15 +1,19 @@
-// The calls of the board's C program: restore, run and save in one, and the image of a fresh state; for programs in Rattle, what a
-// call's number tells. It may not know how a restore, a
-// run or a save goes, nor the image's layout.
+// The calls of the board's C program: restore, run and save in one, the image of a fresh state, and an image taken from one version
+// to the other; for programs in Rattle, what a call's number tells. It may not know how a restore, a run or a save goes, nor the
+// image's layout.
 use runs::MachineCycles;
 use runs::Outcome;
+use runs::Refusal;
 use runs::RunEnd;
+use runs::Version;
 use upd546::RunAnswer;
 ghost use mathlib.Core.Path.{_≡_};
 ghost use mathlib.Core.List.{_++_};
 ghost use Prim.Native.Nat.{_+_, _≤_};
 ghost use lib.ListN.{length, take, drop};
+ghost use Rattle.runs.specs.declared.Version.the-variants.{Two};
 ghost use Rattle.runs.specs.TwoRunners.{saveAnswer};
+ghost use Rattle.runs.specs.Versions.{convertAnswer};
 ghost use Rattle.upd546.specs.Bytes.{bytesOf};
 ghost use Rattle.upd546.specs.TheMachine.{fresh};
 ghost use Rattle.upd546.specs.TwoRunners.{upd546, answerOf};
@@ -38,7 +42,7 @@ fn put_counts(report: &mut [u8], cycles: MachineCycles, begun: u64, written: usi
     put_count(report, 24, steps);
 }
 
-// The run of an image: refused where a restore refuses the image, else what the runner answers.
+// The run of an image: refused where a restore refuses the image, version 2 being due, else what the runner answers.
 fn run_image(
     image: &[u8],
     rom: &[u8],
@@ -49,7 +53,7 @@ fn run_image(
 ) -> RunAnswer
     ensures { λ r. ⌜ answerOf r (now (log .exit)) ≡ imageRun upd546 (kindOf runner) (now (image .entry)) (now (rom .entry)) (now (schedule .entry)) (now (log .entry)) n ⌝ }
 {
-    let restored = restore::restore(image);
+    let restored = restore::restore_current(image);
     let outcome = restored.outcome;
     let state = restored.state;
     if let Outcome::Refused(why) = outcome {
@@ -85,16 +89,37 @@ pub extern "C" fn wharfnettle_call(
     if let RunEnd::Refused(why) = end {
         return runs::refusal_number(why);
     }
-    save::save(state, image);
+    save::save(state, Version::Two, image);
     runs::end_number(end)
 }
 
-// The image of the fresh state, saved into a buffer.
+// The image of the fresh state, saved into a buffer as version 2.
 #[no_mangle]
 pub extern "C" fn wharfnettle_fresh(image: &mut [u8]) -> u8
-    ensures { λ r. ⌜ record { number = r; buffer = now (image .exit) } ≡ saveAnswer upd546 fresh (now (image .entry)) ⌝ }
+    ensures { λ r. ⌜ record { number = r; buffer = now (image .exit) } ≡ saveAnswer upd546 Two fresh (now (image .entry)) ⌝ }
 {
-    runs::outcome_number(save::save(upd546::fresh_state(), image))
+    runs::outcome_number(save::save(upd546::fresh_state(), Version::Two, image))
+}
+
+// A CONVERSION: the image `from` written into `to` as version 1 or 2. A restore's numbers come first; then 33 of another version, 54
+// and 1.
+#[no_mangle]
+pub extern "C" fn wharfnettle_convert(from: &[u8], to: &mut [u8], version: u64) -> u8
+    ensures { λ r. ⌜ record { number = r; buffer = now (to .exit) } ≡ convertAnswer upd546 (now (from .entry)) (now (to .entry)) version ⌝ }
+{
+    let restored = restore::restore(from);
+    let outcome = restored.outcome;
+    let state = restored.state;
+    if let Outcome::Refused(why) = outcome {
+        return runs::refusal_number(why);
+    }
+    if version == 1 {
+        return runs::outcome_number(save::save(state, Version::One, to));
+    }
+    if version == 2 {
+        return runs::outcome_number(save::save(state, Version::Two, to));
+    }
+    runs::refusal_number(Refusal::ImageVersion)
 }
 
 // Whether the number of a call is that of a finish or a stop, and no refusal's.

@@ -8,6 +8,7 @@ use lib.ListN.{length, take, drop}
 use lib.Dec.{eqb}
 use lib.Seq.{take-append-seam, drop-append-seam}
 use borrow.Author.Tests.{eqb-true, eqb-false}
+use Rattle.runs.specs.declared.Version.the-variants.{Two}
 use Rattle.runs.specs.TwoRunners.{SaveAnswer, saveAnswer}
 use Rattle.runs.specs.Numbers.{endNumber, endOf}
 use Rattle.runs.specs.declared.RunEnd.{RunEnd}
@@ -23,7 +24,7 @@ use Rattle.streams.specs.declared.Output.{Output}
 use Rattle.streams.specs.declared.Output.the-variants.{Whole, Cut}
 use Rattle.callers.specs.Uses.{lending, FirstCall, TwoCalls, Fronts, numberTold}
 
-pub first-call : (c : BoardCall) {saved : SaveAnswer} {a : BoardAnswer} → saved ≡ saveAnswer upd546 fresh (c .image)
+pub first-call : (c : BoardCall) {saved : SaveAnswer} {a : BoardAnswer} → saved ≡ saveAnswer upd546 Two fresh (c .image)
     → a ≡ callAnswer upd546 (lending (saved .buffer) (c .log) (c .report) c) → FirstCall c (saved .number) a
 first-call c e h =
     (ap (λ (s : SaveAnswer). s .number) e, h ∙ ap (λ (s : SaveAnswer). callAnswer upd546 (lending (s .buffer) (c .log) (c .report) c)) e)

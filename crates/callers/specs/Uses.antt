@@ -3,6 +3,7 @@ use mathlib.Core.Path.{_≡_}
 use mathlib.Core.List.{List}
 use Prim.Native.Nat.{ℕ}
 use lib.ListN.{length, take, drop}
+use Rattle.runs.specs.declared.Version.the-variants.{Two}
 use Rattle.runs.specs.TwoRunners.{End, finished, stopped, refused, saveAnswer}
 use Rattle.upd546.specs.TheMachine.{fresh}
 use Rattle.upd546.specs.TwoRunners.{upd546}
@@ -12,10 +13,10 @@ use Rattle.calls.specs.Call.{BoardCall, BoardAnswer, callAnswer}
 abbrev pub lending : (image log report : List ℕ) → BoardCall → BoardCall
 lending image log report c = record { image = image; rom = c .rom; sched = c .sched; log = log; n = c .n; runner = c .runner; report = report }
 
--- the fresh image is saved over the call's, with number k; then the call answers a
+-- the fresh image is saved over the call's, as version 2, with number k; then the call answers a
 abbrev pub FirstCall : BoardCall → (k : ℕ) → (a : BoardAnswer) → Type 0
 FirstCall c k a =
-    let saved = saveAnswer upd546 fresh (c .image) in
+    let saved = saveAnswer upd546 Two fresh (c .image) in
     (k ≡ saved .number) × (a ≡ callAnswer upd546 (lending (saved .buffer) (c .log) (c .report) c))
 
 -- the call's number is k; then it is made again on what it has written, and answers a

@@ -4,6 +4,7 @@
 use listing::TEXT_LENGTH as PANEL_TEXT;
 use report::TEXT_LENGTH as WAITS_TEXT;
 use runs::MachineCycles;
+use runs::Version;
 use streams::Output;
 use upd546::State;
 use waiting::Reading;
@@ -12,6 +13,7 @@ ghost use mathlib.Core.List.{_∷_, [], _++_};
 ghost use Prim.Native.Nat.{_+_};
 ghost use lib.ListN.{length};
 ghost use Rattle.runs.specs.TwoRunners.{plain, saveAnswer, restoreAnswer};
+ghost use Rattle.runs.specs.Versions.{convertAnswer};
 ghost use Rattle.upd546.specs.TwoRunners.{upd546};
 ghost use Rattle.upd546.specs.Reports.{decimal, traceText};
 ghost use Rattle.waiting.specs.WaitingTimes.{startOfDay, waitingTimes};
@@ -20,7 +22,7 @@ ghost use Rattle.report.specs.Texts.{waitsText};
 ghost use Rattle.streams.specs.Streams.{Wrote};
 ghost use Rattle.callers.specs.Uses.{FirstCall, TwoCalls, Fronts, numberTold};
 
-// The numbers of two calls, one after the other.
+// The numbers of two calls or conversions, one after the other.
 pub struct Numbers {
     pub first: u8,
     pub second: u8,
@@ -76,11 +78,11 @@ pub struct SwitchedOff {
     pub state: State,
 }
 
-// A state saved into a buffer, and the whole buffer restored.
-pub fn switch_off(s: State, buffer: &mut [u8]) -> SwitchedOff
-    ensures { λ r. ⌜ (record { number = r .saved; buffer = now (buffer .exit) } ≡ saveAnswer upd546 s (now (buffer .entry))) × (record { number = r .restored; state = r .state } ≡ restoreAnswer upd546 (now (buffer .exit))) ⌝ }
+// A state saved into a buffer as a version, and the whole buffer restored.
+pub fn switch_off(s: State, version: Version, buffer: &mut [u8]) -> SwitchedOff
+    ensures { λ r. ⌜ (record { number = r .saved; buffer = now (buffer .exit) } ≡ saveAnswer upd546 version s (now (buffer .entry))) × (record { number = r .restored; state = r .state } ≡ restoreAnswer upd546 (now (buffer .exit))) ⌝ }
 {
-    let saved = runs::outcome_number(save::save(s, buffer));
+    let saved = runs::outcome_number(save::save(s, version, buffer));
     let back = restore::restore(buffer);
     let outcome = back.outcome;
     let state = back.state;
@@ -90,6 +92,21 @@ pub fn switch_off(s: State, buffer: &mut [u8]) -> SwitchedOff
         restored,
         state,
     }
+}
+
+// An image taken to one version, and what that left to another.
+pub fn two_conversions(
+    from: &[u8],
+    between: &mut [u8],
+    to: &mut [u8],
+    one: u64,
+    other: u64,
+) -> Numbers
+    ensures { λ r. ⌜ (record { number = r .first; buffer = now (between .exit) } ≡ convertAnswer upd546 (now (from .entry)) (now (between .entry)) one) × (record { number = r .second; buffer = now (to .exit) } ≡ convertAnswer upd546 (now (between .exit)) (now (to .entry)) other) ⌝ }
+{
+    let first = board::wharfnettle_convert(from, between, one);
+    let second = board::wharfnettle_convert(between, to, other);
+    Numbers { first, second }
 }
 
 // The text of a panel's run, and behind it what was there.

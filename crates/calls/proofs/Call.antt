@@ -4,8 +4,9 @@ use mathlib.Core.List.{List}
 use Prim.Native.Nat.{ℕ, zero, suc, _≤_, _<_}
 use lib.ListN.{length}
 use borrow.Author.Tests.{le-leb, lt-leb}
+use Rattle.runs.specs.declared.Version.the-variants.{Two}
 use Rattle.runs.specs.Machine.{Machine}
-use Rattle.runs.specs.TwoRunners.{End, finished, stopped, refused, RunAnswer, refusedRun, RestoreAnswer, saveAnswer, restoreAnswer}
+use Rattle.runs.specs.TwoRunners.{End, finished, stopped, refused, RunAnswer, refusedRun, RestoreAnswer, saveAnswer, currentAnswer}
 use Rattle.runs.specs.Lists.{Kind, run, refusalOf, runAnswer, ChangesNothing}
 use Rattle.runs.proofs.Calls.{changes-nothing}
 use Rattle.calls.specs.Call.{BoardCall, kindOf, reportLength, countBytes, reported, onRestored, imageRun, runOf, ranCall, onEnd, callAnswer}
@@ -48,12 +49,12 @@ module _ {S : Type 0} (M : Machine S) where
   pub idle : (c : BoardCall) (j : ℕ) → runOf M c .end ≡ refused (suc j) → Idle (c .log) (runOf M c)
   unfolding imageRun
   idle c j e =
-      restored-idle (restoreAnswer M (c .image) .number) (restoreAnswer M (c .image) .state) (kindOf (c .runner)) (c .rom) (c .sched) (c .log) (c .n) j e
+      restored-idle (currentAnswer M (c .image) .number) (currentAnswer M (c .image) .state) (kindOf (c .runner)) (c .rom) (c .sched) (c .log) (c .n) j e
 
   -- The run of an image.
 
   -- a restore that is refused, with a number
-  pub refused-image : (k : ℕ) (s : S) (kind : Kind) (image rom sched log : List ℕ) (n : ℕ) → (k ≡ 0 → ⊥) → record { number = k; state = s } ≡ restoreAnswer M image
+  pub refused-image : (k : ℕ) (s : S) (kind : Kind) (image rom sched log : List ℕ) (n : ℕ) → (k ≡ 0 → ⊥) → record { number = k; state = s } ≡ currentAnswer M image
       → refusedRun k s log ≡ imageRun M kind image rom sched log n
   unfolding imageRun
   refused-image zero s kind image rom sched log n h e = absurd (h refl)
@@ -61,7 +62,7 @@ module _ {S : Type 0} (M : Machine S) where
       ap (λ (r : RestoreAnswer S). onRestored M (r .number) (r .state) kind rom sched log n) e
 
   -- a restore that is done
-  pub done-image : (s : S) (kind : Kind) (image rom sched log : List ℕ) (n : ℕ) → record { number = 0; state = s } ≡ restoreAnswer M image
+  pub done-image : (s : S) (kind : Kind) (image rom sched log : List ℕ) (n : ℕ) → record { number = 0; state = s } ≡ currentAnswer M image
       → runAnswer M kind rom sched s log n ≡ imageRun M kind image rom sched log n
   unfolding imageRun
   done-image s kind image rom sched log n e =
@@ -100,6 +101,6 @@ module _ {S : Type 0} (M : Machine S) where
         rw (counts, cycles, begun, written, steps, log) (sym (ended ∙ ap (λ (e : End). onEnd M c e a) e))
 
     -- a run that finished or stopped
-    pub ran-call : NoRefusal (a .end) → {image : List ℕ} → image ≡ saveAnswer M (a .state) (c .image) .buffer
+    pub ran-call : NoRefusal (a .end) → {image : List ℕ} → image ≡ saveAnswer M Two (a .state) (c .image) .buffer
         → record { number = numberOfEnd (a .end); image = image; log = a .log; report = report } ≡ callAnswer M c
     ran-call h e = rw (counts, e) (sym (ended ∙ ran-answer c (a .end) a h))

@@ -7,24 +7,26 @@ use Prim.Native.Nat.{ℕ, zero, suc, _^_, _<_, _≤_}
 use native.Mathlib.Nat.{le-of-eq}
 use native.Mathlib.Omega.{arith}
 use lib.ListN.{length, take, replicate, drop-of-length-le}
+use lib.Dec.{eqb}
 use borrow.Author.Tests.{le-leb}
 use lib.Seq.{take-all}
+use Rattle.runs.specs.declared.Version.the-variants.{Two}
 use Rattle.runs.specs.Machine.{Machine}
 use Rattle.runs.specs.Refusals.{firstOf, unless}
 use Rattle.runs.specs.Numbers.{isStop}
-use Rattle.runs.specs.TwoRunners.{End, finished, stopped, refused, RunAnswer, SaveAnswer, endWith}
-use Rattle.runs.specs.TwoRunners.{within, strides, runNumber, told, stepwise, plain, skipping, saveAnswer, got, restoreAnswer}
-use Rattle.runs.specs.Laws.{Bytes, ImageLaws, JumpLaws, NumberLaws, Laws}
+use Rattle.runs.specs.TwoRunners.{End, finished, stopped, refused, RunAnswer, SaveAnswer, RestoreAnswer, endWith}
+use Rattle.runs.specs.TwoRunners.{within, strides, runNumber, told, stepwise, plain, skipping, saveAnswer, got, restoreAnswer, currentNumber, currentAnswer}
+use Rattle.runs.specs.Laws.{ImageLaws, JumpLaws, NumberLaws, Laws}
 use Rattle.runs.specs.EveryRun.{CountsWithin, NumberTells}
-use Rattle.runs.specs.Lists.{Kind, plainOne, skippingOne, run, restore, refusalOf, runAnswer, WrittenBy}
+use Rattle.runs.specs.Lists.{Kind, plainOne, skippingOne, run, refusalOf, runAnswer, WrittenBy}
 use Rattle.runs.proofs.Refusals.{first-at, last-one, passes}
-use Rattle.runs.proofs.Calls.{run-fit, fit-save, by-number, restore-same}
-use Rattle.runs.proofs.EveryRun.{runs-sound, counts-within, numbers-tell}
+use Rattle.runs.proofs.Calls.{run-fit, fit-save, got-number, by-number, restore-same, current-fit, current-long}
+use Rattle.runs.proofs.EveryRun.{first-no-stop, unless-no-stop, runs-sound, counts-within, numbers-tell}
 use Rattle.upd546.specs.Bytes.{numberAt}
 use Rattle.laws.proofs.Digits.{bytes-back}
 use Rattle.calls.specs.Call.{BoardCall, BoardAnswer, kindOf, reportLength, countBytes, reported, longEnough, onRestored, imageRun, runOf, ranCall, onReport, callAnswer}
 use Rattle.calls.specs.EveryCall.{endBy, refusedReport, callRefusal, callNumber, EveryCallIsRefusedByNumbers, Refuses, ChangesNothing, EveryRefusalChangesNothing}
-use Rattle.calls.specs.EveryCall.{TellsItsRun, EveryCallTellsItsRun, Rewrites}
+use Rattle.calls.specs.EveryCall.{TellsItsRun, EveryCallTellsItsRun, EveryFinishOrStopRewrites}
 use Rattle.calls.proofs.Call.{numberOfEnd, NoRefusal, idle, ran-answer}
 
 -- how a call ends: a report that is too short is refused with 1, else as the run ends
@@ -45,9 +47,9 @@ module _ {S : Type 0} (M : Machine S) where
   restored-number zero s kind rom sched log n = by-number M (run kind rom sched s log n) ∙ sym (last-one (runNumber M rom sched s n))
   restored-number (suc k) s kind rom sched log n = refl
 
-  run-number : (c : BoardCall) → refusalOf (runOf M c .end) ≡ firstOf (M .imageNumber (c .image) ∷ runNumber M (c .rom) (c .sched) (M .ofImage (c .image)) (c .n) ∷ [])
-  unfolding imageRun restoreAnswer
-  run-number c = restored-number (M .imageNumber (c .image)) (M .ofImage (c .image)) (kindOf (c .runner)) (c .rom) (c .sched) (c .log) (c .n)
+  run-number : (c : BoardCall) → refusalOf (runOf M c .end) ≡ firstOf (currentNumber M (c .image) ∷ runNumber M (c .rom) (c .sched) (M .ofImage (c .image)) (c .n) ∷ [])
+  unfolding imageRun currentAnswer
+  run-number c = restored-number (currentNumber M (c .image)) (M .ofImage (c .image)) (kindOf (c .runner)) (c .rom) (c .sched) (c .log) (c .n)
 
   -- it is the documents' number
   call-number : (c : BoardCall) → ownRefusal c ≡ callNumber M c
@@ -55,7 +57,7 @@ module _ {S : Type 0} (M : Machine S) where
   call-number c = go (longEnough c)
     where
       go : (b : Bool) → refusalOf (endWithReport b (runOf M c .end))
-          ≡ firstOf (unless b 1 ∷ M .imageNumber (c .image) ∷ runNumber M (c .rom) (c .sched) (M .ofImage (c .image)) (c .n) ∷ [])
+          ≡ firstOf (unless b 1 ∷ currentNumber M (c .image) ∷ runNumber M (c .rom) (c .sched) (M .ofImage (c .image)) (c .n) ∷ [])
       go false = refl
       go true = run-number c
 
@@ -85,9 +87,11 @@ module _ {S : Type 0} (M : Machine S) where
 
   -- A CALL THAT ISN'T REFUSED
 
-  -- its image is restored, its run is the run from there, which no number refuses, its report has 32 bytes, and it answers that run
+  -- its image has version 2's length and is restored, its run is the run from there, which no number refuses, its report has 32
+  -- bytes, and it answers that run
   pub record Through (c : BoardCall) : Type 0 where
-    pub restored : restoreAnswer M (c .image) .number ≡ 0
+    pub long : length (c .image) ≡ M .imageLength Two
+    pub restored : restoreAnswer M (c .image) ≡ record { number = 0; state = M .ofImage (c .image) }
     pub same-run : runOf M c ≡ runAnswer M (kindOf (c .runner)) (c .rom) (c .sched) (restoreAnswer M (c .image) .state) (c .log) (c .n)
     pub run-ok : runNumber M (c .rom) (c .sched) (restoreAnswer M (c .image) .state) (c .n) ≡ 0
     pub enough : longEnough c ≡ true
@@ -112,15 +116,19 @@ module _ {S : Type 0} (M : Machine S) where
       let z : callNumber M c ≡ 0 = sym (call-number c) ∙ h in
       let kind : Kind = kindOf (c .runner) in
       let s : S = restoreAnswer M (c .image) .state in
-      let restored : restoreAnswer M (c .image) .number ≡ 0 = ap (λ (k : ℕ). got M k (M .ofImage (c .image)) .number) (first-at _ z 1) in
-      let same-state : s ≡ M .ofImage (c .image) = ap (λ (k : ℕ). got M k (M .ofImage (c .image)) .state) (first-at _ z 1) in
+      let current = current-fit M (c .image) (first-at _ z 1) in
+      let restored : restoreAnswer M (c .image) ≡ record { number = 0; state = M .ofImage (c .image) }
+      = ap (λ (k : ℕ). got M k (M .ofImage (c .image))) (current .accepted) in
+      let same-state : s ≡ M .ofImage (c .image) = ap (λ (r : RestoreAnswer S). r .state) restored in
       let ok : runNumber M (c .rom) (c .sched) s (c .n) ≡ 0 = ap (λ (t : S). runNumber M (c .rom) (c .sched) t (c .n)) same-state ∙ first-at _ z 2 in
       let same : runOf M c ≡ runAnswer M kind (c .rom) (c .sched) s (c .log) (c .n)
-      = ap (λ (k : ℕ). onRestored M k s kind (c .rom) (c .sched) (c .log) (c .n)) restored in
+      = ap (λ (r : RestoreAnswer S). onRestored M (r .number) (r .state) kind (c .rom) (c .sched) (c .log) (c .n)) (current-long M (c .image) (current .long))
+      ∙ ap (λ (r : RestoreAnswer S). onRestored M (r .number) s kind (c .rom) (c .sched) (c .log) (c .n)) restored in
       let ran : NoRefusal (runOf M c .end)
       = subst (λ (a : RunAnswer S). NoRefusal (a .end)) (sym same) (run-ends kind (c .rom) (c .sched) s (c .log) (c .n) ok) in
       let enough : longEnough c ≡ true = passes (longEnough c) 1 refl (first-at _ z 0) in
       record {
+        long = current .long;
         restored = restored;
         same-run = same;
         run-ok = ok;
@@ -134,24 +142,27 @@ module _ {S : Type 0} (M : Machine S) where
 
   module _ (L : ImageLaws M) where
     -- a save over an image
-    pub saves-over : (s : S) (b : List ℕ) → M .stateNumber s ≡ 0 → length b ≡ M .imageLength → saveAnswer M s b ≡ record { number = 0; buffer = M .image s }
+    pub saves-over : (s : S) (b : List ℕ) → M .stateNumber s ≡ 0 → length b ≡ M .imageLength Two
+        → saveAnswer M Two s b ≡ record { number = 0; buffer = M .image Two s }
     unfolding saveAnswer
     saves-over s b v h =
-        rw (fit-save M s b v (le-of-eq (sym h)), drop-of-length-le b (le-of-eq h), append-nil (M .image s))
+        rw (fit-save M Two s b v (L .two-holds-all s) (le-of-eq (sym h)), drop-of-length-le b (le-of-eq h), append-nil (M .image Two s))
 
-    pub written : (s : S) → M .stateNumber s ≡ 0 → WrittenBy M s (M .image s)
+    pub written : (s : S) → M .stateNumber s ≡ 0 → WrittenBy M s (M .image Two s)
     written s v =
-        let over = saves-over s (M .image s) v (L .image-length s v) in
+        let long : length (M .image Two s) ≡ M .imageLength Two = L .image-length Two s v (L .two-holds-all s) in
+        let over = saves-over s (M .image Two s) v long in
         record {
-          buffer = M .image s;
+          version = Two;
+          buffer = M .image Two s;
           done = ap (λ (a : SaveAnswer). a .number) over;
           same =
-              sym (take-all (M .imageLength) (M .image s) (le-of-eq (L .image-length s v)))
-              ∙ ap (λ (a : SaveAnswer). take (M .imageLength) (a .buffer)) (sym over);
+              sym (take-all (M .imageLength Two) (M .image Two s) (le-of-eq long))
+              ∙ ap (λ (a : SaveAnswer). take (M .imageLength Two) (a .buffer)) (sym over);
         }
 
     -- the image of an accepted state is restored to that state
-    pub back : (s : S) (image : List ℕ) → M .stateNumber s ≡ 0 → image ≡ M .image s → restoreAnswer M image ≡ record { number = 0; state = s }
+    pub back : (s : S) (image : List ℕ) → M .stateNumber s ≡ 0 → image ≡ M .image Two s → restoreAnswer M image ≡ record { number = 0; state = s }
     back s image v e = restore-same M L s image (subst (λ (i : List ℕ). WrittenBy M s i) (sym e) (written s v))
 
 -- WHAT THE NUMBER TELLS
@@ -162,11 +173,17 @@ module _ {S : Type 0} (M : Machine S) where
   restored-tells J N zero s kind rom sched log n h = numbers-tell M J N kind rom sched s log n
   restored-tells J N (suc k) s kind rom sched log n h = h
 
+  current-tells : NumberLaws M → (image : List ℕ) → isStop (currentAnswer M image .number) ≡ false
+  unfolding currentAnswer currentNumber
+  current-tells N image =
+      ap isStop (got-number M (currentNumber M image) (M .ofImage image))
+      ∙ first-no-stop _ (unless-no-stop (eqb (length image) (M .imageLength Two)) 31 refl, (N .images image, tt))
+
   run-tells : JumpLaws M → NumberLaws M → (c : BoardCall) → NumberTells (runOf M c .end)
   unfolding imageRun
   run-tells J N c =
-      restored-tells J N (restoreAnswer M (c .image) .number) (restoreAnswer M (c .image) .state) (kindOf (c .runner)) (c .rom) (c .sched) (c .log) (c .n)
-      (ap isStop (by-number M (restore (c .image))) ∙ N .images (c .image))
+      restored-tells J N (currentAnswer M (c .image) .number) (currentAnswer M (c .image) .state) (kindOf (c .runner)) (c .rom) (c .sched) (c .log) (c .n)
+      (current-tells N (c .image))
 
   end-told : (c : BoardCall) (b : Bool) (e : End) (a : RunAnswer S) → NumberTells e → endBy (onReport M b c e a .number) ≡ endWithReport b e
   end-told c false e a h = refl
@@ -189,18 +206,17 @@ module _ {S : Type 0} (M : Machine S) where
   pub changes-nothing : JumpLaws M → NumberLaws M → EveryRefusalChangesNothing M
   changes-nothing J N c = subst (λ (k : ℕ). ChangesNothing M k c) (own-refusal J N c) (left M c)
 
--- "a finish or a stop rewrites it", on bytes of an image's length, whatever the log's length
-pub call-rewrites : {S : Type 0} (M : Machine S) → Laws M → NumberLaws M
-    → (c : BoardCall) → Bytes (c .rom) → Bytes (c .sched) → length (c .image) ≡ M .imageLength → callRefusal M c ≡ 0 → Rewrites M c
-call-rewrites {S} M L N c br bs long h =
+-- "a finish or a stop rewrites it", whatever the log's length
+pub call-rewrites : {S : Type 0} (M : Machine S) → Laws M → NumberLaws M → EveryFinishOrStopRewrites M
+call-rewrites {S} M L N c br bs h =
     let t = through M c (own-refusal M (L .jumps) N c ∙ h) in
     let s : S = restoreAnswer M (c .image) .state in
     let kind : Kind = kindOf (c .runner) in
     let f = run-fit M (c .rom) (c .sched) s (c .n) (t .run-ok) in
     let sound : M .stateNumber (runOf M c .state) ≡ 0
     = ap (λ (a : RunAnswer S). M .stateNumber (a .state)) (t .same-run) ∙ runs-sound M L kind (c .rom) (c .sched) s (c .log) (c .n) br bs (f .state) in
-    let over = saves-over M (L .images) (runOf M c .state) (c .image) sound long in
-    let left : callAnswer M c .image ≡ M .image (runOf M c .state)
+    let over = saves-over M (L .images) (runOf M c .state) (c .image) sound (t .long) in
+    let left : callAnswer M c .image ≡ M .image Two (runOf M c .state)
     = ap (λ (z : BoardAnswer). z .image) (t .answers) ∙ ap (λ (z : SaveAnswer). z .buffer) over in
     record {
       saved = ap (λ (z : SaveAnswer). z .number) over;

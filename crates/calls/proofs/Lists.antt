@@ -9,21 +9,23 @@ use native.Mathlib.Nat.{zero-add}
 use native.Mathlib.Omega.{arith}
 use lib.ListN.{length, take, replicate}
 use borrow.Author.Tests.{le-leb}
+use Rattle.runs.specs.declared.Version.the-variants.{Two}
 use Rattle.runs.specs.Machine.{Machine}
 use Rattle.runs.specs.Numbers.{isStop}
 use Rattle.runs.specs.Refusals.{cycleLimit, unless}
-use Rattle.runs.specs.TwoRunners.{finished, stopped, refused, RunAnswer, SaveAnswer, unbroken, runNumber, saveAnswer, restoreAnswer}
+use Rattle.runs.specs.TwoRunners.{finished, stopped, refused, RunAnswer, SaveAnswer, RestoreAnswer, unbroken, runNumber, saveAnswer, got, restoreAnswer, currentNumber, currentAnswer}
 use Rattle.runs.specs.Laws.{Panel, JumpLaws, NumberLaws, Laws}
 use Rattle.runs.specs.Lists.{Kind, Call, run, save, restore, Each, refusalOf, runAnswer, notRefused, last, WrittenBy, Lent, AllGet, Meant}
 use Rattle.runs.specs.Lists.{runs, runLog, joinedLog, cycleTotal, begunTotal, AllFinish, StopsHave, asked, EndsAs, GoesOn, EndsAsOneRun}
+use Rattle.runs.specs.Versions.{ImageOf, AcceptedLaws}
 use Rattle.runs.proofs.Refusals.{first-past, last-one}
 use Rattle.runs.proofs.Iterate.{log-bound}
-use Rattle.runs.proofs.Calls.{run-fit, by-number}
+use Rattle.runs.proofs.Calls.{run-fit, got-number, by-number, current-fit, image-current}
 use Rattle.runs.proofs.Lists.{each, keeps, advances, lists-end}
 use Rattle.upd546.specs.Bytes.{numberAt}
 use Rattle.calls.specs.Call.{BoardCall, BoardAnswer, kindOf, reportLength, reported, callAnswer}
 use Rattle.calls.specs.EveryCall.{endBy, refusedReport, callRefusal, callNumber, ChangesNothing, figureAt, TellsItsRun}
-use Rattle.calls.specs.Lists.{keepCall, callsNotRefused, PanelLent, OnOneImage, imageAfter, callLogs, figureTotal, joined, callsAsk, EveryListOnOneImageIsMeant, CallsEndAs, SameFigures, EveryListOfCallsEndsAsOneRun}
+use Rattle.calls.specs.Lists.{keepCall, callsNotRefused, PanelLent, OnOneImage, imageAfter, callLogs, figureTotal, joined, callsAsk, EveryListOnOneImageIsMeant, CallsEndAs, SameFigures, CallsEndAsOneRun, EveryListOfCallsEndsAsOneRun, EveryAcceptedImageEndsAsOneRun}
 use Rattle.calls.proofs.EveryCall.{own-refusal, refused-by-numbers, changes-nothing, through, saves-over, written, back, ran-tells}
 
 -- WHAT CALLS TELL OF RUNS
@@ -113,7 +115,7 @@ module _ {S : Type 0} (M : Machine S) where
   slicesOf (c ∷ cs) =
       let s = restoreAnswer M (c .image) .state in
       let answer = runAnswer M (kindOf (c .runner)) (c .rom) (c .sched) s (c .log) (c .n) in
-      restore (c .image) ∷ run (kindOf (c .runner)) (c .rom) (c .sched) s (c .log) (c .n) ∷ save (answer .state) (c .image) ∷ slicesOf cs
+      restore (c .image) ∷ run (kindOf (c .runner)) (c .rom) (c .sched) s (c .log) (c .n) ∷ save Two (answer .state) (c .image) ∷ slicesOf cs
 
   AllTaken : List BoardCall → Type 0
   AllTaken = Each (λ c. callRefusal M c ≡ 0)
@@ -134,7 +136,7 @@ module _ {S : Type 0} (M : Machine S) (L : Laws M) (N : NumberLaws M) (rom sched
     given : AllGet M rom sched held (slicesOf M cs)
     asks : asked M (slicesOf M cs) ≡ callsAsk cs
     tell : AllTell M cs (runs M (slicesOf M cs))
-    image : imageAfter M (M .image held) cs ≡ M .image (last M held (slicesOf M cs))
+    image : imageAfter M (M .image Two held) cs ≡ M .image Two (last M held (slicesOf M cs))
     sound : M .stateNumber (last M held (slicesOf M cs)) ≡ 0
 
   -- a call on the panel tells the run that it is: n cycles write so few bytes that eight hold their count
@@ -155,7 +157,7 @@ module _ {S : Type 0} (M : Machine S) (L : Laws M) (N : NumberLaws M) (rom sched
       subst (λ (z : RunAnswer S). Tells M c z) (y .same-run)
       (record { taken = taken; end = t .end; log = ap₂ take (t .written) (t .log); cycles = t .cycles; begun = t .begun })
 
-  run-through : (cs : List BoardCall) (held : S) → M .stateNumber held ≡ 0 → AllTaken M cs → OnOneImage M rom sched (M .image held) cs → RunThrough held cs
+  run-through : (cs : List BoardCall) (held : S) → M .stateNumber held ≡ 0 → AllTaken M cs → OnOneImage M rom sched (M .image Two held) cs → RunThrough held cs
   unfolding AllTaken
   run-through [] held v t g = record { all = refl; given = tt; asks = refl; tell = tt; image = refl; sound = v }
   run-through (c ∷ cs) held v t g =
@@ -169,19 +171,19 @@ module _ {S : Type 0} (M : Machine S) (L : Laws M) (N : NumberLaws M) (rom sched
       let on-panel : Lent M rom sched from (c .rom) (c .sched) from (c .log) (c .n)
       = record { same-rom = lent .same-rom; same-sched = lent .same-sched; same-state = refl; room = lent .room } in
       let x = advances M L rom sched p from kind (c .rom) (c .sched) from (c .log) (c .n) on-panel (y .run-ok) in
-      let long : length (c .image) ≡ M .imageLength = ap length (g .0 .same-image) ∙ L .images .image-length held v in
-      let over : saveAnswer M (a .state) (c .image) ≡ record { number = 0; buffer = M .image (a .state) } = saves-over M (L .images) (a .state) (c .image) (x .sound) long in
-      let left : callAnswer M c .image ≡ M .image (a .state) =
+      let over : saveAnswer M Two (a .state) (c .image) ≡ record { number = 0; buffer = M .image Two (a .state) }
+      = saves-over M (L .images) (a .state) (c .image) (x .sound) (y .long) in
+      let left : callAnswer M c .image ≡ M .image Two (a .state) =
       ap (λ (z : BoardAnswer). z .image) (y .answers)
-      ∙ ap (λ (z : RunAnswer S). saveAnswer M (z .state) (c .image) .buffer) (y .same-run)
+      ∙ ap (λ (z : RunAnswer S). saveAnswer M Two (z .state) (c .image) .buffer) (y .same-run)
       ∙ ap (λ (z : SaveAnswer). z .buffer) over in
       let ih : RunThrough (a .state) cs
       = run-through cs (a .state) (x .sound) (t .1) (subst (λ (i : List ℕ). OnOneImage M rom sched i cs) left (g .1)) in
       let rest : List (Call S) = slicesOf M cs in
-      let the-save : Call S = save (a .state) (c .image) in
+      let the-save : Call S = save Two (a .state) (c .image) in
       record {
         all =
-            keeps M (restore (c .image)) (the-run ∷ the-save ∷ rest) (the-run ∷ the-save ∷ rest) (y .restored)
+            keeps M (restore (c .image)) (the-run ∷ the-save ∷ rest) (the-run ∷ the-save ∷ rest) (ap (λ (z : RestoreAnswer S). z .number) (y .restored))
             (keeps M the-run (the-save ∷ rest) (the-save ∷ rest) (by-number M the-run ∙ y .run-ok)
             (keeps M the-save rest rest (ap (λ (z : SaveAnswer). z .number) over) (ih .all)));
         given = (wrote, (on-panel, (refl, ih .given)));
@@ -195,7 +197,7 @@ module _ {S : Type 0} (M : Machine S) (L : Laws M) (N : NumberLaws M) (rom sched
     one-run : EndsAsOneRun M rom sched s (slicesOf M cs)
     one-run = lists-end M L rom sched s (slicesOf M cs) p v (subst (λ (z : List (Call S)). AllGet M rom sched s z) (sym (r .all)) (r .given))
 
-    ends : CallsEndAs M (M .image s) cs (unbroken M rom sched (callsAsk cs) s)
+    ends : CallsEndAs M (M .image Two s) cs (unbroken M rom sched (callsAsk cs) s)
     ends =
         let whole : EndsAs M s (slicesOf M cs) (unbroken M rom sched (asked M (slicesOf M cs)) s)
         = subst (λ (z : List (Call S)). EndsAs M s z (unbroken M rom sched (asked M z) s)) (r .all) (one-run .ends) in
@@ -203,12 +205,12 @@ module _ {S : Type 0} (M : Machine S) (L : Laws M) (N : NumberLaws M) (rom sched
         = subst (λ (z : ℕ). EndsAs M s (slicesOf M cs) (unbroken M rom sched z s)) (r .asks) whole in
         let u = unbroken M rom sched (callsAsk cs) s in
         let rs : List (RunAnswer S) = runs M (slicesOf M cs) in
-        let image : imageAfter M (M .image s) cs ≡ M .image (u .state) = r .image ∙ ap (λ (t : S). M .image t) (e .state) in
+        let image : imageAfter M (M .image Two s) cs ≡ M .image Two (u .state) = r .image ∙ ap (λ (t : S). M .image Two t) (e .state) in
         let sound : M .stateNumber (u .state) ≡ 0 = sym (ap (λ (t : S). M .stateNumber t) (e .state)) ∙ r .sound in
         let finish = all-finish M cs rs (r .tell) in
         record {
           image = image;
-          state = back M (L .images) (u .state) (imageAfter M (M .image s) cs) sound image;
+          state = back M (L .images) (u .state) (imageAfter M (M .image Two s) cs) sound image;
           log = ap joined (same-logs M cs rs (r .tell)) ∙ joined-log M rs ∙ e .log;
           cycles = same-cycles M cs rs (r .tell) ∙ e .cycles;
           begun = same-begun M cs rs (r .tell) ∙ e .begun;
@@ -216,14 +218,15 @@ module _ {S : Type 0} (M : Machine S) (L : Laws M) (N : NumberLaws M) (rom sched
           stops = all-stops M (u .number) cs rs (r .tell) (e .stops);
         }
 
-    goes-on : (c : BoardCall) → c .image ≡ imageAfter M (M .image s) cs → PanelLent rom sched c → reportLength ≤ length (c .report)
+    goes-on : (c : BoardCall) → c .image ≡ imageAfter M (M .image Two s) cs → PanelLent rom sched c → reportLength ≤ length (c .report)
         → M .at s + (callsAsk cs + c .n) ≤ cycleLimit → callRefusal M c ≡ 0
     goes-on c same lent h limit =
         let held : S = last M s (slicesOf M cs) in
         let kind : Kind = kindOf (c .runner) in
-        let bytes : c .image ≡ M .image held = same ∙ r .image in
-        let accepted : M .imageNumber (c .image) ≡ 0 = ap (λ (i : List ℕ). M .imageNumber i) bytes ∙ L .images .image-accepted held (r .sound) in
-        let state : M .ofImage (c .image) ≡ held = ap (λ (i : List ℕ). M .ofImage i) bytes ∙ L .images .image-back held (r .sound) in
+        let bytes : c .image ≡ M .image Two held = same ∙ r .image in
+        let accepted : currentNumber M (c .image) ≡ 0 = ap (currentNumber M) bytes ∙ image-current M (L .images) held (r .sound) in
+        let state : M .ofImage (c .image) ≡ held
+        = ap (λ (i : List ℕ). M .ofImage i) bytes ∙ L .images .image-back Two held (r .sound) (L .images .two-holds-all held) in
         let on = subst (λ (z : List (Call S)). GoesOn M rom sched (M .at s) (asked M z) (last M s z)) (r .all) (one-run .goes-on) in
         let next : runNumber M rom sched held (c .n) ≡ 0
         = sym (by-number M (run kind rom sched held (c .log) (c .n))) ∙ on .next-run kind (c .log) (c .n) (omega (arith, r .asks)) in
@@ -274,6 +277,18 @@ module _ {S : Type 0} (M : Machine S) (L : Laws M) (N : NumberLaws M) where
         goes-on = goes-on M L N rom sched p s v cs r;
       }
 
+  -- bytes that a restore accepts where version 2 is due are the version 2 image of the state that it answers
+  pub accepted-end : AcceptedLaws M → EveryAcceptedImageEndsAsOneRun M
+  unfolding currentAnswer
+  accepted-end A rom sched image calls b p e g =
+      let number : currentNumber M image ≡ 0 = sym (got-number M (currentNumber M image) (M .ofImage image)) ∙ e in
+      let current = current-fit M image number in
+      let s : S = currentAnswer M image .state in
+      let same : M .ofImage image ≡ s = ap (λ (k : ℕ). got M k (M .ofImage image) .state) (sym number) in
+      let o : ImageOf M Two image s = subst (λ (t : S). ImageOf M Two image t) same (A .exact Two image b (current .long) (current .accepted)) in
+      subst (λ (i : List ℕ). CallsEndAsOneRun M rom sched i s calls) (sym (o .same))
+      (calls-end rom sched s calls p (o .sound) (subst (λ (i : List ℕ). OnOneImage M rom sched i (callsNotRefused M calls)) (o .same) g))
+
   -- Calls that aren't refused stand for a list of demand 3: it asks for as many cycles, and its runs write the logs that the board
   -- gets.
   pub record StandFor (rom sched : List ℕ) (s : S) (cs : List BoardCall) : Type 0 where
@@ -282,7 +297,7 @@ module _ {S : Type 0} (M : Machine S) (L : Laws M) (N : NumberLaws M) where
     pub logs : callLogs M cs ≡ map runLog (runs M (notRefused M (slicesOf M cs)))
 
   pub calls-stand : (rom sched : List ℕ) (s : S) (calls : List BoardCall) → Panel M rom sched → M .stateNumber s ≡ 0
-      → OnOneImage M rom sched (M .image s) (callsNotRefused M calls) → StandFor rom sched s (callsNotRefused M calls)
+      → OnOneImage M rom sched (M .image Two s) (callsNotRefused M calls) → StandFor rom sched s (callsNotRefused M calls)
   calls-stand rom sched s calls p v g =
       let cs = callsNotRefused M calls in
       let r = run-through M L N rom sched p cs s v (all-taken M calls) g in

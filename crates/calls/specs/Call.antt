@@ -5,8 +5,9 @@ use mathlib.Core.Bool.{Bool, true, false}
 use mathlib.Core.List.{List, _++_}
 use lib.Dec.{leb}
 use lib.ListN.{length, drop, replicate}
+use Rattle.runs.specs.declared.Version.the-variants.{Two}
 use Rattle.runs.specs.Machine.{Machine}
-use Rattle.runs.specs.TwoRunners.{End, finished, stopped, refused, RunAnswer, refusedRun, saveAnswer, restoreAnswer}
+use Rattle.runs.specs.TwoRunners.{End, finished, stopped, refused, RunAnswer, refusedRun, saveAnswer, currentAnswer}
 use Rattle.runs.specs.Lists.{Kind, plainOne, skippingOne, runAnswer}
 use Rattle.upd546.specs.Bytes.{bytesOf}
 
@@ -49,23 +50,24 @@ abbrev pub longEnough : BoardCall → Bool
 longEnough c = leb reportLength (length (c .report))
 
 module _ {S : Type 0} (M : Machine S) where
-  -- "Then image refusals come first, then the run's.": the run of what a restore answers; where that is refused, a run so refused
+  -- "Then image refusals come first, then the run's.": the run of what a restore answers; where that is refused, a run so refused.
+  -- "R-3's call takes 82 bytes only, else 31" (R-8).
   abbrev pub onRestored : ℕ → S → Kind → (rom sched log : List ℕ) → ℕ → RunAnswer S
   onRestored zero s kind rom sched log n = runAnswer M kind rom sched s log n
   onRestored (suc k) s kind rom sched log n = refusedRun (suc k) s log
 
   unfoldable pub imageRun : Kind → (image rom sched log : List ℕ) → ℕ → RunAnswer S
-  imageRun kind image rom sched log n = onRestored (restoreAnswer M image .number) (restoreAnswer M image .state) kind rom sched log n
+  imageRun kind image rom sched log n = onRestored (currentAnswer M image .number) (currentAnswer M image .state) kind rom sched log n
 
   -- the call's run
   abbrev pub runOf : BoardCall → RunAnswer S
   runOf c = imageRun (kindOf (c .runner)) (c .image) (c .rom) (c .sched) (c .log) (c .n)
 
-  -- "a finish or a stop rewrites it": the image as a save of the run's state leaves it, and the counts in the report
+  -- "a finish or a stop rewrites it": the image as a save of the run's state leaves it, as version 2, and the counts in the report
   abbrev pub ranCall : BoardCall → ℕ → RunAnswer S → BoardAnswer
   ranCall c k a = record {
     number = k;
-    image = saveAnswer M (a .state) (c .image) .buffer;
+    image = saveAnswer M Two (a .state) (c .image) .buffer;
     log = a .log;
     report = reported (countBytes (a .cycles) (a .begun) (a .written) (a .steps)) (c .report);
   }

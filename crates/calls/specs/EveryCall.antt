@@ -6,10 +6,12 @@ use mathlib.Core.Bool.{Bool, true, false, _||_, cond}
 use mathlib.Core.List.{List, [], _∷_}
 use lib.Dec.{eqb}
 use lib.ListN.{length, replicate}
+use Rattle.runs.specs.declared.Version.the-variants.{Two}
 use Rattle.runs.specs.Machine.{Machine}
 use Rattle.runs.specs.Refusals.{firstOf, unless}
 use Rattle.runs.specs.Numbers.{isStop}
-use Rattle.runs.specs.TwoRunners.{End, finished, stopped, refused, runNumber, saveAnswer, restoreAnswer}
+use Rattle.runs.specs.TwoRunners.{End, finished, stopped, refused, runNumber, saveAnswer, restoreAnswer, currentNumber}
+use Rattle.runs.specs.Laws.{Bytes}
 use Rattle.runs.specs.Lists.{refusalOf}
 use Rattle.upd546.specs.Bytes.{numberAt}
 use Rattle.calls.specs.Call.{BoardCall, reportLength, reported, longEnough, runOf, callAnswer}
@@ -38,10 +40,10 @@ module _ {S : Type 0} (M : Machine S) where
   callRefusal c = refusalOf (endBy (callAnswer M c .number))
 
   -- the number by which the documents refuse it, else 0: "A report under 32 bytes is 1, before all else, and is not written. Then
-  -- image refusals come first, then the run's."
+  -- image refusals come first, then the run's." "R-3's call takes 82 bytes only, else 31" (R-8).
   abbrev pub callNumber : BoardCall → ℕ
   callNumber c =
-      firstOf (unless (longEnough c) 1 ∷ M .imageNumber (c .image) ∷ runNumber M (c .rom) (c .sched) (M .ofImage (c .image)) (c .n) ∷ [])
+      firstOf (unless (longEnough c) 1 ∷ currentNumber M (c .image) ∷ runNumber M (c .rom) (c .sched) (M .ofImage (c .image)) (c .n) ∷ [])
 
   -- every call is refused where the documents refuse it, and with their number
   abbrev pub EveryCallIsRefusedByNumbers : Type 0
@@ -83,8 +85,13 @@ module _ {S : Type 0} (M : Machine S) where
 
   -- WHAT A FINISH OR A STOP LEAVES
 
-  -- "a finish or a stop rewrites it": the save isn't refused, and the image is that of the state that the run answered
+  -- "a finish or a stop rewrites it": the save isn't refused, and the image is that of the state that the run answered,
+  -- as version 2
   pub record Rewrites (c : BoardCall) : Type 0 where
-    pub saved : saveAnswer M (runOf M c .state) (c .image) .number ≡ 0
-    pub image : callAnswer M c .image ≡ M .image (runOf M c .state)
+    pub saved : saveAnswer M Two (runOf M c .state) (c .image) .number ≡ 0
+    pub image : callAnswer M c .image ≡ M .image Two (runOf M c .state)
     pub restores : restoreAnswer M (callAnswer M c .image) ≡ record { number = 0; state = runOf M c .state }
+
+  -- every call that isn't refused does, whatever it is lent
+  abbrev pub EveryFinishOrStopRewrites : Type 0
+  EveryFinishOrStopRewrites = (c : BoardCall) → Bytes (c .rom) → Bytes (c .sched) → callRefusal c ≡ 0 → Rewrites c

@@ -6,17 +6,18 @@ use mathlib.Core.Logic.{_↔_}
 use mathlib.Core.List.{List, [], _∷_, _++_}
 use mathlib.Core.Option.{none, some}
 use lib.ListN.{length, take}
+use Rattle.runs.specs.declared.Version.the-variants.{Two}
 use Rattle.runs.specs.Machine.{Machine}
 use Rattle.runs.specs.Refusals.{cycleLimit}
-use Rattle.runs.specs.TwoRunners.{logBound, Ran, unbroken, restoreAnswer}
-use Rattle.runs.specs.Laws.{Panel}
+use Rattle.runs.specs.TwoRunners.{logBound, Ran, unbroken, restoreAnswer, currentAnswer}
+use Rattle.runs.specs.Laws.{Bytes, Panel}
 use Rattle.runs.specs.Lists.{Each}
 use Rattle.calls.specs.Call.{BoardCall, reportLength, callAnswer}
 use Rattle.calls.specs.EveryCall.{callRefusal, callNumber, ChangesNothing, figureAt}
 
 -- THE LISTS MEANT
 
--- "Every run not refused is lent the panel's ROM and schedule", and "a log of at least 8n + 8 bytes" (demand 3)
+-- "Every run not refused is lent the panel's ROM and schedule" (demand 3), and "a log of 16n bytes for n cycles" (R-8)
 pub record PanelLent (rom sched : List ℕ) (c : BoardCall) : Type 0 where
   pub same-rom : c .rom ≡ rom
   pub same-sched : c .sched ≡ sched
@@ -77,7 +78,7 @@ module _ {S : Type 0} (M : Machine S) where
   -- Calls on an image, none of them refused, end as the run u ends: "Final image, joined log, cycle total and instruction total are
   -- the same. All runs not refused finish exactly when the unbroken one does; otherwise every stop in the list has its number."
   pub record CallsEndAs (start : List ℕ) (cs : List BoardCall) (u : Ran S) : Type 0 where
-    pub image : imageAfter M start cs ≡ M .image (u .state)
+    pub image : imageAfter M start cs ≡ M .image Two (u .state)
     pub state : restoreAnswer M (imageAfter M start cs) ≡ record { number = 0; state = u .state }
     pub log : joined (callLogs M cs) ≡ u .bytes
     pub cycles : figureTotal M 0 cs ≡ u .cycles
@@ -106,12 +107,18 @@ module _ {S : Type 0} (M : Machine S) where
     pub goes-on : (c : BoardCall) → c .image ≡ imageAfter M image (callsNotRefused M calls) → PanelLent rom sched c → reportLength ≤ length (c .report)
         → M .at s + (callsAsk (callsNotRefused M calls) + c .n) ≤ cycleLimit → callRefusal M c ≡ 0
 
-  -- Every list of calls from the image of an accepted state, whose calls not refused are on one image. Of refused calls nothing is
-  -- asked: they may be given anything, another image too.
+  -- Every list of calls from the version 2 image of an accepted state, whose calls not refused are on one image. Of refused calls
+  -- nothing is asked: they may be given anything, another image too.
   abbrev pub EveryListOfCallsEndsAsOneRun : Type 0
   EveryListOfCallsEndsAsOneRun =
       (rom sched : List ℕ) (s : S) (calls : List BoardCall) → Panel M rom sched → M .stateNumber s ≡ 0
-      → OnOneImage M rom sched (M .image s) (callsNotRefused M calls) → CallsEndAsOneRun rom sched (M .image s) s calls
+      → OnOneImage M rom sched (M .image Two s) (callsNotRefused M calls) → CallsEndAsOneRun rom sched (M .image Two s) s calls
+
+  -- The same from any bytes that a restore accepts where version 2 is due.
+  abbrev pub EveryAcceptedImageEndsAsOneRun : Type 0
+  EveryAcceptedImageEndsAsOneRun =
+      (rom sched image : List ℕ) (calls : List BoardCall) → Bytes image → Panel M rom sched → currentAnswer M image .number ≡ 0
+      → OnOneImage M rom sched image (callsNotRefused M calls) → CallsEndAsOneRun rom sched image (currentAnswer M image .state) calls
 
   -- Such is every list on one image, refused calls too, and the image that the last of them leaves is that of the calls not refused.
   abbrev pub EveryListOnOneImageIsMeant : Type 0

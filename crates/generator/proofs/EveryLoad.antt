@@ -24,7 +24,7 @@ use Rattle.upd546.specs.TheLineSchedule.{recordLength, maxRecords, recordCount,
 use Rattle.upd546.specs.StateImage.{stateSound, stateNumber}
 use Rattle.upd546.specs.TwoRunners.{panelNumber, upd546}
 use Rattle.laws.proofs.Images.{cycle-back}
-use Rattle.schedule.proofs.Records.{good-bytes, by-order, by-records, none-refused, one-more}
+use Rattle.schedule.proofs.Records.{by-order, by-records, none-refused, one-more}
 use Rattle.generator.specs.Loads.{drawn, drawnBytes, romOf, cycleFrom, recordFrom, standsAt, lastDrawn, recordOf, scheduleOf}
 use Rattle.generator.specs.EveryLoad.{AcceptedSchedule, EverySchedule, EveryRom, EveryLoad, EveryBeginning}
 use Rattle.generator.proofs.Loads.{length-drawn, length-record, length-schedule, drawn-byte, gap-within, cycle-most}
@@ -54,9 +54,12 @@ module _ (seed m i : ℕ) (h : i < m) (few : m ≤ maxRecords) where
   unfolding recordFrom
   level = omega (arith, byte-at 8)
 
-  last-byte : recordByte (scheduleOf seed m) i 9 ≡ 0
+  reset-low : recordByte (scheduleOf seed m) i 9 ≡ 0
   unfolding recordFrom
-  last-byte = byte-at 9
+  reset-low = byte-at 9
+
+  levels : (leb (recordByte (scheduleOf seed m) i 8) 1 && leb (recordByte (scheduleOf seed m) i 9) 1) ≡ true
+  levels = rw (le-leb (recordByte (scheduleOf seed m) i 8) 1 level, reset-low)
 
   cycle-at : recordCycle (scheduleOf seed m) i ≡ lastDrawn seed (suc i)
   unfolding recordCycle recordFrom lastDrawn
@@ -83,7 +86,7 @@ none-refuses seed m zero h few = none-refused (scheduleOf seed m)
 none-refuses seed m (suc k) h few =
     let sched = scheduleOf seed m in
     let more : recordsNumber sched (k + 1) ≡ recordNumber sched k = one-more sched k (none-refuses seed m k (omega arith) few) in
-    rw add-one at more ∙ by-order sched k (good-bytes sched k (level seed m k h few) (omega (arith, last-byte seed m k h few))) ∙ in-order seed m k h few
+    rw add-one at more ∙ by-order sched k (levels seed m k h few) ∙ in-order seed m k h few
 
 pub schedule-accepted : (seed m : ℕ) → m ≤ maxRecords → scheduleNumber (scheduleOf seed m) ≡ 0
 schedule-accepted seed m few =

@@ -8,46 +8,63 @@ use native.Mathlib.Omega.{arith}
 use lib.Dec.{eqb, ltb}
 use lib.ListN.{length, getD, drop, drop-of-length-le}
 use lib.Seq.{drop-cons}
-use borrow.Author.Tests.{eq-eqb, ne-eqb, lt-ltb, le-ltb}
+use borrow.Author.Tests.{eq-eqb, ne-eqb, eqb-true, lt-ltb, le-ltb}
+use Rattle.runs.specs.declared.Version.{Version}
+use Rattle.runs.specs.declared.Version.the-variants.{One, Two}
 use Rattle.runs.specs.TwoRunners.{restoreAnswer}
 use Rattle.runs.specs.Refusals.{firstOf, unless}
+use Rattle.runs.proofs.Refusals.{first-at, passes}
 use Rattle.upd546.specs.TheMachine.{fresh}
 use Rattle.upd546.specs.Sequences.{sameNumbers}
 use Rattle.upd546.specs.Bytes.{part}
-use Rattle.upd546.specs.StateImage.{imageLength, imageMark, imageVersion, byte, ofImage, stateSound, stateNumber, fieldsNumber, imageNumber}
+use Rattle.upd546.specs.StateImage.{imageLength, imageMark, versionBytes, versionOf, byte, ofImage, stateSound, stateNumber, fieldsNumber, imageNumber}
 use Rattle.upd546.specs.TwoRunners.{upd546}
 use Rattle.laws.proofs.Parts.{part-cons}
-use Rattle.laws.proofs.Images.{length-fits}
 use Rattle.restore.specs.Head.{headNumber}
 
-module _ (image : List ℕ) where
-  pub by-length : (length image ≡ imageLength → ⊥) → 31 ≡ headNumber image
-  unfolding headNumber firstOf
-  by-length h = rw (ne-eqb (length image) imageLength h)
+-- the version that the length tells
+pub of-long : (image : List ℕ) → length image ≡ imageLength Two → Two ≡ versionOf image
+of-long image e = rw (eq-eqb (length image) (imageLength Two) e)
 
-  module _ (l : length image ≡ imageLength) where
+pub of-other : (image : List ℕ) → (length image ≡ imageLength Two → ⊥) → One ≡ versionOf image
+of-other image h = rw (ne-eqb (length image) (imageLength Two) h)
+
+-- an image of either version has all that version 1 has
+pub at-least : (v : Version) (n : ℕ) → n ≡ imageLength v → imageLength One ≤ n
+at-least One n e = omega arith
+at-least Two n e = omega arith
+
+-- v is the version that goes with the length
+module _ (image : List ℕ) (v : Version) (goes : v ≡ versionOf image) where
+  pub by-length : (length image ≡ imageLength v → ⊥) → 31 ≡ headNumber image
+  unfolding headNumber firstOf
+  by-length h = rw (← goes, ne-eqb (length image) (imageLength v) h)
+
+  module _ (l : length image ≡ imageLength v) where
     pub by-mark : sameNumbers (part image 0 3) imageMark ≡ false → 32 ≡ headNumber image
     unfolding headNumber firstOf
-    by-mark h = rw (eq-eqb (length image) imageLength l, h)
+    by-mark h = rw (← goes, eq-eqb (length image) (imageLength v) l, h)
 
     module _ (m : sameNumbers (part image 0 3) imageMark ≡ true) where
-      pub by-version : sameNumbers (part image 3 2) imageVersion ≡ false → 33 ≡ headNumber image
+      pub by-version : sameNumbers (part image 3 2) (versionBytes v) ≡ false → 33 ≡ headNumber image
       unfolding headNumber firstOf
-      by-version h = rw (eq-eqb (length image) imageLength l, m, h)
+      by-version h = rw (← goes, eq-eqb (length image) (imageLength v) l, m, h)
 
-      module _ (v : sameNumbers (part image 3 2) imageVersion ≡ true) where
+      module _ (same : sameNumbers (part image 3 2) (versionBytes v) ≡ true) where
         pub by-flags : 64 ≤ byte image 15 → 34 ≡ headNumber image
         unfolding headNumber firstOf
-        by-flags h = rw (eq-eqb (length image) imageLength l, m, v, le-ltb (byte image 15) 64 h)
+        by-flags h = rw (← goes, eq-eqb (length image) (imageLength v) l, m, same, le-ltb (byte image 15) 64 h)
 
         pub by-none : byte image 15 < 64 → 0 ≡ headNumber image
         unfolding headNumber firstOf
-        by-none h = rw (eq-eqb (length image) imageLength l, m, v, lt-ltb (byte image 15) 64 h)
+        by-none h = rw (← goes, eq-eqb (length image) (imageLength v) l, m, same, lt-ltb (byte image 15) 64 h)
 
-  -- an image whose head passes
-  pub head-length : headNumber image ≡ 0 → length image ≡ imageLength
-  unfolding headNumber
-  head-length e = length-fits image _ e
+-- an image whose head passes
+pub head-length : (image : List ℕ) → headNumber image ≡ 0 → imageLength One ≤ length image
+unfolding headNumber
+head-length image e =
+    let v = versionOf image in
+    at-least v (length image) (eqb-true (length image) (imageLength v) (passes (eqb (length image) (imageLength v)) 31 refl (first-at _ e 0)))
 
 -- THE LOOP that compares bytes with those expected, at the byte i
 module _ (bytes expected : List ℕ) (at i : ℕ) (fits : at + length expected ≤ length bytes) (more : i < length expected) where
@@ -75,7 +92,7 @@ module _ (image : List ℕ) where
   -- what refuses an image is what refuses its head, or its fields
   all-number : imageNumber image ≡ firstOf (headNumber image ∷ stateNumber (ofImage image) ∷ [])
   unfolding imageNumber headNumber fieldsNumber stateNumber firstOf
-  all-number = go (eqb (length image) imageLength) (sameNumbers (part image 0 3) imageMark) (sameNumbers (part image 3 2) imageVersion) (ltb (byte image 15) 64) (stateSound (ofImage image))
+  all-number = go (eqb (length image) (imageLength (versionOf image))) (sameNumbers (part image 0 3) imageMark) (sameNumbers (part image 3 2) (versionBytes (versionOf image))) (ltb (byte image 15) 64) (stateSound (ofImage image))
     where
       go : (a b c d e : Bool) → firstOf (unless a 31 ∷ unless b 32 ∷ unless c 33 ∷ unless (d && e) 34 ∷ []) ≡ firstOf (firstOf (unless a 31 ∷ unless b 32 ∷ unless c 33 ∷ unless d 34 ∷ []) ∷ unless e 34 ∷ [])
       go false b c d e = refl

@@ -2,6 +2,7 @@
 use runs::MachineCycles;
 use runs::Outcome;
 use runs::Refusal;
+use runs::Version;
 use upd546::CYCLE_BYTES;
 use upd546::Core;
 use upd546::Flow;
@@ -12,7 +13,9 @@ use upd546::Registers;
 use upd546::RestoreAnswer;
 use upd546::State;
 use upd546::Timer;
+use upd546::layout;
 use upd546::layout::ACC_AT;
+use upd546::layout::COUNT_AT;
 use upd546::layout::COUNTER_AT;
 use upd546::layout::CYCLE_AT;
 use upd546::layout::DP_AT;
@@ -20,7 +23,6 @@ use upd546::layout::FLAGS_AT;
 use upd546::layout::IMAGE_LENGTH;
 use upd546::layout::IMAGE_MARK;
 use upd546::layout::IMAGE_MARK_AT;
-use upd546::layout::IMAGE_VERSION;
 use upd546::layout::MARK_AT;
 use upd546::layout::OWED_AT;
 use upd546::layout::PC_AT;
@@ -34,12 +36,13 @@ use upd546::layout::WORD_BYTES;
 ghost use mathlib.Core.Path.{_≡_};
 ghost use Prim.Native.Nat.{_+_, _≤_};
 ghost use lib.ListN.{length};
+ghost use Rattle.runs.specs.declared.Version.the-variants.{One};
 ghost use Rattle.runs.specs.Numbers.{outcomeNumber};
-ghost use Rattle.runs.specs.TwoRunners.{restoreAnswer};
+ghost use Rattle.runs.specs.TwoRunners.{restoreAnswer, currentAnswer};
 ghost use Rattle.upd546.specs.TheMachine.{latches, fresh};
 ghost use Rattle.upd546.specs.Bytes.{numberAt, part};
 ghost use Rattle.upd546.specs.Sequences.{sameNumbers};
-ghost use Rattle.upd546.specs.StateImage.{imageLength, portsAt, ramAt, ramBytes, unpacked, ofImage};
+ghost use Rattle.upd546.specs.StateImage.{imageLength, portsAt, ramAt, ramBytes, countAt, byte, unpacked, ofImage, versionOf};
 ghost use Rattle.upd546.specs.TwoRunners.{upd546, restoreOf};
 ghost use Rattle.restore.specs.Head.{coreOf, headNumber};
 
@@ -74,7 +77,7 @@ fn word_at(bytes: &[u8], at: usize) -> u16
 }
 
 fn core_at(bytes: &[u8]) -> Core
-    requires { ⌜ length (now bytes) ≡ imageLength ⌝ }
+    requires { ⌜ imageLength One ≤ length (now bytes) ⌝ }
     ensures { λ r. ⌜ r ≡ coreOf (now (bytes .entry)) ⌝ }
 {
     let dp = bytes[DP_AT];
@@ -111,7 +114,7 @@ fn core_at(bytes: &[u8]) -> Core
 }
 
 fn ports_at(bytes: &[u8]) -> [u8; LATCHES]
-    requires { ⌜ length (now bytes) ≡ imageLength ⌝ }
+    requires { ⌜ imageLength One ≤ length (now bytes) ⌝ }
     ensures { λ r. ⌜ r ≡ part (now (bytes .entry)) portsAt latches ⌝ }
 {
     [
@@ -126,7 +129,7 @@ fn ports_at(bytes: &[u8]) -> [u8; LATCHES]
 }
 
 fn ram_at(bytes: &[u8]) -> [u8; RAM_WORDS]
-    requires { ⌜ length (now bytes) ≡ imageLength ⌝ }
+    requires { ⌜ imageLength One ≤ length (now bytes) ⌝ }
     ensures { λ r. ⌜ r ≡ unpacked (part (now (bytes .entry)) ramAt ramBytes) ⌝ }
 {
     let mut words = [0; RAM_WORDS];
@@ -140,29 +143,51 @@ fn ram_at(bytes: &[u8]) -> [u8; RAM_WORDS]
     words
 }
 
+// Version 1 ends before the count, which is 0 then.
+fn count_at(bytes: &[u8]) -> u8
+    ensures { λ r. ⌜ r ≡ byte (now (bytes .entry)) countAt ⌝ }
+{
+    if bytes.len() <= COUNT_AT {
+        return 0;
+    }
+    bytes[COUNT_AT]
+}
+
 fn state_at(bytes: &[u8]) -> State
-    requires { ⌜ length (now bytes) ≡ imageLength ⌝ }
+    requires { ⌜ imageLength One ≤ length (now bytes) ⌝ }
     ensures { λ r. ⌜ r ≡ ofImage (now (bytes .entry)) ⌝ }
 {
     State {
         core: core_at(bytes),
         ports: ports_at(bytes),
         ram: ram_at(bytes),
+        count: count_at(bytes),
         cycle: MachineCycles(big_endian::number_at(bytes, CYCLE_AT, CYCLE_BYTES)),
     }
+}
+
+// The version that goes with the length.
+fn version_of(bytes: &[u8]) -> Version
+    ensures { λ r. ⌜ r ≡ versionOf (now (bytes .entry)) ⌝ }
+{
+    if bytes.len() == IMAGE_LENGTH {
+        return Version::Two;
+    }
+    Version::One
 }
 
 // 31, 32, 33, and 34 of the flags, which have 6 bits.
 fn head_check(bytes: &[u8]) -> Outcome
     ensures { λ r. ⌜ outcomeNumber r ≡ headNumber (now (bytes .entry)) ⌝ }
 {
-    if bytes.len() != IMAGE_LENGTH {
+    let version = version_of(bytes);
+    if bytes.len() != layout::image_length(version) {
         return Outcome::Refused(Refusal::ImageLength);
     }
     if !stands_at(bytes, IMAGE_MARK_AT, &IMAGE_MARK) {
         return Outcome::Refused(Refusal::ImageMark);
     }
-    if !stands_at(bytes, VERSION_AT, &IMAGE_VERSION) {
+    if !stands_at(bytes, VERSION_AT, &layout::version_bytes(version)) {
         return Outcome::Refused(Refusal::ImageVersion);
     }
     if FLAGS <= bytes[FLAGS_AT] {
@@ -197,4 +222,14 @@ pub fn restore(bytes: &[u8]) -> RestoreAnswer
         outcome: Outcome::Done,
         state,
     }
+}
+
+// A RESTORE WHERE VERSION 2 IS DUE: 31 unless the image has its 82 bytes, else as any image.
+pub fn restore_current(bytes: &[u8]) -> RestoreAnswer
+    ensures { λ r. ⌜ restoreOf r ≡ currentAnswer upd546 (now (bytes .entry)) ⌝ }
+{
+    if bytes.len() != IMAGE_LENGTH {
+        return refused(Outcome::Refused(Refusal::ImageLength));
+    }
+    restore(bytes)
 }

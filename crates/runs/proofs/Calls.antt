@@ -67,7 +67,7 @@ module _ {S : Type 0} (M : Machine S) where
   put-number v zero bytes buffer = refl
   put-number v (suc k) bytes buffer = refl
 
-  got-number : (k : ℕ) (s : S) → got M k s .number ≡ k
+  pub got-number : (k : ℕ) (s : S) → got M k s .number ≡ k
   got-number zero s = refl
   got-number (suc k) s = refl
 

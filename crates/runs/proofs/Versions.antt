@@ -16,6 +16,13 @@ use Rattle.runs.specs.Versions.{savedAs, EveryVersionOneImageComesBack, 
 use Rattle.runs.proofs.Refusals.{first-past, last-one}
 use Rattle.runs.proofs.Calls.{fit-save, by-number, restore-same}
 
+-- a number that names no version
+pub unnamed : (k : ℕ) → (k ≡ 1 → ⊥) → (k ≡ 2 → ⊥) → versionNamed k ≡ none
+unnamed zero h g = refl
+unnamed (suc zero) h g = absurd (h refl)
+unnamed (suc (suc zero)) h g = absurd (g refl)
+unnamed (suc (suc (suc k))) h g = refl
+
 module _ {S : Type 0} (M : Machine S) where
   -- a save that isn't refused
   pub saves : (v : Version) (s : S) (buffer : List ℕ) → M .stateNumber s ≡ 0 → M .versionNumber v s ≡ 0 → M .imageLength v ≤ length buffer
@@ -29,6 +36,21 @@ module _ {S : Type 0} (M : Machine S) where
   saved-restores L v s buffer e f h =
       restore-same M L s (savedAs M v s buffer)
       (record { version = v; buffer = buffer; done = by-number M (save v s buffer) ∙ fit-save M v s buffer e f h; same = refl })
+
+  -- WHAT A CONVERSION ANSWERS
+
+  -- where the restore is refused
+  pub convert-refused : (from to : List ℕ) (k : ℕ) (s : S) (version : ℕ) → restoreAnswer M from ≡ record { number = k; state = s } → (k ≡ 0 → ⊥)
+      → convertAnswer M from to version ≡ record { number = k; buffer = to }
+  unfolding convertAnswer
+  convert-refused from to zero s version e h = absurd (h refl)
+  convert-refused from to (suc k) s version e h = ap (λ (a : RestoreAnswer S). onTaken M (a .number) (a .state) (versionNamed version) to) e
+
+  -- where it isn't: a save of its state
+  pub converts : (from to : List ℕ) (s : S) (version : ℕ) → restoreAnswer M from ≡ record { number = 0; state = s }
+      → convertAnswer M from to version ≡ saveWanted M (versionNamed version) s to
+  unfolding convertAnswer
+  converts from to s version e = ap (λ (a : RestoreAnswer S). onTaken M (a .number) (a .state) (versionNamed version) to) e
 
   -- THE ORDER OF REFUSALS
 
@@ -82,12 +104,6 @@ module _ {S : Type 0} (M : Machine S) where
               ∙ saves One s back (o .sound) (o .held) room′
               ∙ ap (λ (l : List ℕ). record { number = 0; buffer = l ++ drop (M .imageLength One) back }) (sym (o .same));
         }
-
-    -- a conversion of bytes that a restore takes is a save of its state
-    converts : (from to : List ℕ) (s : S) (version : ℕ) → restoreAnswer M from ≡ record { number = 0; state = s }
-        → convertAnswer M from to version ≡ saveWanted M (versionNamed version) s to
-    unfolding convertAnswer
-    converts from to s version e = ap (λ (a : RestoreAnswer S). onTaken M (a .number) (a .state) (versionNamed version) to) e
 
     pub converted-forward-and-back : EveryConversionComesBack M
     converted-forward-and-back bytes forth back b h e room room′ =

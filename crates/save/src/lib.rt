@@ -1,16 +1,17 @@
 // SAVE: a state written to a buffer as the bytes of its image. It may not know how an image is read, nor how a run goes.
 use runs::Outcome;
 use runs::Refusal;
+use runs::Version;
 use upd546::Core;
 use upd546::RAM_WORDS;
 use upd546::STACK_DEPTH;
 use upd546::State;
+use upd546::layout;
 use upd546::layout::CORE_AT;
+use upd546::layout::COUNT_AT;
 use upd546::layout::CYCLE_AT;
-use upd546::layout::IMAGE_LENGTH;
 use upd546::layout::IMAGE_MARK;
 use upd546::layout::IMAGE_MARK_AT;
-use upd546::layout::IMAGE_VERSION;
 use upd546::layout::PC_AT;
 use upd546::layout::PORTS_AT;
 use upd546::layout::RAM_AT;
@@ -21,12 +22,23 @@ ghost use mathlib.Core.Path.{_≡_};
 ghost use mathlib.Core.List.{_++_};
 ghost use Prim.Native.Nat.{_+_, _≤_};
 ghost use lib.ListN.{length, take, drop};
+ghost use Rattle.runs.specs.declared.Version.the-variants.{One};
 ghost use Rattle.runs.specs.TwoRunners.{saveAnswer};
 ghost use Rattle.upd546.specs.Bytes.{bytesOf};
 ghost use Rattle.upd546.specs.StateImage.{imageLength, portsAt, wordsBytes, coreBytes, packed, imageOf};
 ghost use Rattle.upd546.specs.TwoRunners.{upd546, saveOf};
 ghost use Rattle.laws.specs.Valid.{Scalars, ValidCore, ValidRam, Valid};
-ghost use Rattle.save.specs.Front.{frontBytes};
+ghost use Rattle.save.specs.Parts.{frontBytes, commonBytes, holds};
+
+// Whether an image of this version can hold this count.
+fn can_hold(version: Version, count: u8) -> bool
+    ensures { λ r. ⌜ r ≡ holds version count ⌝ }
+{
+    match version {
+        Version::One => count == 0,
+        Version::Two => true,
+    }
+}
 
 // Copies a part into a buffer, from a place on.
 fn put(buffer: &mut [u8], at: usize, bytes: &[u8])
@@ -84,42 +96,56 @@ fn ram_bytes(words: [u8; RAM_WORDS]) -> [u8; RAM_BYTES]
 }
 
 // What stands before the ports.
-fn write_core(c: Core, buffer: &mut [u8])
-    requires { ⌜ ValidCore c × (imageLength ≤ length (now buffer)) ⌝ }
-    ensures { λ _. ⌜ now (buffer .exit) ≡ frontBytes c ++ drop portsAt (now (buffer .entry)) ⌝ }
+fn write_core(c: Core, version: Version, buffer: &mut [u8])
+    requires { ⌜ ValidCore c × (imageLength One ≤ length (now buffer)) ⌝ }
+    ensures { λ _. ⌜ now (buffer .exit) ≡ frontBytes version c ++ drop portsAt (now (buffer .entry)) ⌝ }
 {
     let stack = c.flow.stack;
     put(buffer, IMAGE_MARK_AT, &IMAGE_MARK);
-    put(buffer, VERSION_AT, &IMAGE_VERSION);
+    put(buffer, VERSION_AT, &layout::version_bytes(version));
     put(buffer, PC_AT, &word_bytes(c.flow.pc));
     put(buffer, STACK_AT, &stack_bytes(stack));
     put(buffer, CORE_AT, &core_bytes(c));
 }
 
-// The image of a state that isn't refused, at the front of a buffer.
-fn write(s: State, buffer: &mut [u8])
-    requires { ⌜ Valid s × (imageLength ≤ length (now buffer)) ⌝ }
-    ensures { λ _. ⌜ now (buffer .exit) ≡ imageOf s ++ drop imageLength (now (buffer .entry)) ⌝ }
+// What both versions have, up to the cycle number.
+fn write_common(s: State, version: Version, buffer: &mut [u8])
+    requires { ⌜ Valid s × (imageLength One ≤ length (now buffer)) ⌝ }
+    ensures { λ _. ⌜ now (buffer .exit) ≡ commonBytes version s ++ drop (imageLength One) (now (buffer .entry)) ⌝ }
 {
     let ports = s.ports;
     let words = s.ram;
-    write_core(s.core, buffer);
+    write_core(s.core, version, buffer);
     put(buffer, PORTS_AT, &ports);
     put(buffer, RAM_AT, &ram_bytes(words));
     big_endian::put_six(&mut buffer[CYCLE_AT..], s.cycle.0);
 }
 
-// SAVE: 34, then 1, and then the bytes of the image only.
-pub fn save(s: State, buffer: &mut [u8]) -> Outcome
-    ensures { λ r. ⌜ saveOf r (now (buffer .exit)) ≡ saveAnswer upd546 s (now (buffer .entry)) ⌝ }
+// The image of a state that isn't refused, at the front of a buffer.
+fn write(s: State, version: Version, buffer: &mut [u8])
+    requires { ⌜ Valid s × (imageLength version ≤ length (now buffer)) ⌝ }
+    ensures { λ _. ⌜ now (buffer .exit) ≡ imageOf version s ++ drop (imageLength version) (now (buffer .entry)) ⌝ }
+{
+    write_common(s, version, buffer);
+    if let Version::Two = version {
+        put(buffer, COUNT_AT, &[s.count]);
+    }
+}
+
+// SAVE, as the version wanted: 34, then 54, then 1, and then the bytes of the image only.
+pub fn save(s: State, version: Version, buffer: &mut [u8]) -> Outcome
+    ensures { λ r. ⌜ saveOf r (now (buffer .exit)) ≡ saveAnswer upd546 version s (now (buffer .entry)) ⌝ }
 {
     let by_fields = fields::check(s);
     if runs::outcome_number(by_fields) != 0 {
         return by_fields;
     }
-    if buffer.len() < IMAGE_LENGTH {
+    if !can_hold(version, s.count) {
+        return Outcome::Refused(Refusal::ResetCount);
+    }
+    if buffer.len() < layout::image_length(version) {
         return Outcome::Refused(Refusal::BufferShort);
     }
-    write(s, buffer);
+    write(s, version, buffer);
     Outcome::Done
 }

@@ -1,15 +1,15 @@
 -- A schedule's number from its records' numbers, and the cycles of an accepted one. Assumes nothing.
 use mathlib.Core.Path.{_≡_, _∙_, refl, sym, ap}
-use mathlib.Core.Bool.{Bool, true, false, not, _&&_, _||_}
-use mathlib.Core.List.{List, [], _∷_}
+use mathlib.Core.Bool.{Bool, true, false, _&&_}
+use mathlib.Core.List.{List}
 use mathlib.Core.Logic.{⊎-elim}
 use Prim.Native.Nat.{ℕ, zero, suc, _+_, _-_, _*_, _/_, _%_, _<_, _≤_}
 use native.Mathlib.Nat.{eq-or-lt-of-le}
 use native.Mathlib.Numerals.{add-one}
 use native.Mathlib.Omega.{arith}
-use lib.Dec.{ltb, leb, eqb}
+use lib.Dec.{ltb, leb}
 use lib.ListN.{length, getD}
-use borrow.Author.Tests.{ltb-true, leb-true, leb-false, lt-ltb, le-ltb, le-leb, lt-leb, eq-eqb, ne-eqb}
+use borrow.Author.Tests.{ltb-true, leb-true, lt-ltb, le-ltb, le-leb, lt-leb, eq-eqb, ne-eqb}
 use Rattle.runs.specs.Refusals.{firstOf, unless}
 use Rattle.runs.proofs.Refusals.{first-at, first-past, first-here, last-one, passes}
 use Rattle.upd546.specs.Bytes.{numberAt}
@@ -31,34 +31,23 @@ head-cycle sched at h b =
     let sixth : getD sched (at + 4 + 1) 0 ≡ getD sched (at + 5) 0 = ap (λ (k : ℕ). getD sched k 0) (omega arith) in
     omega (arith, five, six, one, two, three, four, fifth, sixth, b (at + 4 + 2), b (at + 4 + 3))
 
--- one record: its bytes, then its order
-pub good-bytes : (sched : List ℕ) (i : ℕ) → recordByte sched i 8 ≤ 1 → recordByte sched i 9 ≤ 1 → bytesNumber sched i ≡ 0
-unfolding bytesNumber
-good-bytes sched i h l = rw (le-leb (recordByte sched i 8) 1 h, le-leb (recordByte sched i 9) 1 l)
+-- one record: its levels, then its order
+abbrev levels : List ℕ → ℕ → Bool
+levels sched i = leb (recordByte sched i 8) 1 && leb (recordByte sched i 9) 1
 
--- both tests of the last two bytes
-pub bytes-tested : (sched : List ℕ) (i int res : ℕ) → int ≡ recordByte sched i 8 → res ≡ recordByte sched i 9
-    → not (ltb 1 int || ltb 1 res) ≡ eqb (bytesNumber sched i) 0
-unfolding bytesNumber
-bytes-tested sched i int res e f = rw (sym e, sym f) (go (leb int 1) refl (leb res 1) refl)
-  where
-    go : (s : Bool) → leb int 1 ≡ s → (t : Bool) → leb res 1 ≡ t → not (ltb 1 int || ltb 1 res) ≡ eqb (unless (s && t) 13) 0
-    go true p true q = rw (le-ltb 1 int (leb-true int 1 p), le-ltb 1 res (leb-true res 1 q))
-    go true p false q = rw (le-ltb 1 int (leb-true int 1 p), lt-ltb 1 res (omega (arith, leb-false res 1 q)))
-    go false p t q = rw (lt-ltb 1 int (omega (arith, leb-false int 1 p)))
+pub levels-of : (int res : ℕ) → int < 256 → (leb ((256 * res + int) % 256) 1 && leb ((256 * res + int) / 256) 1) ≡ (leb int 1 && leb res 1)
+levels-of int res h =
+    let low : (256 * res + int) % 256 ≡ int = omega arith in
+    let high : (256 * res + int) / 256 ≡ res = omega arith in
+    rw (low, high)
 
--- its number is 13 where its bytes aren't accepted
-pub by-bytes : (sched : List ℕ) (i : ℕ) → (bytesNumber sched i ≡ 0 → ⊥) → recordNumber sched i ≡ 13
+pub bad-bytes : (sched : List ℕ) (i : ℕ) → levels sched i ≡ false → recordNumber sched i ≡ 13
 unfolding bytesNumber firstOf
-by-bytes sched i n = go (leb (recordByte sched i 8) 1 && leb (recordByte sched i 9) 1) refl n
-  where
-    go : (b : Bool) → (leb (recordByte sched i 8) 1 && leb (recordByte sched i 9) 1) ≡ b → (unless b 13 ≡ 0 → ⊥)
-        → firstOf (unless b 13 ∷ orderNumber sched i ∷ []) ≡ 13
-    go true e n = absurd (n refl)
-    go false e n = refl
+bad-bytes sched i e = rw e
 
-pub by-order : (sched : List ℕ) (i : ℕ) → bytesNumber sched i ≡ 0 → recordNumber sched i ≡ orderNumber sched i
-by-order sched i e = first-past (bytesNumber sched i) _ e ∙ last-one (orderNumber sched i)
+pub by-order : (sched : List ℕ) (i : ℕ) → levels sched i ≡ true → recordNumber sched i ≡ orderNumber sched i
+unfolding bytesNumber firstOf
+by-order sched i e = rw e (last-one (orderNumber sched i))
 
 -- the order, by the cycle of the record before record i; the first has none before it
 pub order-first : (sched : List ℕ) (i : ℕ) → i ≡ 0 → orderNumber sched i ≡ 0

@@ -6,11 +6,12 @@ use runs::Refusal;
 use upd546::CYCLE_BYTES;
 use upd546::Lines;
 ghost use mathlib.Core.Path.{_≡_};
-ghost use Prim.Native.Nat.{_+_, _*_, _/_, _%_, _<_, _≤_, _^_};
-ghost use lib.Dec.{eqb};
+ghost use Prim.Native.Nat.{_+_, _*_, _/_, _<_, _≤_, _^_};
+ghost use mathlib.Core.Bool.{_&&_};
+ghost use lib.Dec.{eqb, leb};
 ghost use Rattle.runs.specs.Numbers.{outcomeNumber};
 ghost use Rattle.runs.specs.Refusals.{cycleLimit};
-ghost use Rattle.upd546.specs.TheLineSchedule.{recordLength, recordCount, recordByte, recordCycle, recordLines, bytesNumber, recordNumber, scheduleNumber};
+ghost use Rattle.upd546.specs.TheLineSchedule.{recordLength, recordCount, recordByte, recordCycle, recordLines, recordNumber, scheduleNumber};
 ghost use Rattle.schedule.specs.Checked.{lastCycle, FirstRefused};
 ghost use Rattle.schedule.specs.Cursor.{nextCycle, linesAfter, Counted, Stands};
 
@@ -79,23 +80,15 @@ fn head_at(sched: &[u8], i: usize) -> u64
     4294967296 * high + low
 }
 
-// The last two bytes of record i as one number with the INT level as its low byte and RES above it: one load.
-fn tail_at(sched: &[u8], i: usize) -> u16
+// Whether the INT level and RES of record i are 0 or 1. Read as one number, the compiler makes one load and one test of them.
+fn levels_sound(sched: &[u8], i: usize) -> bool
     requires { ⌜ i < recordCount (now sched) ⌝ }
-    ensures { λ r. ⌜ (r % 256 ≡ recordByte (now (sched .entry)) i 8) × (r / 256 ≡ recordByte (now (sched .entry)) i 9) ⌝ }
+    ensures { λ r. ⌜ r ≡ (leb (recordByte (now (sched .entry)) i 8) 1 && leb (recordByte (now (sched .entry)) i 9) 1) ⌝ }
 {
     let int = byte_at(sched, i, 8) as u16;
     let res = byte_at(sched, i, 9) as u16;
-    256 * res + int
-}
-
-// Whether the INT level and RES of record i are 0 or 1. The compiler makes one test of both.
-fn bytes_pass(sched: &[u8], i: usize) -> bool
-    requires { ⌜ i < recordCount (now sched) ⌝ }
-    ensures { λ r. ⌜ r ≡ eqb (bytesNumber (now (sched .entry)) i) 0 ⌝ }
-{
-    let tail = tail_at(sched, i);
-    !((1 < tail % 256) | (1 < tail / 256))
+    let tail = 256 * res + int;
+    (tail % 256 <= 1) & (tail / 256 <= 1)
 }
 
 // Whether record i, which has this head, is accepted, where those before it are. `last` is the greatest head that has the cycle
@@ -104,7 +97,7 @@ fn accepts(sched: &[u8], i: usize, head: u64, last: u64) -> bool
     requires { ⌜ (i < recordCount (now sched)) × (head / 65536 ≡ recordCycle (now sched) i) × (last ≡ 65536 * lastCycle (now sched) i + 65535) ⌝ }
     ensures { λ r. ⌜ r ≡ eqb (recordNumber (now (sched .entry)) i) 0 ⌝ }
 {
-    if !bytes_pass(sched, i) {
+    if !levels_sound(sched, i) {
         return false;
     }
     if i == 0 {
@@ -139,7 +132,7 @@ fn refusal_at(sched: &[u8], i: usize) -> Outcome
     requires { ⌜ (i < recordCount (now sched)) × (recordNumber (now sched) i ≡ 0 → ⊥) ⌝ }
     ensures { λ r. ⌜ outcomeNumber r ≡ recordNumber (now (sched .entry)) i ⌝ }
 {
-    if bytes_pass(sched, i) {
+    if levels_sound(sched, i) {
         return Outcome::Refused(Refusal::RecordOrder);
     }
     Outcome::Refused(Refusal::RecordBytes)

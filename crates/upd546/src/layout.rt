@@ -3,6 +3,9 @@ use crate::CYCLE_BYTES;
 use crate::LATCHES;
 use crate::RAM_WORDS;
 use crate::STACK_DEPTH;
+use runs::Version;
+ghost use mathlib.Core.Path.{_≡_};
+ghost use Rattle.upd546.specs.StateImage.{imageLength, versionBytes};
 
 // "0-2 the mark `U43`; 3-4 version 1", or 2: written on save and compared on restore.
 pub const IMAGE_MARK: [u8; 3] = *b"U43";
@@ -54,3 +57,21 @@ pub const COUNT_AT: usize = CYCLE_AT + CYCLE_BYTES;
 pub const IMAGE_LENGTH_ONE: usize = COUNT_AT;
 
 pub const IMAGE_LENGTH: usize = COUNT_AT + 1;
+
+pub fn image_length(version: Version) -> usize
+    ensures { λ r. ⌜ r ≡ imageLength version ⌝ }
+{
+    match version {
+        Version::One => IMAGE_LENGTH_ONE,
+        Version::Two => IMAGE_LENGTH,
+    }
+}
+
+pub fn version_bytes(version: Version) -> [u8; 2]
+    ensures { λ r. ⌜ r ≡ versionBytes version ⌝ }
+{
+    match version {
+        Version::One => VERSION_ONE,
+        Version::Two => VERSION_TWO,
+    }
+}

@@ -13,8 +13,8 @@ use borrow.Author.Needs.{needs}
 use Rattle.board.proofs.run_image.Statement.{statement}
 use Rattle.board.proofs.run_image.Tie as tie
 
-restore-requires : tie.Need-restore-requires
-restore-requires c κs = search needs
+restore-current-requires : tie.Need-restore-current-requires
+restore-current-requires c κs = search needs
 
 enum-known-outcome : tie.Need-enum-known-outcome
 enum-known-outcome c = search needs
@@ -28,7 +28,7 @@ returns c =
     let at-restore = at-outcome .before .before .before in
     let a = at-restore .before .before .before .before .before .args in
     let w = at-outcome .outcome .given in
-    let same = sym (ap (λ (o : Outcome). restoreOf (record { outcome = o; state = at-restore .restore .result .state })) (w .1)) ∙ at-restore .restore .ensures in
+    let same = sym (ap (λ (o : Outcome). restoreOf (record { outcome = o; state = at-restore .restore-current .result .state })) (w .1)) ∙ at-restore .restore-current .ensures in
     c .refused .ensures (now (a .log))
     ∙ refused-image upd546 (refusalNumber (w .0 .0)) _ (kindOf (a .runner)) (now (a .image)) (now (a .rom)) (now (a .schedule)) (now (a .log)) (a .n)
     (refusal-some (w .0 .0)) same
@@ -49,8 +49,8 @@ returns-2 c =
     let at-told = at-if .before in
     let at-restore = at-told .before .before .before in
     let a = at-restore .before .before .before .before .before .args in
-    let state = at-restore .restore .result .state in
-    let same = sym (ap (λ (o : Outcome). restoreOf (record { outcome = o; state = state })) (at-told .enum-told .given .1)) ∙ at-restore .restore .ensures in
+    let state = at-restore .restore-current .result .state in
+    let same = sym (ap (λ (o : Outcome). restoreOf (record { outcome = o; state = state })) (at-told .enum-told .given .1)) ∙ at-restore .restore-current .ensures in
     at-run .run-plain .ensures
     ∙ ap (λ (k : Kind). runAnswer upd546 k (now (a .rom)) (now (a .schedule)) state (now (a .log)) (a .n)) (plain-kind (a .runner) (at-if .if1 .taken))
     ∙ done-image upd546 state (kindOf (a .runner)) (now (a .image)) (now (a .rom)) (now (a .schedule)) (now (a .log)) (a .n) same
@@ -68,8 +68,8 @@ returns-3 c =
     let at-told = at-if .before in
     let at-restore = at-told .before .before .before in
     let a = at-restore .before .before .before .before .before .args in
-    let state = at-restore .restore .result .state in
-    let same = sym (ap (λ (o : Outcome). restoreOf (record { outcome = o; state = state })) (at-told .enum-told .given .1)) ∙ at-restore .restore .ensures in
+    let state = at-restore .restore-current .result .state in
+    let same = sym (ap (λ (o : Outcome). restoreOf (record { outcome = o; state = state })) (at-told .enum-told .given .1)) ∙ at-restore .restore-current .ensures in
     at-run .run-skipping .ensures
     ∙ ap (λ (k : Kind). runAnswer upd546 k (now (a .rom)) (now (a .schedule)) state (now (a .log)) (a .n)) (skipping-kind (a .runner) (at-if .if1 .left))
     ∙ done-image upd546 state (kindOf (a .runner)) (now (a .image)) (now (a .rom)) (now (a .schedule)) (now (a .log)) (a .n) same
@@ -78,7 +78,7 @@ pub run-image-spec : {M : Type 1} → statement M
 run-image-spec =
     tie.close
     (tie.spec
-    restore-requires
+    restore-current-requires
     enum-known-outcome
     refused-requires
     returns

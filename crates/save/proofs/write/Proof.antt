@@ -1,71 +1,64 @@
--- The front, the latches, the RAM and the cycle number. Assumes nothing.
+-- What both versions have, and the count behind it where there is one. Assumes nothing.
+use native.Mathlib.Omega.{arith}
 use denote.Ref.{now}
-use Rattle.upd546.specs.Bytes.{bytesOf}
-use Rattle.laws.proofs.Tails.{put-front}
-use Rattle.save.proofs.Writing.{image-written}
+use Rattle.save.proofs.Writing.{one-least, one-written, two-written}
 use borrow.Author.Needs.{needs}
 use Rattle.save.proofs.write.Statement.{statement}
 use Rattle.save.proofs.write.Tie as tie
 
-write-core-requires : tie.Need-write-core-requires
-write-core-requires c κs = search needs
+write-common-requires : tie.Need-write-common-requires
+write-common-requires c κs =
+    let at-entry = c .before .before in
+    (at-entry .pre .0, omega (arith, one-least (at-entry .args .version), at-entry .pre .1))
+
+enum-told : tie.Need-enum-told
+enum-told c = search needs
 
 slice-aggregate-put : tie.Need-slice-aggregate-put
 slice-aggregate-put c = search needs
 
 put-requires : tie.Need-put-requires
-put-requires c κs = search needs
+put-requires c κs =
+    let at-told = c .before .before in
+    let at-entry = at-told .before .before .before .before .before .before .before in
+    let room = rw (at-told .enum-told .given .1) at (at-entry .pre .1) in
+    search (needs, room)
 
-ram-bytes-requires : tie.Need-ram-bytes-requires
-ram-bytes-requires c κs = search needs
-
-slice-aggregate-put-2 : tie.Need-slice-aggregate-put-2
-slice-aggregate-put-2 c = search needs
-
-put-requires-2 : tie.Need-put-requires-2
-put-requires-2 c κs = search needs
-
-sub-put-six : tie.Need-sub-put-six
-sub-put-six c = search needs
-
-part-put-six-start : tie.Need-part-put-six-start
-part-put-six-start c = search needs
-
-part-put-six-end : tie.Need-part-put-six-end
-part-put-six-end c = search needs
-
-put-six-requires : tie.Need-put-six-requires
-put-six-requires c κs = search needs
+enum-told-2 : tie.Need-enum-told-2
+enum-told-2 c = search needs
 
 same-length : tie.Need-same-length
 same-length c = search needs
 
 returns : tie.Need-returns
 returns c =
-    let at-put-six = c .before .before in
-    let at-put2 = at-put-six .before .before .before .before in
-    let at-ram-bytes = at-put2 .before .before in
-    let at-put = at-ram-bytes .before .before .before .before in
-    let at-write-core = at-put .before .before .before .before .before in
-    let at-entry = at-write-core .before .before .before .before .before in
-    let s = at-entry .args .s in
-    image-written s (at-entry .pre .0) (now (at-entry .args .buffer)) (at-write-core .write-core .ensures)
-    (at-put .put .ensures) (rw (at-ram-bytes .ram-bytes .ensures) at (at-put2 .put2 .ensures))
-    (put-front 75 (at-put2 .put2 .last .0) (bytesOf 6 (s .cycle .0)) (at-put-six .put-six .ensures))
+    let at-put = c .before .before in
+    let at-told = at-put .before .before .before in
+    let at-common = at-told .before .before .before .before in
+    let at-entry = at-common .before .before .before in
+    let two = at-told .enum-told .given .1 in
+    rw two (two-written (at-entry .args .s) (at-entry .pre .0) (now (at-entry .args .buffer)) (rw two at (at-common .write-common .ensures)) (at-put .put .ensures))
+
+same-length-2 : tie.Need-same-length-2
+same-length-2 c = search needs
+
+returns-2 : tie.Need-returns-2
+returns-2 c =
+    let at-common = c .before .before .before .before in
+    let at-entry = at-common .before .before .before in
+    let one = c .enum-told2 .given .1 in
+    rw one (one-written (at-entry .args .s) (now (at-entry .args .buffer)) (rw one at (at-common .write-common .ensures)))
 
 pub write-spec : {M : Type 1} → statement M
 write-spec =
     tie.close
     (tie.spec
-    write-core-requires
+    write-common-requires
+    enum-told
     slice-aggregate-put
     put-requires
-    ram-bytes-requires
-    slice-aggregate-put-2
-    put-requires-2
-    sub-put-six
-    part-put-six-start
-    part-put-six-end
-    put-six-requires
+    enum-told-2
     same-length
-    returns)
+    returns
+    same-length-2
+    returns-2)
