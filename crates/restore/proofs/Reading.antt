@@ -64,7 +64,8 @@ pub head-length : (image : List ℕ) → headNumber image ≡ 0 → imageLength 
 unfolding headNumber
 head-length image e =
     let v = versionOf image in
-    at-least v (length image) (eqb-true (length image) (imageLength v) (passes (eqb (length image) (imageLength v)) 31 refl (first-at _ e 0)))
+    at-least v (length image)
+    (eqb-true (length image) (imageLength v) (passes (eqb (length image) (imageLength v)) 31 refl (first-at _ e 0)))
 
 -- THE LOOP that compares bytes with those expected, at the byte i
 module _ (bytes expected : List ℕ) (at i : ℕ) (fits : at + length expected ≤ length bytes) (more : i < length expected) where

@@ -50,8 +50,8 @@ module _ {S : Type 0} (M : Machine S) where
   unfolding saveNumber
   save-fit v s buffer e = (first-at _ e 0, first-at _ e 1)
 
-  pub fit-save : (v : Version) (s : S) (buffer : List ℕ) → M .stateNumber s ≡ 0 → M .versionNumber v s ≡ 0 → M .imageLength v ≤ length buffer
-      → saveNumber M v s buffer ≡ 0
+  pub fit-save : (v : Version) (s : S) (buffer : List ℕ) → M .stateNumber s ≡ 0 → M .versionNumber v s ≡ 0
+      → M .imageLength v ≤ length buffer → saveNumber M v s buffer ≡ 0
   unfolding saveNumber firstOf
   fit-save v s buffer e f h = rw (e, f, le-leb (M .imageLength v) (length buffer) h)
 
@@ -207,7 +207,8 @@ module _ {S : Type 0} (M : Machine S) where
       = first-past _ _ (ap (λ (b : Bool). unless b 31) (eq-eqb (length bytes) (M .imageLength Two) h)) ∙ last-one (M .imageNumber bytes) in
       ap (λ (k : ℕ). got M k (M .ofImage bytes)) number
 
-  pub current-other : (bytes : List ℕ) → (length bytes ≡ M .imageLength Two → ⊥) → currentAnswer M bytes ≡ record { number = 31; state = M .fresh }
+  pub current-other : (bytes : List ℕ) → (length bytes ≡ M .imageLength Two → ⊥)
+      → currentAnswer M bytes ≡ record { number = 31; state = M .fresh }
   unfolding currentAnswer currentNumber firstOf
   current-other bytes h = rw (ne-eqb (length bytes) (M .imageLength Two) h)
 

@@ -40,7 +40,8 @@ module _ {S : Type 0} (M : Machine S) where
   -- WHAT A CONVERSION ANSWERS
 
   -- where the restore is refused
-  pub convert-refused : (from to : List ℕ) (k : ℕ) (s : S) (version : ℕ) → restoreAnswer M from ≡ record { number = k; state = s } → (k ≡ 0 → ⊥)
+  pub convert-refused : (from to : List ℕ) (k : ℕ) (s : S) (version : ℕ)
+      → restoreAnswer M from ≡ record { number = k; state = s } → (k ≡ 0 → ⊥)
       → convertAnswer M from to version ≡ record { number = k; buffer = to }
   unfolding convertAnswer
   convert-refused from to zero s version e h = absurd (h refl)
@@ -58,7 +59,8 @@ module _ {S : Type 0} (M : Machine S) where
     pub accepted-sound : (bytes : List ℕ) → Bytes bytes → M .imageNumber bytes ≡ 0 → M .stateNumber (M .ofImage bytes) ≡ 0
     accepted-sound bytes b e = let v = L .some-version bytes e in L .exact (v .0) bytes b (v .1) e .sound
 
-    save-number : (wanted : Option Version) (s : S) (to : List ℕ) → M .stateNumber s ≡ 0 → saveWanted M wanted s to .number ≡ wantedNumber M wanted s to
+    save-number : (wanted : Option Version) (s : S) (to : List ℕ) → M .stateNumber s ≡ 0
+        → saveWanted M wanted s to .number ≡ wantedNumber M wanted s to
     unfolding saveNumber
     save-number none s to e = refl
     save-number (some v) s to e = by-number M (save v s to) ∙ first-past (M .stateNumber s) _ e
@@ -80,10 +82,12 @@ module _ {S : Type 0} (M : Machine S) where
 
   module _ (I : ImageLaws M) (L : AcceptedLaws M) where
     -- the state that a restore answers, of bytes that it takes
-    read : (bytes : List ℕ) → restoreAnswer M bytes .number ≡ 0 → restoreAnswer M bytes ≡ record { number = 0; state = restoreAnswer M bytes .state }
+    read : (bytes : List ℕ) → restoreAnswer M bytes .number ≡ 0
+        → restoreAnswer M bytes ≡ record { number = 0; state = restoreAnswer M bytes .state }
     read bytes e = ap (λ (k : ℕ). record { number = k; state = restoreAnswer M bytes .state }) e
 
-    state-read : (bytes : List ℕ) → restoreAnswer M bytes .number ≡ 0 → (M .imageNumber bytes ≡ 0) × (M .ofImage bytes ≡ restoreAnswer M bytes .state)
+    state-read : (bytes : List ℕ) → restoreAnswer M bytes .number ≡ 0
+        → (M .imageNumber bytes ≡ 0) × (M .ofImage bytes ≡ restoreAnswer M bytes .state)
     unfolding restoreAnswer
     state-read bytes e =
         let accepted : M .imageNumber bytes ≡ 0 = sym (by-number M (restore bytes)) ∙ e in
@@ -95,7 +99,8 @@ module _ {S : Type 0} (M : Machine S) where
         let x = state-read bytes e in
         let o : ImageOf M One bytes s = subst (λ (t : S). ImageOf M One bytes t) (x .1) (L .exact One bytes b h (x .0)) in
         let all : M .versionNumber Two s ≡ 0 = I .two-holds-all s in
-        let again : restoreAnswer M (savedAs M Two s forth) ≡ record { number = 0; state = s } = saved-restores I Two s forth (o .sound) all room in
+        let again : restoreAnswer M (savedAs M Two s forth) ≡ record { number = 0; state = s }
+        = saved-restores I Two s forth (o .sound) all room in
         record {
           forward = ap (λ (a : SaveAnswer). a .number) (saves Two s forth (o .sound) all room);
           taken = again ∙ sym (read bytes e);

@@ -46,7 +46,8 @@ module _ {S : Type 0} (M : Machine S) where
   abbrev pub EveryConversionRefusesInOrder : Type 0
   EveryConversionRefusesInOrder =
       (from to : List ℕ) (version : ℕ) → Bytes from
-      → convertAnswer from to version .number ≡ firstOf (M .imageNumber from ∷ wantedNumber (versionNamed version) (M .ofImage from) to ∷ [])
+      → convertAnswer from to version .number
+      ≡ firstOf (M .imageNumber from ∷ wantedNumber (versionNamed version) (M .ofImage from) to ∷ [])
 
 -- What the claims take from a machine: an accepted image has a version's length, and is the image of an accepted state, which that
 -- version holds.

@@ -31,7 +31,8 @@ module _ (version : Version) where
   front-length : (c : Core) → ValidCore c → length (frontBytes version c) ≡ 20
   front-length c v = omega (arith, length-append (wordsBytes (c .flow .stack)) (coreBytes c), stack-length c v)
 
-  pub front-written : (c : Core) → ValidCore c → (b₀ : List ℕ) {b₁ b₂ b₃ b₄ b₅ : List ℕ} → Put b₀ 0 imageMark b₁ → Put b₁ 3 (versionBytes version) b₂
+  pub front-written : (c : Core) → ValidCore c → (b₀ : List ℕ) {b₁ b₂ b₃ b₄ b₅ : List ℕ}
+      → Put b₀ 0 imageMark b₁ → Put b₁ 3 (versionBytes version) b₂
       → Put b₂ 5 (bytesOf 2 (c .flow .pc)) b₃ → Put b₃ 7 (wordsBytes (c .flow .stack)) b₄ → Put b₄ 13 (coreBytes c) b₅
       → b₅ ≡ frontBytes version c ++ drop 20 b₀
   front-written c v b₀ {b₁} {b₂} {b₃} {b₄} p₁ p₂ p₃ p₄ p₅ =
@@ -52,7 +53,8 @@ module _ (version : Version) where
     ram-length =
         let front = frontBytes version (s .core) in
         length-append (front ++ s .ports) (packed (s .ram))
-        ∙ omega (arith, length-append front (s .ports), front-length (s .core) (v .core), v .ports .count, length-packed 48 (s .ram) (v .ram .count))
+        ∙ omega
+        (arith, length-append front (s .ports), front-length (s .core) (v .core), v .ports .count, length-packed 48 (s .ram) (v .ram .count))
 
     pub common-written : (b₀ : List ℕ) {b₁ b₂ b₃ b₄ : List ℕ} → b₁ ≡ frontBytes version (s .core) ++ drop 20 b₀ → Put b₁ 20 (s .ports) b₂
         → Put b₂ 27 (packed (s .ram)) b₃ → Put b₃ 75 (bytesOf 6 (s .cycle .0)) b₄ → b₄ ≡ commonBytes version s ++ drop (imageLength One) b₀
@@ -75,7 +77,8 @@ pub one-least : (v : Version) → imageLength One ≤ imageLength v
 one-least One = omega arith
 one-least Two = omega arith
 
-pub one-written : (s : State) (b₀ : List ℕ) {b : List ℕ} → b ≡ commonBytes One s ++ drop (imageLength One) b₀ → b ≡ imageOf One s ++ drop (imageLength One) b₀
+pub one-written : (s : State) (b₀ : List ℕ) {b : List ℕ} → b ≡ commonBytes One s ++ drop (imageLength One) b₀
+    → b ≡ imageOf One s ++ drop (imageLength One) b₀
 unfolding imageOf
 one-written s b₀ e = e ∙ ap (λ (l : List ℕ). l ++ drop (imageLength One) b₀) (sym (append-nil (commonBytes One s)))
 

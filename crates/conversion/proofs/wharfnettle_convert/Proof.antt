@@ -48,7 +48,8 @@ outcome-number-requires c κs = search needs
 returns : tie.Need-returns
 returns c =
     let at = c .before in
-    sym (convert-refused upd546 (from at) (to at) (at .outcome-number .result) (state at) (entry at .args .version) (restored at) (c .if1 .taken))
+    sym (convert-refused upd546 (from at) (to at) (at .outcome-number .result) (state at) (entry at .args .version) (restored at)
+    (c .if1 .taken))
 
 save-requires : tie.Need-save-requires
 save-requires c κs = search needs
@@ -66,7 +67,8 @@ returns-2 c =
     let at-if1 = at-if2 .before in
     let at = at-if1 .before in
     rw (c .outcome-number2 .ensures)
-    (at-save .save .ensures ∙ sym (converted at-if1 ∙ ap (λ (k : ℕ). saveWanted upd546 (versionNamed k) (state at) (to at)) (at-if2 .if2 .taken)))
+    (at-save .save .ensures
+    ∙ sym (converted at-if1 ∙ ap (λ (k : ℕ). saveWanted upd546 (versionNamed k) (state at) (to at)) (at-if2 .if2 .taken)))
 
 save-requires-2 : tie.Need-save-requires-2
 save-requires-2 c κs = search needs
@@ -84,7 +86,8 @@ returns-3 c =
     let at-if1 = at-if3 .before .before in
     let at = at-if1 .before in
     rw (c .outcome-number3 .ensures)
-    (at-save .save2 .ensures ∙ sym (converted at-if1 ∙ ap (λ (k : ℕ). saveWanted upd546 (versionNamed k) (state at) (to at)) (at-if3 .if3 .taken)))
+    (at-save .save2 .ensures
+    ∙ sym (converted at-if1 ∙ ap (λ (k : ℕ). saveWanted upd546 (versionNamed k) (state at) (to at)) (at-if3 .if3 .taken)))
 
 refusal-number-requires : tie.Need-refusal-number-requires
 refusal-number-requires c κs = search needs

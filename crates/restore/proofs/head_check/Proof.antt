@@ -44,7 +44,8 @@ abbrev if3 : tie.Else3 → tie.Else2
 if3 c = c .before .before .before .before
 
 same-version : (c : tie.Else3) → sameNumbers (part (image (if1 (if2 (if3 c)))) 3 2) (versionBytes (version (if1 (if2 (if3 c))))) ≡ true
-same-version c = sym (rw (c .before .before .before .version-bytes .ensures) at (c .before .stands-at2 .ensures)) ∙ not-false _ (c .if3 .left)
+same-version c =
+    sym (rw (c .before .before .before .version-bytes .ensures) at (c .before .stands-at2 .ensures)) ∙ not-false _ (c .if3 .left)
 
 version-of-requires : tie.Need-version-of-requires
 version-of-requires c κs = search needs
@@ -56,7 +57,8 @@ returns : tie.Need-returns
 returns c =
     let at-length = c .before in
     let at-version = at-length .before in
-    by-length (image at-version) (version at-version) (at-version .version-of .ensures) (λ e. c .if1 .taken (e ∙ sym (at-length .image-length .ensures)))
+    by-length (image at-version) (version at-version) (at-version .version-of .ensures)
+    (λ e. c .if1 .taken (e ∙ sym (at-length .image-length .ensures)))
 
 slice-aggregate-stands-at : tie.Need-slice-aggregate-stands-at
 slice-aggregate-stands-at c = search needs
@@ -97,16 +99,16 @@ returns-4 c =
     let at-if3 = c .before .before in
     let at-if2 = if3 at-if3 in
     let at-if1 = if2 at-if2 in
-    by-flags (image (if1 at-if1)) (version (if1 at-if1)) (if1 at-if1 .version-of .ensures) (long at-if1) (marked at-if2) (same-version at-if3)
-    (c .if4 .taken)
+    by-flags (image (if1 at-if1)) (version (if1 at-if1)) (if1 at-if1 .version-of .ensures) (long at-if1) (marked at-if2)
+    (same-version at-if3) (c .if4 .taken)
 
 returns-5 : tie.Need-returns-5
 returns-5 c =
     let at-if3 = c .before .before in
     let at-if2 = if3 at-if3 in
     let at-if1 = if2 at-if2 in
-    by-none (image (if1 at-if1)) (version (if1 at-if1)) (if1 at-if1 .version-of .ensures) (long at-if1) (marked at-if2) (same-version at-if3)
-    (c .if4 .left)
+    by-none (image (if1 at-if1)) (version (if1 at-if1)) (if1 at-if1 .version-of .ensures) (long at-if1) (marked at-if2)
+    (same-version at-if3) (c .if4 .left)
 
 pub head-check-spec : {M : Type 1} → statement M
 head-check-spec =

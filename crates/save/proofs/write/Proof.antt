@@ -37,7 +37,8 @@ returns c =
     let at-common = at-told .before .before .before .before in
     let at-entry = at-common .before .before .before in
     let two = at-told .enum-told .given .1 in
-    rw two (two-written (at-entry .args .s) (at-entry .pre .0) (now (at-entry .args .buffer)) (rw two at (at-common .write-common .ensures)) (at-put .put .ensures))
+    rw two
+    (two-written (at-entry .args .s) (at-entry .pre .0) (now (at-entry .args .buffer)) (rw two at (at-common .write-common .ensures)) (at-put .put .ensures))
 
 same-length-2 : tie.Need-same-length-2
 same-length-2 c = search needs
