@@ -20,21 +20,22 @@ use Rattle.upd546.specs.declared.Timer.{Timer}
 use Rattle.upd546.specs.declared.Lines.{Lines}
 use Rattle.upd546.specs.declared.State.{State}
 use Rattle.upd546.specs.TheMachine.{byteAt, markEi, markStm}
-use Rattle.upd546.specs.Parts.{stateOf, withTimer, setOwed}
+use Rattle.upd546.specs.Parts.{withParts, stateOf, withTimer, setOwed}
 use Rattle.upd546.specs.TheLineSchedule.{linesAt}
 use Rattle.upd546.specs.Timer.{ticksLeft}
-use Rattle.upd546.specs.OneMachineCycle.{blocks, accepts, taken, given, execute, onOwed, onAccepts, cycle}
-use Rattle.upd546.specs.TwoRunners.{atTtm, atJcpBack, mayJump, jumpLength, upd546}
+use Rattle.upd546.specs.OneMachineCycle.{blocks, accepts, taken, given, execute, onOwed, onAccepts, ordinaryCycle}
+use Rattle.upd546.specs.TwoRunners.{atTtm, atJcpBack, mayJump, waitLength}
 use Rattle.laws.specs.Timer.{ticks}
+use Rattle.laws.specs.Ordinary.{stepsOf, ordinary}
 use Rattle.laws.specs.Burst.{Free, unticked, forward, broughtForward}
 use Rattle.laws.specs.Stops.{StopNumber}
 use Rattle.laws.specs.Valid.{Scalars, ValidStack, ValidPorts, ValidRam, Valid, ValidLines}
 use Rattle.laws.proofs.Lists.{and-left, and-right}
 use Rattle.laws.proofs.Lines.{lines-valid}
 use Rattle.laws.proofs.Cycle.{taken-keeps, unticked-valid}
-use Rattle.laws.proofs.Stops.{stop-number}
+use Rattle.laws.proofs.Stops.{steps-stop}
 use Rattle.laws.proofs.Tails.{put-none, put-more, put-length}
-use Rattle.laws.proofs.Jump.{free-accepts, blocked-accepts, cycle-due, jump-length-none}
+use Rattle.laws.proofs.Jump.{free-accepts, blocked-accepts, cycle-due, wait-length-none}
 use Rattle.laws.proofs.Burst.{tm-stays, ticks-stopped, forward-none, forward-on, forward-stm, execute-late, Begun, begun-is, reaches-later}
 use Rattle.jump.specs.Boundary.{watchCode}
 use Rattle.jump.proofs.Lengths.{no-ttm, both-one, stopped, no-loop}
@@ -76,17 +77,15 @@ pub record Riding (skips : Bool) (rom sched : List ℕ) (l : Lines) (limit : ℕ
   pub w : List ℕ
   pub d : ℕ
   pub b : ℕ
-  pub steps : OneByOne upd546 rom sched skips (length log₀ - at₀) (limit - s .cycle .0) s t w d b
-  pub ram-is : t .ram ≡ p .ram
-  pub ports-is : t .ports ≡ p .ports
-  pub cycle-is : t .cycle .0 ≡ p .done
+  pub steps : OneByOne ordinary rom sched skips (length log₀ - at₀) (limit - s .cycle .0) s t w d b
+  pub parts : t ≡ stateOf (t .core) (p .ram) (p .ports) (p .done)
   pub done-is : p .done ≡ s .cycle .0 + d
   pub begun-is : p .begun ≡ begun₀ + b
   pub few : b ≤ d
-  pub due-is : cycle rom sched t ≡ execute rom l t (withTimer (p .core) (ticks (p .done - p .since) (p .core .timer)))
+  pub due-is : stepsOf rom sched t ≡ execute rom l t (withTimer (p .core) (ticks (p .done - p .since) (p .core .timer)))
   pub valid : Valid (stateOf (p .core) (p .ram) (p .ports) (p .done))
   pub level : p .core .interrupt .level ≡ l .int
-  pub no-jump : skips ≡ true → jumpLength rom sched t (limit - s .cycle .0 - d) ≡ 0
+  pub no-jump : skips ≡ true → waitLength rom sched t (limit - s .cycle .0 - d) ≡ 0
   pub inside : p .done < p .horizon
   pub in-limit : p .horizon ≤ limit
   pub before-tick : 0 < p .core .timer .register → p .horizon ≤ p .since + ticksLeft (p .core .timer)
@@ -138,8 +137,8 @@ module _ {skips : Bool} {rom sched table positions : List ℕ} {l : Lines} {limi
   l-valid = subst ValidLines lines-here (lines-valid rom sched (s .cycle .0) (k .turn .lent .panel .sched-bytes) (k .turn .lent .panel .not-refused))
 
   -- the first instruction
-  first-due : cycle rom sched s ≡ execute rom l s first
-  unfolding cycle
+  first-due : stepsOf rom sched s ≡ execute rom l s first
+  unfolding ordinaryCycle
   first-due =
       let n = linesAt sched (s .cycle .0) in
       ap (λ (x : Bool). onAccepts x rom n s) (k .due .not-accepted)
@@ -173,9 +172,7 @@ module _ {skips : Bool} {rom sched table positions : List ℕ} {l : Lines} {limi
         d = 0;
         b = 0;
         steps = none;
-        ram-is = refl;
-        ports-is = refl;
-        cycle-is = refl;
+        parts = k .turn .parts;
         done-is = omega arith;
         begun-is = omega arith;
         few = omega arith;
@@ -184,6 +181,7 @@ module _ {skips : Bool} {rom sched table positions : List ℕ} {l : Lines} {limi
           core = rw (k .first-is) (taken-keeps l (s .core) l-valid (k .turn .valid .core));
           ports = k .turn .valid .ports;
           ram = k .turn .valid .ram;
+          count = omega arith;
           cycle = k .turn .valid .cycle;
         };
         level = first-level;
@@ -233,7 +231,10 @@ module _ {skips : Bool} {rom sched table positions : List ℕ} {l : Lines} {limi
     -- the machine's state and the code's differ in the core alone, which an instruction takes from elsewhere
     same-outcome : unticked rom l (c .t) (p .core) ≡ unticked rom l here (p .core)
     unfolding unticked given
-    same-outcome = rw (c .ram-is, c .ports-is, c .cycle-is)
+    same-outcome = ap (λ (t : State). unticked rom l t (p .core)) (c .parts)
+
+    cycle-is : c .t .cycle .0 ≡ p .done
+    cycle-is = ap (λ (t : State). t .cycle .0) (c .parts)
 
     -- how late the core's timer is
     abbrev late : ℕ
@@ -242,13 +243,13 @@ module _ {skips : Bool} {rom sched table positions : List ℕ} {l : Lines} {limi
     tm : ticks late (p .core .timer) .tm ≡ p .core .timer .tm
     tm = tm-stays late (p .core .timer) (c .valid .core .scalars .register) (λ q. omega (arith, c .inside, c .set, c .before-tick q))
 
-    outcome : cycle rom sched (c .t) ≡ broughtForward (suc late) (unticked rom l here (p .core))
+    outcome : stepsOf rom sched (c .t) ≡ broughtForward (suc late) (unticked rom l here (p .core))
     outcome = c .due-is ∙ execute-late rom l (c .t) (p .core) late tm ∙ ap (broughtForward (suc late)) same-outcome
 
     module _ {r : Started} {ram′ ports′ log′ : List ℕ} (a : Answers rom l here (p .at) (p .log) r ram′ ports′ log′) where
       -- IT ISN'T BEGUN
       record Unbegun : Type 0 where
-        stops : within upd546 rom sched (length log₀ - p .at) 1 (c .t) ≡ still (c .t) (some (r .stop))
+        stops : within ordinary rom sched (length log₀ - p .at) 1 (c .t) ≡ still (c .t) (some (r .stop))
         known : (r .stop ≡ 3 → ⊥) → StopNumber (r .stop)
         core-is : r .core ≡ p .core
         ram-is : ram′ ≡ p .ram
@@ -259,12 +260,12 @@ module _ {skips : Bool} {rom sched table positions : List ℕ} {l : Lines} {limi
       unfolding answerOn
       unbegun g = go (unticked rom l here (p .core)) outcome (a .is)
         where
-          go : (o : Out State) → cycle rom sched (c .t) ≡ broughtForward (suc late) o → startOf r ram′ ports′ log′ ≡ answerOn (p .at) o here (p .log) → Unbegun
+          go : (o : Out State) → stepsOf rom sched (c .t) ≡ broughtForward (suc late) o → startOf r ram′ ports′ log′ ≡ answerOn (p .at) o here (p .log) → Unbegun
           go (stop i) q z =
               let same : r .stop ≡ i = ap (λ (y : Answer). y .stop) z in
               record {
-                stops = one-stops upd546 rom sched (length log₀ - p .at) (c .t) i q ∙ ap (λ (y : ℕ). still (c .t) (some y)) (sym same);
-                known = λ d. subst StopNumber (sym same) (stop-number rom sched (c .t) i q);
+                stops = one-stops ordinary rom sched (length log₀ - p .at) (c .t) i q ∙ ap (λ (y : ℕ). still (c .t) (some y)) (sym same);
+                known = λ d. subst StopNumber (sym same) (steps-stop rom sched (c .t) i q);
                 core-is = ap (λ (y : Answer). y .core) z;
                 ram-is = ap (λ (y : Answer). y .ram) z;
                 ports-is = ap (λ (y : Answer). y .ports) z;
@@ -282,7 +283,7 @@ module _ {skips : Bool} {rom sched table positions : List ℕ} {l : Lines} {limi
                   let same : r .stop ≡ 3 = ap (λ (y : Answer). y .stop) z in
                   let full = leb-false (length x) (length (p .log) - p .at) y in
                   record {
-                    stops = one-fills upd546 rom sched (length log₀ - p .at) (c .t) _ x e q (omega (arith, full, log-length)) ∙ ap (λ (y : ℕ). still (c .t) (some y)) (sym same);
+                    stops = one-fills ordinary rom sched (length log₀ - p .at) (c .t) _ x e q (omega (arith, full, log-length)) ∙ ap (λ (y : ℕ). still (c .t) (some y)) (sym same);
                     known = λ d. absurd (d same);
                     core-is = ap (λ (y : Answer). y .core) z;
                     ram-is = ap (λ (y : Answer). y .ram) z;
@@ -300,12 +301,12 @@ module _ {skips : Bool} {rom sched table positions : List ℕ} {l : Lines} {limi
                 let e = c .at-start z in
                 let same-place : p .at ≡ at₀ = omega (arith, c .place, ap length (e .1)) in
                 record {
-                  stops = ap₂ (λ (y : ℕ) (t : State). within upd546 rom sched (length log₀ - y) 1 t) (sym same-place) (sym (e .0)) ∙ o .stops
+                  stops = ap₂ (λ (y : ℕ) (t : State). within ordinary rom sched (length log₀ - y) 1 t) (sym same-place) (sym (e .0)) ∙ o .stops
                       ∙ ap (λ (t : State). still t (some (r .stop))) (e .0);
                   some-number = g;
                   known = o .known;
-                  ram-is = o .ram-is ∙ sym (c .ram-is) ∙ ap (λ (t : State). t .ram) (e .0);
-                  ports-is = o .ports-is ∙ sym (c .ports-is) ∙ ap (λ (t : State). t .ports) (e .0);
+                  ram-is = o .ram-is ∙ ap (λ (t : State). t .ram) (sym (c .parts) ∙ e .0);
+                  ports-is = o .ports-is ∙ ap (λ (t : State). t .ports) (sym (c .parts) ∙ e .0);
                   log-is = o .log-is ∙ c .log-is ∙ ap (appended log₀ at₀) (e .1) ∙ put-none log₀ at₀;
                 };
             went = λ n.
@@ -315,7 +316,7 @@ module _ {skips : Bool} {rom sched table positions : List ℕ} {l : Lines} {limi
                   w = c .w;
                   some-cycles = omega (arith, n, c .done-is);
                   steps = rw (o .ram-is, o .ports-is)
-                      (subst (λ (t : State). OneByOne upd546 rom sched skips (length log₀ - at₀) (limit - s .cycle .0) s t (c .w) (c .d) (c .b)) (c .state-is n) (c .steps));
+                      (subst (λ (t : State). OneByOne ordinary rom sched skips (length log₀ - at₀) (limit - s .cycle .0) s t (c .w) (c .d) (c .b)) (c .state-is n) (c .steps));
                   cycle-is = c .done-is;
                   begun-is = c .begun-is;
                   at-is = c .place;
@@ -347,9 +348,9 @@ module _ {skips : Bool} {rom sched table positions : List ℕ} {l : Lines} {limi
       unfolding answerOn
       gone g = go (unticked rom l here (p .core)) same-outcome outcome (a .is)
         where
-          go : (o : Out State) → unticked rom l (c .t) (p .core) ≡ o → cycle rom sched (c .t) ≡ broughtForward (suc late) o
+          go : (o : Out State) → unticked rom l (c .t) (p .core) ≡ o → stepsOf rom sched (c .t) ≡ broughtForward (suc late) o
               → startOf r ram′ ports′ log′ ≡ answerOn (p .at) o here (p .log) → Gone
-          go (stop i) v q z = absurd (stop-number rom sched (c .t) i q .some (sym (ap (λ (y : Answer). y .stop) z) ∙ g))
+          go (stop i) v q z = absurd (steps-stop rom sched (c .t) i q .some (sym (ap (λ (y : Answer). y .stop) z) ∙ g))
           go (went u x e) v q z = fit (leb (length x) (length (p .log) - p .at)) refl z
             where
               fit : (f : Bool) → leb (length x) (length (p .log) - p .at) ≡ f
@@ -426,7 +427,7 @@ module _ {skips : Bool} {rom sched table positions : List ℕ} {l : Lines} {limi
 
           -- the machine before a later cycle, up to the event
           reached : (n : ℕ) → p .done < n → n ≤ over → n ≤ h′
-              → OneByOne upd546 rom sched skips (length log₀ - at₀) (limit - s .cycle .0) s
+              → OneByOne ordinary rom sched skips (length log₀ - at₀) (limit - s .cycle .0) s
               (stateOf (forward (n - since′) (setOwed (over - n) (r .core))) ram′ ports′ n) (c .w ++ gone g .x) (n - s .cycle .0) (c .b + 1)
           reached n q v y =
               let o = gone g in
@@ -435,20 +436,22 @@ module _ {skips : Bool} {rom sched table positions : List ℕ} {l : Lines} {limi
               let owed-is = ap (λ (y : Core). y .owed) (o .core-is) in
               let e₁ : suc (c .d) + j ≡ n - s .cycle .0 = omega (arith, c .done-is) in
               let e₂ : o .u .core .owed - j ≡ over - n = omega (arith, owed-is) in
-              let e₃ : o .u .cycle .0 + j ≡ n = omega (arith, b .rises, c .cycle-is) in
+              let e₃ : o .u .cycle .0 + j ≡ n = omega (arith, b .rises, cycle-is) in
               let level : (i : ℕ) → i < j → linesAt sched (o .u .cycle .0 + i) .int ≡ o .u .core .interrupt .level =
               λ i z. ap (λ (y : Lines). y .int)
-              (k .turn .lines (o .u .cycle .0 + i) (omega (arith, b .rises, c .cycle-is, c .done-is)) (omega (arith, b .rises, c .cycle-is, m .in-limit)))
+              (k .turn .lines (o .u .cycle .0 + i) (omega (arith, b .rises, cycle-is, c .done-is)) (omega (arith, b .rises, cycle-is, m .in-limit)))
               ∙ sym (b .level ∙ c .level) in
               let all = reaches-later rom sched l skips (length log₀ - at₀) (limit - s .cycle .0) s (c .t) (c .w) (c .d) (c .b) (c .steps) (p .core) late (c .due-is) tm (c .no-jump)
               (o .u) (o .x) (o .e) (o .is) (omega (arith, o .fits)) (omega (arith, c .inside, c .in-limit, c .done-is)) j (omega (arith, owed-is))
               (omega (arith, m .in-limit, c .done-is)) level in
               let f = forward-by (suc late + j) (n - since′) (setOwed (over - n) (r .core)) (λ i. omega (arith, c .set, m .same i .0)) in
-              let to : stateOf (forward (suc late + j) (setOwed (o .u .core .owed - j) (o .u .core))) (o .u .ram) (o .u .ports) (o .u .cycle .0 + j)
+              let parts = b .kept ∙ ap (λ (t : State). withParts t (o .u .core) (o .u .ram) (o .u .ports) (o .u .cycle .0)) (c .parts) in
+              let to : withParts (o .u) (forward (suc late + j) (setOwed (o .u .core .owed - j) (o .u .core))) (o .u .ram) (o .u .ports) (o .u .cycle .0 + j)
               ≡ stateOf (forward (n - since′) (setOwed (over - n) (r .core))) ram′ ports′ n
-              = (λ i. stateOf (forward (suc late + j) (setOwed (e₂ i) (sym (o .core-is) i))) (sym (o .ram-is) i) (sym (o .ports-is) i) (e₃ i))
+              = ap (λ (u : State). withParts u (forward (suc late + j) (setOwed (o .u .core .owed - j) (o .u .core))) (o .u .ram) (o .u .ports) (o .u .cycle .0 + j)) parts
+              ∙ (λ i. stateOf (forward (suc late + j) (setOwed (e₂ i) (sym (o .core-is) i))) (sym (o .ram-is) i) (sym (o .ports-is) i) (e₃ i))
               ∙ ap (λ (y : Core). stateOf y ram′ ports′ n) f in
-              let z = subst (λ (t : State). OneByOne upd546 rom sched skips (length log₀ - at₀) (limit - s .cycle .0) s t (c .w ++ o .x) (suc (c .d) + j) (c .b + o .e)) to all in
+              let z = subst (λ (t : State). OneByOne ordinary rom sched skips (length log₀ - at₀) (limit - s .cycle .0) s t (c .w ++ o .x) (suc (c .d) + j) (c .b + o .e)) to all in
               rw (e₁, b .one) at z
 
           pub ends : Bursts skips rom sched limit s log₀ at₀ begun₀ (endedAt (setOwed 0 (r .core)) over (p .begun + 1) (r .at) h′ since′) ram′ ports′ log′
@@ -536,6 +539,7 @@ module _ {skips : Bool} {rom sched table positions : List ℕ} {l : Lines} {limi
                   core = record { scalars = omega (arith, scalars); stack = subst (λ (y : Core). ValidStack (y .flow .stack)) (sym (o .core-is)) (v .core .stack) };
                   ports = subst ValidPorts (sym (o .ports-is)) (v .ports);
                   ram = subst ValidRam (sym (o .ram-is)) (v .ram);
+                  count = omega arith;
                   cycle = omega (arith, ahead, m .in-limit, k .turn .in-limit);
                 }
 
@@ -554,7 +558,7 @@ module _ {skips : Bool} {rom sched table positions : List ℕ} {l : Lines} {limi
               watch = watch′;
             }
 
-            rides-on : accepts on ≡ false → (skips ≡ true → (left : ℕ) → jumpLength rom sched there left ≡ 0) → Riding skips rom sched l limit s log₀ at₀ begun₀ after
+            rides-on : accepts on ≡ false → (skips ≡ true → (left : ℕ) → waitLength rom sched there left ≡ 0) → Riding skips rom sched l limit s log₀ at₀ begun₀ after
             rides-on not-accepted no-jump =
                 let o = gone g in
                 let e : over - over ≡ 0 = omega arith in
@@ -565,10 +569,8 @@ module _ {skips : Bool} {rom sched table positions : List ℕ} {l : Lines} {limi
                   w = c .w ++ o .x;
                   d = over - s .cycle .0;
                   b = c .b + 1;
-                  steps = subst (λ (y : State). OneByOne upd546 rom sched skips (length log₀ - at₀) (limit - s .cycle .0) s y (c .w ++ o .x) (over - s .cycle .0) (c .b + 1)) on-is (rw e at all);
-                  ram-is = refl;
-                  ports-is = refl;
-                  cycle-is = refl;
+                  steps = subst (λ (y : State). OneByOne ordinary rom sched skips (length log₀ - at₀) (limit - s .cycle .0) s y (c .w ++ o .x) (over - s .cycle .0) (c .b + 1)) on-is (rw e at all);
+                  parts = refl;
                   done-is = omega (arith, c .done-is);
                   begun-is = omega (arith, c .begun-is);
                   few = omega (arith, c .few, c .done-is);
@@ -591,7 +593,7 @@ module _ {skips : Bool} {rom sched table positions : List ℕ} {l : Lines} {limi
 
             -- INT and INTE aren't both 1, and no loop waits on the timer: the code at PC isn't the one that is watched for
             pub rides-freely : Free (r .core .interrupt) → (byteAt rom (r .core .flow .pc) ≡ watch′ → ⊥) → Riding skips rom sched l limit s log₀ at₀ begun₀ after
-            rides-freely f n = rides-on (free-accepts on f) (λ q left. jump-length-none rom sched there left (go q (eqb (r .core .timer .register) 0) refl))
+            rides-freely f n = rides-on (free-accepts on f) (λ q left. wait-length-none rom sched there left (go q (eqb (r .core .timer .register) 0) refl))
               where
                 go : skips ≡ true → (x : Bool) → eqb (r .core .timer .register) 0 ≡ x → mayJump rom sched there ≡ false
                 go q true v =
@@ -605,13 +607,13 @@ module _ {skips : Bool} {rom sched table positions : List ℕ} {l : Lines} {limi
             pub rides-past : Free (r .core .interrupt) → atJcpBack rom (r .core .flow .pc) ≡ false → Riding skips rom sched l limit s log₀ at₀ begun₀ after
             rides-past f z =
                 rides-on (free-accepts on f)
-                (λ q left. jump-length-none rom sched there left (no-loop rom sched there (rw z (and-false (atTtm rom (r .core .flow .pc))))))
+                (λ q left. wait-length-none rom sched there left (no-loop rom sched there (rw z (and-false (atTtm rom (r .core .flow .pc))))))
 
             -- the mark keeps an interrupt back
             pub rides-kept : keptBack (r .core .interrupt) (r .core .mark) ≡ true → Riding skips rom sched l limit s log₀ at₀ begun₀ after
             rides-kept z =
                 rides-on (blocked-accepts on (and-right (mayBeDue (r .core .interrupt)) (blocks (r .core .mark)) z))
-                (λ q left. jump-length-none rom sched there left (both-one rom sched there (and-left (mayBeDue (r .core .interrupt)) (blocks (r .core .mark)) z)))
+                (λ q left. wait-length-none rom sched there left (both-one rom sched there (and-left (mayBeDue (r .core .interrupt)) (blocks (r .core .mark)) z)))
 
         pub near-still : {near : ℕ} → Near near (p .horizon) (p .core .interrupt) → (r .core .mark ≡ markEi → ⊥) → Near near (p .horizon) (r .core .interrupt)
         near-still v n = record { event = v .event; free = λ q. free-still n (v .free q) }

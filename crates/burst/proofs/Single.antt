@@ -11,9 +11,10 @@ use Rattle.upd546.specs.declared.Core.{Core}
 use Rattle.upd546.specs.declared.Lines.{Lines}
 use Rattle.upd546.specs.declared.State.{State}
 use Rattle.upd546.specs.TheLineSchedule.{linesAt}
-use Rattle.upd546.specs.OneMachineCycle.{accepts, accepted, taken, paid, ticked, quiet, onOwed, onAccepts, cycle}
+use Rattle.upd546.specs.OneMachineCycle.{accepts, accepted, taken, paid, ticked, quiet, onOwed, onAccepts, ordinaryCycle}
+use Rattle.laws.specs.Ordinary.{stepsOf}
 use Rattle.laws.proofs.Tails.{put-none}
-use Rattle.upd546.specs.Parts.{stateOf}
+use Rattle.upd546.specs.Parts.{withParts, onward}
 use Rattle.burst.specs.Turn.{Turn, Turned, stretchOf}
 
 module _ {skips : Bool} {rom sched table positions : List ℕ} {l : Lines} {limit : ℕ} {s : State} {log : List ℕ} {at begun : ℕ}
@@ -21,7 +22,7 @@ module _ {skips : Bool} {rom sched table positions : List ℕ} {l : Lines} {limi
   lines-here : linesAt sched (s .cycle .0) ≡ l
   lines-here = k .lines (s .cycle .0) (omega arith) (k .ahead)
 
-  single : (core : Core) → cycle rom sched s ≡ went (stateOf core (s .ram) (s .ports) (s .cycle .0 + 1)) [] 0
+  single : (core : Core) → stepsOf rom sched s ≡ went (onward 1 s core (s .ram) (s .ports)) [] 0
       → Turned skips rom sched limit s log at begun (stretchOf core (s .cycle .0 + 1) begun at 0) (s .ram) (s .ports) log
   single core q = record {
     held = λ n. absurd (n refl);
@@ -30,7 +31,7 @@ module _ {skips : Bool} {rom sched table positions : List ℕ} {l : Lines} {limi
       b = 0;
       w = [];
       some-cycles = omega arith;
-      steps = also [] 0 none q (omega arith) (omega (arith, k .ahead)) (λ e. rw (sub-zero (limit - s .cycle .0)) (k .no-jump e));
+      steps = also [] 0 none (q ∙ ap (λ (t : State). went (withParts t core (s .ram) (s .ports) (s .cycle .0 + 1)) [] 0) (k .parts)) (omega arith) (omega (arith, k .ahead)) (λ e. rw (sub-zero (limit - s .cycle .0)) (k .no-jump e));
       cycle-is = refl;
       begun-is = omega arith;
       at-is = omega arith;
@@ -40,7 +41,7 @@ module _ {skips : Bool} {rom sched table positions : List ℕ} {l : Lines} {limi
 
   pub accepts-turn : accepts (s .core) ≡ true → {core : Core} → core ≡ ticked (taken l (accepted (s .core)))
       → Turned skips rom sched limit s log at begun (stretchOf core (s .cycle .0 + 1) begun at 0) (s .ram) (s .ports) log
-  unfolding cycle
+  unfolding ordinaryCycle
   accepts-turn a e =
       rw e
       (single (ticked (taken l (accepted (s .core))))
@@ -52,7 +53,7 @@ module _ {skips : Bool} {rom sched table positions : List ℕ} {l : Lines} {limi
 
   pub owed-turn : accepts (s .core) ≡ false → (s .core .owed ≡ 0 → ⊥) → {core : Core} → core ≡ ticked (paid (taken l (s .core)))
       → Turned skips rom sched limit s log at begun (stretchOf core (s .cycle .0 + 1) begun at 0) (s .ram) (s .ports) log
-  unfolding cycle
+  unfolding ordinaryCycle
   owed-turn a n e =
       rw e
       (single (ticked (paid (taken l (s .core))))

@@ -20,7 +20,8 @@ use Rattle.upd546.specs.Parts.{setOwed}
 use Rattle.upd546.specs.TheLineSchedule.{linesAt}
 use Rattle.upd546.specs.Timer.{ticksLeft}
 use Rattle.upd546.specs.OneMachineCycle.{blocks, accepts}
-use Rattle.upd546.specs.TwoRunners.{jumpLength, upd546}
+use Rattle.upd546.specs.TwoRunners.{waitLength}
+use Rattle.laws.specs.Ordinary.{ordinary}
 use Rattle.laws.specs.Burst.{forward}
 use Rattle.laws.specs.Stops.{StopNumber}
 use Rattle.laws.specs.Valid.{Valid}
@@ -35,20 +36,21 @@ use Rattle.burst.specs.declared.Events.{Events}
 
 -- what a run is lent: a ROM and a schedule that aren't refused, and the tables
 pub record Lent (rom sched table positions : List ℕ) : Type 0 where
-  pub panel : Panel upd546 rom sched
+  pub panel : Panel ordinary rom sched
   pub rom-length : length rom ≡ romLength
   pub instructions : table ≡ instructionTable
   pub position-table : positions ≡ positionTable
 
--- at the boundary before the state's cycle: the lines are l up to the limit, and the runner doesn't jump here, were the limit the
+-- at the boundary before the state's cycle: the state is all that is in core, RAM, latches and cycle number, the lines are l up to the limit, and the runner doesn't jump here, were the limit the
 -- end of the run. The log is empty from `at` on, and so many instructions were begun.
 pub record Turn (skips : Bool) (rom sched table positions : List ℕ) (l : Lines) (limit : ℕ) (s : State) (log : List ℕ) (at begun : ℕ) : Type 0 where
   pub lent : Lent rom sched table positions
+  pub parts : s ≡ stateOf (s .core) (s .ram) (s .ports) (s .cycle .0)
   pub lines : (n : ℕ) → s .cycle .0 ≤ n → n < limit → linesAt sched n ≡ l
   pub ahead : s .cycle .0 < limit
   pub in-limit : limit ≤ cycleLimit
   pub valid : Valid s
-  pub no-jump : skips ≡ true → jumpLength rom sched s (limit - s .cycle .0) ≡ 0
+  pub no-jump : skips ≡ true → waitLength rom sched s (limit - s .cycle .0) ≡ 0
   pub place : at ≤ length log
   pub few : begun ≤ s .cycle .0
 
@@ -91,7 +93,7 @@ pub record Moves (core : Core) (done limit : ℕ) (skips : Bool) (h since watch 
 
 -- no cycle is begun: its number, and nothing has changed
 pub record Held (rom sched : List ℕ) (s : State) (log : List ℕ) (at number : ℕ) (ram ports log′ : List ℕ) : Type 0 where
-  pub stops : within upd546 rom sched (length log - at) 1 s ≡ still s (some number)
+  pub stops : within ordinary rom sched (length log - at) 1 s ≡ still s (some number)
   pub some-number : number ≡ 0 → ⊥
   pub known : (number ≡ 3 → ⊥) → StopNumber number
   pub ram-is : ram ≡ s .ram
@@ -109,7 +111,7 @@ pub record Went (skips : Bool) (rom sched : List ℕ) (limit : ℕ) (s : State) 
   pub b : ℕ
   pub w : List ℕ
   pub some-cycles : 1 ≤ d
-  pub steps : OneByOne upd546 rom sched skips (length log - at) (limit - s .cycle .0) s (stateOf core ram ports n) w d b
+  pub steps : OneByOne ordinary rom sched skips (length log - at) (limit - s .cycle .0) s (stateOf core ram ports n) w d b
   pub cycle-is : n ≡ s .cycle .0 + d
   pub begun-is : begun′ ≡ begun + b
   pub at-is : at′ ≡ at + length w

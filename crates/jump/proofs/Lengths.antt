@@ -15,7 +15,7 @@ use Rattle.upd546.specs.TheLineSchedule.{linesAt}
 use Rattle.upd546.specs.Timer.{ticksLeft}
 use Rattle.upd546.specs.TwoRunners.{atTtm, atJcpBack, mayJump}
 use Rattle.laws.proofs.Lists.{and-left, and-right}
-use Rattle.laws.proofs.Jump.{jump-length-none, jump-length-steady}
+use Rattle.laws.proofs.Jump.{wait-length-none, wait-length-steady}
 use Rattle.jump.specs.Boundary.{Shows, Steady, jumpBy, JumpsBy}
 
 -- THE BYTES AT PC AND AFTER IT
@@ -91,7 +91,7 @@ module _ (rom sched : List ℕ) (s : State) where
 
 none-by : (skips : Bool) (rom sched : List ℕ) (s : State) (left : ℕ) → mayJump rom sched s ≡ false → 0 ≡ jumpBy skips rom sched s left
 none-by false rom sched s left e = refl
-none-by true rom sched s left e = sym (jump-length-none rom sched s left e)
+none-by true rom sched s left e = sym (wait-length-none rom sched s left e)
 
 module _ {skips : Bool} {rom : List ℕ} {pc owed : ℕ} {interrupt : Interrupt} {timer : Timer} {level left : ℕ} where
   no-jump : ((sched : List ℕ) (s : State) → Shows s pc owed interrupt timer → Steady sched (s .cycle .0) level left → mayJump rom sched s ≡ false) → JumpsBy skips rom pc owed interrupt timer level left 0
@@ -125,7 +125,7 @@ module _ {skips : Bool} {rom : List ℕ} {pc owed : ℕ} {interrupt : Interrupt}
   unfolding mayJump allOf
   jumps j o z g i t l k r e f =
       rw j
-      (record { length-is = λ sched s w y. f ∙ sym (jump-length-steady rom sched s left (passes sched s w y) (y .no-record) k (rw (w .timer-is) e)) })
+      (record { length-is = λ sched s w y. f ∙ sym (wait-length-steady rom sched s left (passes sched s w y) (y .no-record) k (rw (w .timer-is) e)) })
     where
       passes : (sched : List ℕ) (s : State) → Shows s pc owed interrupt timer → Steady sched (s .cycle .0) level left → mayJump rom sched s ≡ true
       passes sched s w y =

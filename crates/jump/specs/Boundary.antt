@@ -12,7 +12,7 @@ use Rattle.upd546.specs.declared.State.{State}
 use Rattle.upd546.specs.TheMachine.{romLength}
 use Rattle.upd546.specs.TheLineSchedule.{linesAt, noRecord}
 use Rattle.upd546.specs.Timer.{ticksLeft}
-use Rattle.upd546.specs.TwoRunners.{jumpLength}
+use Rattle.upd546.specs.TwoRunners.{waitLength}
 use Rattle.tables.specs.Tables.{positionTable, registerTable}
 
 -- what a jump's length asks
@@ -33,10 +33,11 @@ pub record Steady (sched : List ℕ) (n level left : ℕ) : Type 0 where
   pub level-is : linesAt sched n .int ≡ level
   pub no-record : noRecord sched (n + 1) (n + left) ≡ true
 
--- the cycles that the next step jumps: of the timer-skipping runner where `skips` is true, else of the plain one
+-- the cycles that the next step jumps by document 01's conditions: of the timer-skipping runner where `skips` is true, else of the
+-- plain one
 abbrev pub jumpBy : Bool → List ℕ → List ℕ → State → ℕ → ℕ
 jumpBy false rom sched s left = 0
-jumpBy true rom sched s left = jumpLength rom sched s left
+jumpBy true rom sched s left = waitLength rom sched s left
 
 -- r is that number for every such state and schedule
 pub record JumpsBy (skips : Bool) (rom : List ℕ) (pc owed : ℕ) (interrupt : Interrupt) (timer : Timer) (level left r : ℕ) : Type 0 where

@@ -54,7 +54,7 @@ low-one-by-one rom sched skips room m s z low _ _ _ _ (also {t} {u} {y} {d} {a} 
 -- A CYCLE WITH A COUNT
 
 -- there is no jump where RES is high or a count is left over
-counted-no-jump : (rom sched : List ℕ) (s : State) (left : ℕ) → (Unreset sched s → ⊥) → jumpLength rom sched s left ≡ 0
+pub counted-no-jump : (rom sched : List ℕ) (s : State) (left : ℕ) → (Unreset sched s → ⊥) → jumpLength rom sched s left ≡ 0
 unfolding jumpLength
 counted-no-jump rom sched s left n = go (resetFar sched s) refl
   where
@@ -73,10 +73,12 @@ module _ (rom sched : List ℕ) (s : State) (c : ℕ) (none-due : ResetDue sched
   counted-one skips room m n h _ _ _ _ g no-cycle = absurd (omega arith)
   counted-one skips room m n h _ _ _ _ g (also {t} {u} {y} {d} {a} x e (also x′ e′ o q′ f′ l′ j′) q f l j) = absurd (omega arith)
   counted-one skips room m n h _ _ _ _ g (also x e no-cycle q f l j) =
-      (refl, also x e no-cycle (counted-is ∙ ap (carrying (countAfter sched (s .cycle .0) c)) q) f h (λ i. counted-no-jump rom sched (withCount c s) (m - 0) n))
+      let went-is = counted-is ∙ ap (carrying (countAfter sched (s .cycle .0) c)) q in
+      (refl, also x e no-cycle went-is f h (λ i. counted-no-jump rom sched (withCount c s) (m - 0) n))
 
   -- where the ordinary machine stops, the chip does, with its count as it was
-  pub counted-stops : (room k : ℕ) → within ordinary rom sched room 1 s ≡ still s (some k) → within upd546 rom sched room 1 (withCount c s) ≡ still (withCount c s) (some k)
+  pub counted-stops : (room k : ℕ) → within ordinary rom sched room 1 s ≡ still s (some k)
+      → within upd546 rom sched room 1 (withCount c s) ≡ still (withCount c s) (some k)
   unfolding within
   counted-stops room k h = go (stepsOf rom sched s) counted-is h
     where
@@ -114,7 +116,8 @@ module _ (rom sched : List ℕ) (s : State) (due : ResetDue sched s) where
   pub reset-stops : (room : ℕ) → (s .count ≡ resetCount → ⊥) → room < logRecordLength → within upd546 rom sched room 1 s ≡ still s (some 3)
   unfolding resetCycle
   reset-stops room n h =
-      let long : length (resetBytes s) ≡ logRecordLength = ap (λ (b : Bool). length (logBytes (s .cycle .0) (cond b [] resetRecord))) (ne-eqb (s .count) resetCount n) in
+      let long : length (resetBytes s) ≡ logRecordLength =
+      ap (λ (b : Bool). length (logBytes (s .cycle .0) (cond b [] resetRecord))) (ne-eqb (s .count) resetCount n) in
       one-fills upd546 rom sched room s _ _ 0 (resets rom sched s due) (omega (arith, long))
 
 module _ (rom sched : List ℕ) (l : Lines) (s : State) (due : ResetDue sched s) (high : l .res ≡ 0 → ⊥) where
@@ -133,12 +136,14 @@ module _ (rom sched : List ℕ) (l : Lines) (s : State) (due : ResetDue sched s)
       ∙ ap (λ (i : ℕ). went (withParts t (cleared (taken l (s .core))) (s .ram) (replicate latches 0) i) [] 0) n
 
   -- THE LAW: j of them, with these lines, lead to one state, and append what the first appends
-  pub held-resets : (skips : Bool) (room m j : ℕ) → length (resetBytes s) ≤ room → suc j ≤ m → ((i : ℕ) → i < suc j → linesAt sched (s .cycle .0 + i) ≡ l)
+  pub held-resets : (skips : Bool) (room m j : ℕ) → length (resetBytes s) ≤ room → suc j ≤ m
+      → ((i : ℕ) → i < suc j → linesAt sched (s .cycle .0 + i) ≡ l)
       → OneByOne upd546 rom sched skips room m s (heldReset l (suc j) s) (resetBytes s) (suc j) 0
   unfolding resetCycle
   held-resets skips room m zero f h e =
       let now : linesAt sched (s .cycle .0) ≡ l = rw (add-zero (s .cycle .0)) at (e 0 (omega arith)) in
-      also (resetBytes s) 0 no-cycle (resets rom sched s due ∙ ap (λ (x : Lines). resetCycle x s) now) f (omega arith) (λ i. high-no-jump s (m - 0) now)
+      let first = resets rom sched s due ∙ ap (λ (x : Lines). resetCycle x s) now in
+      also (resetBytes s) 0 no-cycle first f (omega arith) (λ i. high-no-jump s (m - 0) now)
   held-resets skips room m (suc j) f h e =
       let r = held-resets skips room m j f (omega arith) (λ i g. e i (omega arith)) in
       let now = e (suc j) (omega arith) in

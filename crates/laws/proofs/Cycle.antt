@@ -248,7 +248,8 @@ module _ (s : State) (v : Valid s) (h : s .cycle .0 < cycleLimit) where
     unticked-valid u x e q = subst Whole q unticked-whole
 
     -- a stop before any of it, or the instruction
-    on-stop : (i : Instruction) (g : Given) (over : ℕ) → Keeps i → ValidGiven g → over ≤ 2 → (k : ℕ) → Fine s (onStop k (begun i g (i .effect g) over s))
+    on-stop : (i : Instruction) (g : Given) (over : ℕ) → Keeps i → ValidGiven g → over ≤ 2 → (k : ℕ)
+        → Fine s (onStop k (begun i g (i .effect g) over s))
     on-stop i g over k vg ho zero = begun-fine i g over k vg ho
     on-stop i g over k vg ho (suc n) = tt
 
@@ -301,8 +302,9 @@ module _ (s : State) (v : Valid s) (h : s .cycle .0 < cycleLimit) where
       let l = linesAt sched (s .cycle .0) in
       let vl = lines-valid rom sched (s .cycle .0) bs e in
       let k = countAfter sched (s .cycle .0) (s .count) in
+      let vs = recounted-valid k (counted-small (l .res) (s .count)) in
       either rom sched s (Fine s) (reset-fine s v h l vl)
-      (from-count k (ordinaryCycle rom l (withCount k s)) (ordinary-fine (withCount k s) (recounted-valid k (counted-small (l .res) (s .count))) h rom l br vl))
+      (from-count k (ordinaryCycle rom l (withCount k s)) (ordinary-fine (withCount k s) vs h rom l br vl))
 
 -- THE LAW: a cycle that is begun at a valid state below the cycle limit
 pub cycle-keeps : (rom sched : List ℕ) (s t : State) (w : List ℕ) (b : ℕ) → Bytes rom → Bytes sched → panelNumber rom sched ≡ 0 → Valid s

@@ -375,7 +375,9 @@ module _ (image : List ℕ) (bytes : Bytes image) (accepted : imageNumber image 
   tail-same =
       version-cases image (accepted-length image accepted) (λ w. countBytes w (byte image countAt) ≡ drop countAt image)
       (λ e. sym (drop-of-length-le image {i = 81} (omega (arith, e))))
-      (λ e. sym (drop-cons image countAt 0 (omega (arith, e)) ∙ ap (λ (l : List ℕ). byte image countAt ∷ l) (drop-of-length-le image {i = 82} (omega (arith, e)))))
+      (λ e.
+      let behind : drop 82 image ≡ [] = drop-of-length-le image {i = 82} (omega (arith, e)) in
+      sym (drop-cons image countAt 0 (omega (arith, e)) ∙ ap (λ (l : List ℕ). byte image countAt ∷ l) behind))
 
   pub version-fits : versionNumber (versionOf image) (ofImage image) ≡ 0
   unfolding ofImage versionNumber

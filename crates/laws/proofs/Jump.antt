@@ -313,7 +313,7 @@ largest-passes test (suc k) h = go (test (suc k)) refl (largest-passes test k) h
     go true e ih h = rw (e, largest) e
     go false e ih h = rw (e, largest) (ih (rw (e, largest) at h))
 
-wait-within : (rom sched : List ℕ) (s : State) (left : ℕ) → waitLength rom sched s left ≤ left
+pub wait-within : (rom sched : List ℕ) (s : State) (left : ℕ) → waitLength rom sched s left ≤ left
 unfolding waitLength
 wait-within rom sched s left = go (mayJump rom sched s)
   where
@@ -424,7 +424,10 @@ pub far : (sched : List ℕ) (s : State) → resetFar sched s ≡ true → Unres
 unfolding resetFar
 far sched s e =
     let n = linesAt sched (s .cycle .0) .res in
-    record { low = eqb-true n 0 (and-left (eqb n 0) (eqb (s .count) 0) e); none = eqb-true (s .count) 0 (and-right (eqb n 0) (eqb (s .count) 0) e) }
+    record {
+      low = eqb-true n 0 (and-left (eqb n 0) (eqb (s .count) 0) e);
+      none = eqb-true (s .count) 0 (and-right (eqb n 0) (eqb (s .count) 0) e);
+    }
 
 pub jump-is-wait : (rom sched : List ℕ) (s : State) (left : ℕ) → Unreset sched s → jumpLength rom sched s left ≡ waitLength rom sched s left
 unfolding jumpLength resetFar
@@ -459,11 +462,13 @@ record JumpsSo (rom sched : List ℕ) (s : State) (j : ℕ) : Type 0 where
   wait : Jumps rom sched s j
   unreset : Unreset sched s
 
-jumps-so : (rom sched : List ℕ) (s : State) (left : ℕ) → (jumpLength rom sched s left ≡ 0 → ⊥) → JumpsSo rom sched s (jumpLength rom sched s left)
+jumps-so : (rom sched : List ℕ) (s : State) (left : ℕ) → (jumpLength rom sched s left ≡ 0 → ⊥)
+    → JumpsSo rom sched s (jumpLength rom sched s left)
 unfolding jumpLength
 jumps-so rom sched s left h = go (resetFar sched s) refl h
   where
-    go : (b : Bool) → resetFar sched s ≡ b → (cond b (waitLength rom sched s left) 0 ≡ 0 → ⊥) → JumpsSo rom sched s (cond b (waitLength rom sched s left) 0)
+    go : (b : Bool) → resetFar sched s ≡ b → (cond b (waitLength rom sched s left) 0 ≡ 0 → ⊥)
+        → JumpsSo rom sched s (cond b (waitLength rom sched s left) 0)
     go true e h = record { wait = jumps rom sched s left h; unreset = far sched s e }
     go false e h = absurd (h refl)
 
@@ -498,7 +503,8 @@ module _ (rom sched : List ℕ) (s : State) (left j : ℕ) (e : jumpLength rom s
 
     pub jump-in-room : (room : ℕ) → within upd546 rom sched room j s ≡ quietly j (stateAfterJump j s)
     jump-in-room room =
-        let none : length (unbroken upd546 rom sched j s .bytes) ≤ room = omega (arith, ap (λ (r : Ran State). length (r .bytes)) jump-unbroken) in
+        let none : length (unbroken upd546 rom sched j s .bytes) ≤ room =
+        omega (arith, ap (λ (r : Ran State). length (r .bytes)) jump-unbroken) in
         roomy upd546 rom sched j room s none ∙ jump-unbroken
 
 -- a jump leads from an accepted state to an accepted state

@@ -40,7 +40,8 @@ module _ (rom sched : List ℕ) (s : State) where
       go true e = r (eqb-true _ _ e)
       go false e = o (eqb-false _ _ e)
 
-  pub either : (P : Out State → Type 0) → P (resetCycle (linesAt sched (s .cycle .0)) s) → P (stepsOf rom sched (recounted sched s)) → P (cycle rom sched s)
+  pub either : (P : Out State → Type 0) → P (resetCycle (linesAt sched (s .cycle .0)) s) → P (stepsOf rom sched (recounted sched s))
+      → P (cycle rom sched s)
   either P r o = by-count P (λ e. r) (λ n. o)
 
   pub resets : ResetDue sched s → cycle rom sched s ≡ resetCycle (linesAt sched (s .cycle .0)) s
@@ -138,7 +139,8 @@ module _ (rom sched : List ℕ) (s : State) where
   Counting (stop k) = Unit {0}
   Counting (went t w b) = Counts sched s t w b
 
-  ordinary-counts : (ResetDue sched s → ⊥) → (o : Out State) → Leaves (s .cycle .0) (countAfter sched (s .cycle .0) (s .count)) o → Counting o
+  ordinary-counts : (ResetDue sched s → ⊥) → (o : Out State) → Leaves (s .cycle .0) (countAfter sched (s .cycle .0) (s .count)) o
+      → Counting o
   ordinary-counts n (stop k) e = tt
   ordinary-counts n (went t w b) e = record { rises = e .0; count = e .1; resets = λ z. absurd (n (sym (e .1) ∙ z)) }
 
@@ -183,7 +185,8 @@ every-run-counts-res rom sched (suc k) s small done high =
     first = rw (add-zero (s .cycle .0)) at (high 0 (omega arith))
 
     go : (o : Out State) → Counting rom sched s o → onOut o s (λ t. unbroken upd546 rom sched k t) .cycles ≡ suc k
-        → ((t : State) → t .count ≤ resetCount → unbroken upd546 rom sched k t .cycles ≡ k → ((i : ℕ) → i < k → linesAt sched (t .cycle .0 + i) .res ≡ 1)
+        → ((t : State) → t .count ≤ resetCount → unbroken upd546 rom sched k t .cycles ≡ k
+        → ((i : ℕ) → i < k → linesAt sched (t .cycle .0 + i) .res ≡ 1)
         → unbroken upd546 rom sched k t .state .count ≡ min resetCount (t .count + k))
         → onOut o s (λ t. unbroken upd546 rom sched k t) .state .count ≡ min resetCount (s .count + suc k)
     go (stop n) c d ih = absurd (omega (arith, d))
@@ -227,9 +230,11 @@ unreset-run rom sched (suc k) s count z = go (stepsOf rom sched s) refl (λ t. u
     go : (o : Out State) → stepsOf rom sched s ≡ o
         → ((t : State) → noReset sched k (t .cycle .0) after ≡ true
         → SameButCount (unbroken upd546 rom sched k (withCount after t)) (unbroken ordinary rom sched k t))
-        → SameButCount (onOut (cycle rom sched (withCount count s)) (withCount count s) (λ t. unbroken upd546 rom sched k t)) (onOut o s (λ t. unbroken ordinary rom sched k t))
+        → SameButCount (onOut (cycle rom sched (withCount count s)) (withCount count s) (λ t. unbroken upd546 rom sched k t))
+        (onOut o s (λ t. unbroken ordinary rom sched k t))
     go (stop n) e ih =
-        let c : cycle rom sched (withCount count s) ≡ stop n = counted-cycle rom sched (withCount count s) (s .count) none ∙ ap (carrying after) e in
+        let c : cycle rom sched (withCount count s) ≡ stop n =
+        counted-cycle rom sched (withCount count s) (s .count) none ∙ ap (carrying after) e in
         rw c (record { bytes = refl; cycles = refl; begun = refl; number = refl; state = refl })
     go (went t w b) e ih =
         let c : cycle rom sched (withCount count s) ≡ went (withCount after t) w b =
@@ -248,7 +253,8 @@ low-run rom sched (suc k) s z low = go (stepsOf rom sched s) refl (λ t. low-run
     first = rw (add-zero (s .cycle .0)) at (low 0 (omega arith))
 
     go : (o : Out State) → stepsOf rom sched s ≡ o
-        → ((t : State) → t .count ≡ 0 → ((i : ℕ) → i < k → linesAt sched (t .cycle .0 + i) .res ≡ 0) → unbroken upd546 rom sched k t ≡ unbroken ordinary rom sched k t)
+        → ((t : State) → t .count ≡ 0 → ((i : ℕ) → i < k → linesAt sched (t .cycle .0 + i) .res ≡ 0)
+        → unbroken upd546 rom sched k t ≡ unbroken ordinary rom sched k t)
         → onOut (cycle rom sched s) s (λ t. unbroken upd546 rom sched k t) ≡ onOut o s (λ t. unbroken ordinary rom sched k t)
     go (stop n) e ih = rw (ordinary-cycle rom sched s (record { low = first; none = z }), e)
     go (went t w b) e ih =

@@ -1,14 +1,16 @@
-// The port log: what an effective write appends to the part of the log that is still empty, and what it leaves in the latches.
+// The port log: what an effective write and a reset append to the part of the log that is still empty, and what a write leaves in
+// the latches.
 // It may not know which instruction writes, nor how a run goes.
 use upd546::LATCHES;
 use upd546::LOG_RECORD;
 use upd546::PORT_C;
 use upd546::PORT_D;
+use upd546::PORT_RESET;
 ghost use mathlib.Core.Path.{_≡_};
 ghost use mathlib.Core.List.{_++_};
 ghost use Prim.Native.Nat.{ℕ, _-_, _*_, _≤_};
 ghost use lib.ListN.{length, drop, set};
-ghost use Rattle.upd546.specs.Ports.{portC, portI, logRecord, logRecordLength};
+ghost use Rattle.upd546.specs.Ports.{portC, portI, resetRecord, logRecord, logRecordLength, logBytes};
 ghost use Rattle.laws.specs.Writes.{All, ValidWrite};
 ghost use Rattle.portlog.specs.Appending.{writesOf, Written};
 
@@ -70,4 +72,12 @@ pub fn output(log: &mut [u8], ports: &mut [u8; LATCHES], n: u64, port: u8, value
     latch(ports, port, value);
     put_record(log, n, port, value);
     LOG_RECORD
+}
+
+// Appends the record of a reset in cycle n.
+pub fn put_reset(log: &mut [u8], n: u64)
+    requires { ⌜ logRecordLength ≤ length (now log) ⌝ }
+    ensures { λ _. ⌜ now (log .exit) ≡ logBytes n resetRecord ++ drop logRecordLength (now (log .entry)) ⌝ }
+{
+    put_record(log, n, PORT_RESET, 0);
 }

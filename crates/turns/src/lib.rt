@@ -20,7 +20,7 @@ ghost use Rattle.runs.specs.Numbers.{stopNumber};
 ghost use Rattle.runs.specs.Refusals.{cycleLimit};
 ghost use Rattle.runs.specs.Reports.{clocksPerCycle, clocksOf};
 ghost use Rattle.upd546.specs.TwoRunners.{answerOf};
-ghost use Rattle.upd546.specs.Parts.{stateOf};
+ghost use Rattle.upd546.specs.Parts.{withCount, stateOf};
 ghost use Rattle.laws.specs.Stops.{StopNumber};
 ghost use Rattle.turns.specs.Either.{Set, runBy};
 
@@ -36,13 +36,14 @@ fn stop_of(k: u8) -> Stop
     }
 }
 
-fn state_of(core: Core, ram: [u8; RAM_WORDS], ports: [u8; LATCHES], n: u64) -> State
-    ensures { λ r. ⌜ r ≡ stateOf core ram ports n ⌝ }
+fn state_of(core: Core, ram: [u8; RAM_WORDS], ports: [u8; LATCHES], count: u8, n: u64) -> State
+    ensures { λ r. ⌜ r ≡ withCount count (stateOf core ram ports n) ⌝ }
 {
     State {
         core,
         ports,
         ram,
+        count,
         cycle: MachineCycles(n),
     }
 }
@@ -105,9 +106,24 @@ pub fn run_loop(
     let mut number = start;
     let mut begun: u64 = 0;
     let mut spared: u64 = 0;
+    let mut count = s.count;
     while number < end {
         let lines = cursor.lines;
-        let limit = jump::lesser(end, cursor.next);
+        let mut limit = jump::lesser(end, cursor.next);
+        let before = count;
+        if (lines.res != 0) | (count != 0) {
+            let r = reset::look(core, &mut ports, log, at, lines, number, limit, before);
+            if r.full {
+                let stop = RunEnd::Stopped(Stop::LogFull);
+                let state = state_of(core, ram, ports, before, number);
+                return answer(stop, state, number - start, begun, at, spared);
+            }
+            core = r.core;
+            at = r.at;
+            number = r.number;
+            limit = r.limit;
+            count = r.count;
+        }
         while number < limit {
             let j = jump::jump_length(
                 rom,
@@ -145,7 +161,7 @@ pub fn run_loop(
                 );
                 if o.stop != 0 {
                     let stop = RunEnd::Stopped(stop_of(o.stop));
-                    let state = state_of(core, ram, ports, number);
+                    let state = state_of(core, ram, ports, before, number);
                     return answer(stop, state, number - start, begun, at, spared);
                 }
                 core = o.core;
@@ -156,6 +172,6 @@ pub fn run_loop(
         }
         cursor = schedule::moved(sched, cursor, MachineCycles(number - 1));
     }
-    let state = state_of(core, ram, ports, number);
+    let state = state_of(core, ram, ports, count, number);
     answer(RunEnd::Finished, state, number - start, begun, at, spared)
 }

@@ -734,7 +734,13 @@ resetCases =
     onState (record { given = unbroken upd546 (romAt 0 []) held 1 (busy 3) .state; wanted = afterReset })
     ∷ onState (record { given = unbroken upd546 (romAt 0 []) held 1 (busy 4) .state; wanted = afterReset })
     -- "lines are taken first": a fall of INT in a reset cycle is lost, and a level that stays low falls no second time
-    ∷ onLines (record { rom = romAt 0 []; schedule = recordAt 0 0 1; start = withCount 3 fresh; cycles = 1; shows = intIs 0 ∷ levelIs 0 ∷ [] })
+    ∷ onLines (record {
+      rom = romAt 0 [];
+      schedule = recordAt 0 0 1;
+      start = withCount 3 fresh;
+      cycles = 1;
+      shows = intIs 0 ∷ levelIs 0 ∷ [];
+    })
     ∷ onLines (record {
       rom = romAt 0 [];
       schedule = recordAt 0 0 1 ++ recordAt 1 0 0;
@@ -870,9 +876,11 @@ versionCases =
     ∷ onNumbers (record { given = imageNumber (imageTwoWith 4) ∷ imageNumber (imageTwoWith 5) ∷ []; wanted = 0 ∷ 34 ∷ [] })
     ∷ onNumbers (record { given = stateNumber (withCount 4 fresh) ∷ stateNumber (withCount 5 fresh) ∷ []; wanted = 0 ∷ 34 ∷ [] })
     -- "31 is now a length of neither 81 nor 82": 80 and 83 bytes
-    ∷ onNumbers (record { given = imageNumber (take 80 (imageWith 0 0)) ∷ imageNumber (imageTwoWith 0 ++ (0 ∷ [])) ∷ []; wanted = 31 ∷ 31 ∷ [] })
+    ∷ onNumbers (record { given = imageNumber (take 80 (imageWith 0 0)) ∷ []; wanted = 31 ∷ [] })
+    ∷ onNumbers (record { given = imageNumber (imageTwoWith 0 ++ (0 ∷ [])) ∷ []; wanted = 31 ∷ [] })
     -- "33 a version that doesn't go with the length": version 1 with 82 bytes, version 2 with 81
-    ∷ onNumbers (record { given = imageNumber (imageWith 0 0 ++ (0 ∷ [])) ∷ imageNumber (take 81 (imageTwoWith 0)) ∷ []; wanted = 33 ∷ 33 ∷ [] })
+    ∷ onNumbers (record { given = imageNumber (imageWith 0 0 ++ (0 ∷ [])) ∷ []; wanted = 33 ∷ [] })
+    ∷ onNumbers (record { given = imageNumber (take 81 (imageTwoWith 0)) ∷ []; wanted = 33 ∷ [] })
     -- and 32 before it
     ∷ onNumbers (record { given = imageNumber (0 ∷ drop 1 (take 81 (imageTwoWith 0))) ∷ []; wanted = 32 ∷ [] })
     -- "54, in a save between 34 and 1, a version 1 image wanted while the count isn't 0"; version 2 takes it
@@ -881,8 +889,10 @@ versionCases =
     ∷ onNumbers (record { given = saveNumber upd546 One (withCount 5 fresh) [] ∷ []; wanted = 34 ∷ [] })
     ∷ onNumbers (record { given = saveNumber upd546 Two (withCount 1 fresh) (replicate 82 0) ∷ []; wanted = 0 ∷ [] })
     -- "1 a buffer under the version's length": 81 bytes hold version 1, and not version 2
-    ∷ onNumbers (record { given = saveNumber upd546 One fresh (replicate 81 0) ∷ saveNumber upd546 One fresh (replicate 80 0) ∷ []; wanted = 0 ∷ 1 ∷ [] })
-    ∷ onNumbers (record { given = saveNumber upd546 Two fresh (replicate 82 0) ∷ saveNumber upd546 Two fresh (replicate 81 0) ∷ []; wanted = 0 ∷ 1 ∷ [] })
+    ∷ onNumbers (record { given = saveNumber upd546 One fresh (replicate 81 0) ∷ []; wanted = 0 ∷ [] })
+    ∷ onNumbers (record { given = saveNumber upd546 One fresh (replicate 80 0) ∷ []; wanted = 1 ∷ [] })
+    ∷ onNumbers (record { given = saveNumber upd546 Two fresh (replicate 82 0) ∷ []; wanted = 0 ∷ [] })
+    ∷ onNumbers (record { given = saveNumber upd546 Two fresh (replicate 81 0) ∷ []; wanted = 1 ∷ [] })
     ∷ []
 
 -- THE TABLE. Its theorem is `cases-hold`.
