@@ -87,7 +87,8 @@ pub record OfEveryFall (rom sched : List ℕ) (n to : ℕ) (s : State) : Type 0 
   pub inte : unbroken upd546 rom sched n s .state .core .interrupt .inte ≡ s .core .interrupt .inte
   pub held : accepts (unbroken upd546 rom sched n s .state .core) ≡ false
   pub accepted : (u : State) (r : Ran State) → u ≡ unbroken upd546 rom sched (n + 1) s .state
-      → r ≡ unbroken upd546 rom sched (n + 1 + u .core .owed + 1) s → noReset sched (n + 1 + u .core .owed + 1) (s .cycle .0) (s .count) ≡ true
+      → r ≡ unbroken upd546 rom sched (n + 1 + u .core .owed + 1) s
+      → noReset sched (n + 1 + u .core .owed + 1) (s .cycle .0) (s .count) ≡ true
       → unbroken upd546 rom sched (n + 1) s .number ≡ none
       → (instruction (getD rom to 0) ≡ chip.tit → ⊥) → u .core .interrupt .inte ≡ 1
       → (u .core .mark ≡ 1 → ⊥) → (u .core .mark ≡ 2 → ⊥) → (u .core .mark ≡ 4 → ⊥)
@@ -191,7 +192,8 @@ pub record CycleFacts : Type 0 where
       → Valid t × (t .cycle .0 ≡ suc (s .cycle .0)) × (length w ≤ 16)
   pub begins-one : (rom sched : List ℕ) (s t : State) (w : List ℕ) (b : ℕ) → cycle rom sched s ≡ went t w b → b ≤ 1
   -- `EveryCycleCountsRes`, `EveryRunCountsRes`
-  pub counts : (rom sched : List ℕ) (s t : State) (w : List ℕ) (b : ℕ) → cycle rom sched s ≡ went t w b → OfEveryCount (linesAt sched (s .cycle .0)) s t w b
+  pub counts : (rom sched : List ℕ) (s t : State) (w : List ℕ) (b : ℕ) → cycle rom sched s ≡ went t w b
+      → OfEveryCount (linesAt sched (s .cycle .0)) s t w b
   pub runs-count : (rom sched : List ℕ) (k : ℕ) (s : State) → s .count ≤ 4 → unbroken upd546 rom sched k s .cycles ≡ k
       → ((i : ℕ) → i < k → linesAt sched (s .cycle .0 + i) .res ≡ 1) → unbroken upd546 rom sched k s .state .count ≡ min 4 (s .count + k)
   -- `lines-same`
