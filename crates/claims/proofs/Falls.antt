@@ -30,9 +30,9 @@ use Rattle.laws.specs.Reset.{countAfter, noReset, SameButCount}
 use Rattle.laws.specs.Writes.{All, none as no-more, _▹_}
 use Rattle.laws.proofs.Codes.{instructions, all-same, every-code}
 use Rattle.laws.proofs.Jump.{double, double-is}
-use Rattle.laws.proofs.Lists.{and-left, and-right}
+use Rattle.laws.proofs.Lists.{and-left}
 use Rattle.laws.proofs.Reset.{unreset-run}
-use Rattle.claims.specs.Strings.{Stand, FallsIn, cyclesOn, FallHeld, Followed, AcceptedBehind, FallKept, LoadStringsKeepFalls}
+use Rattle.claims.specs.Strings.{Stand, FallsIn, cyclesOn, Followed, AcceptedBehind, FallKept, LoadStringsKeepFalls}
 use Rattle.claims.proofs.Interval.{ticked-keeps}
 use Rattle.claims.proofs.Strings.{marks-hold-back, lined, after, due, li-cycle, ldi-cycle, owed-cycle, stays-set}
 
@@ -266,6 +266,14 @@ module _ (rom : List ℕ) (l : Lines) (s : State) (c : Core) where
       (ap (λ (x : Interrupt). x .int) (ticked-interrupt (coreAfter i e (passedOver rom e)))
       ∙ keeps-int (byteAt rom (c .flow .pc)) n g ∙ h)
 
+-- r and then q
+joined-none : (o p : Option ℕ) → o ≡ none → p ≡ none → firstStop o p ≡ none
+joined-none o p e f = rw (e, f)
+
+-- what is behind a run that finished
+behind-none : (o p : Option ℕ) → o ≡ none → firstStop o p ≡ none → p ≡ none
+behind-none o p e f = sym (ap (λ (x : Option ℕ). firstStop x p) e) ∙ f
+
 module _ (rom sched : List ℕ) where
   next-sets : (t : State) → t .core .owed ≡ 0 → accepts (t .core) ≡ false → (instruction (byteAt rom (t .core .flow .pc)) ≡ chip.tit → ⊥)
       → t .core .interrupt .int ≡ 1 → Sets (stepsOf rom sched t)
@@ -319,36 +327,30 @@ module _ (rom sched : List ℕ) where
   unfolding accepts allOf
   accepts-now c o e i m = rw (o, e, i, m)
 
-  -- r and then q
-  joined-none : (o p : Option ℕ) → o ≡ none → p ≡ none → firstStop o p ≡ none
-  joined-none o p e f = rw (e, f)
-
-  -- the state n cycles on
-  abbrev on : ℕ → State → State
-  on n s = unbroken ordinary rom sched n s .state
-
-  behind : (n : ℕ) (s : State) → on n s .core .owed ≡ 0 → accepts (on n s .core) ≡ false → on n s .core .interrupt .int ≡ 1
-      → unbroken ordinary rom sched (n + 1) s .number ≡ none → (instruction (byteAt rom (on n s .core .flow .pc)) ≡ chip.tit → ⊥)
-      → on (n + 1) s .core .interrupt .inte ≡ 1 → blocks (on (n + 1) s .core .mark) ≡ false
-      → AcceptedBehind (on (n + 1) s .core .flow .pc) (unbroken ordinary rom sched (n + 1 + on (n + 1) s .core .owed + 1) s)
-  behind n s o a h number other inte mark =
-      let t : State = on n s in
-      let u : State = on (n + 1) s in
-      let q = u .core .owed in
-      let v : State = on (n + 1 + q) s in
-      let cut-u : u ≡ on 1 t = ap (λ (r : Ran State). r .state) (unbroken-cut ordinary rom sched n 1 s) in
-      let set-u : u .core .interrupt .int ≡ 1 =
-      ap (λ (x : State). x .core .interrupt .int) cut-u ∙ one-more t h (next-sets t o a (other) h) in
-      let cut-v = unbroken-cut ordinary rom sched (n + 1) q s in
-      let p = pays q u refl in
-      let at-v : v ≡ on q u = ap (λ (r : Ran State). r .state) cut-v in
-      let now : accepts (on q u .core) ≡ true =
-      accepts-now (on q u .core) (p .owed) (p .inte ∙ inte) (p .int set-u) (ap blocks (p .mark) ∙ mark) in
+  -- ALL THREE, where the instruction at t leaves the core c
+  behind : (t : State) (c : Core) → t .core .owed ≡ 0 → accepts (t .core) ≡ false → t .core .interrupt .int ≡ 1
+      → (instruction (byteAt rom (t .core .flow .pc)) ≡ chip.tit → ⊥)
+      → unbroken ordinary rom sched 1 t .number ≡ none → unbroken ordinary rom sched 1 t .state .core ≡ c
+      → c .interrupt .inte ≡ 1 → blocks (c .mark) ≡ false
+      → AcceptedBehind (c .flow .pc) (unbroken ordinary rom sched (1 + c .owed + 1) t)
+  behind t c o a h other done leaves inte mark =
+      let q = c .owed in
+      let u : State = unbroken ordinary rom sched 1 t .state in
+      let v : State = unbroken ordinary rom sched (1 + q) t .state in
+      let w : State = unbroken ordinary rom sched q u .state in
+      let p = pays q u (ap (λ (x : Core). x .owed) leaves) in
+      let cut-v = unbroken-cut ordinary rom sched 1 q t in
+      let at-v : v ≡ w = ap (λ (r : Ran State). r .state) cut-v in
+      let now : accepts (w .core) ≡ true =
+      accepts-now (w .core) (p .owed) (p .inte ∙ ap (λ (x : Core). x .interrupt .inte) leaves ∙ inte)
+      (p .int (one-more t h (next-sets t o a other h)))
+      (ap blocks (p .mark) ∙ ap (λ (x : Core). blocks (x .mark)) leaves ∙ mark) in
       let e = takes-it v (subst (λ (x : State). accepts (x .core) ≡ true) (sym at-v) now) in
-      let number-v : unbroken ordinary rom sched (n + 1 + q) s .number ≡ none =
-      ap (λ (r : Ran State). r .number) cut-v ∙ joined-none _ _ (number) (p .number) in
-      let back : v .core .flow .pc ≡ u .core .flow .pc = ap (λ (x : State). x .core .flow .pc) at-v ∙ p .pc in
-      subst (λ (r : Ran State). AcceptedBehind (u .core .flow .pc) r) (sym (unbroken-cut ordinary rom sched (n + 1 + q) 1 s))
+      let number-v : unbroken ordinary rom sched (1 + q) t .number ≡ none =
+      ap (λ (r : Ran State). r .number) cut-v ∙ joined-none _ _ done (p .number) in
+      let back : v .core .flow .pc ≡ c .flow .pc =
+      ap (λ (x : State). x .core .flow .pc) at-v ∙ p .pc ∙ ap (λ (x : Core). x .flow .pc) leaves in
+      subst (λ (r : Ran State). AcceptedBehind (c .flow .pc) r) (sym (unbroken-cut ordinary rom sched (1 + q) 1 t))
       (record {
         number = joined-none _ _ number-v (e .number);
         pc = e .pc;
@@ -356,39 +358,22 @@ module _ (rom sched : List ℕ) where
         inte = e .inte;
       })
 
--- BOTH
+-- THE CHIP: where no cycle is a reset cycle it does the same, whatever it counts
 
-not-accepted : (c : Core) → c .interrupt .int ≡ 0 → accepts c ≡ false
-unfolding accepts allOf
-not-accepted c e = rw e (go (eqb (c .owed) 0) (eqb (c .interrupt .inte) 1))
-  where
-    go : (a b : Bool) → allOf (a ∷ b ∷ false ∷ not (blocks (c .mark)) ∷ []) ≡ false
-    go false b = refl
-    go true false = refl
-    go true true = refl
-
--- of cycles without a reset cycle, the first have none
-prefix : (sched : List ℕ) (a b n count : ℕ) → noReset sched (a + b) n count ≡ true → noReset sched a n count ≡ true
-unfolding noReset
-prefix sched zero b n count z = refl
-prefix sched (suc a) b n count z =
-    let after = countAfter sched n count in
-    let more : suc a + b ≡ suc (a + b) = omega arith in
-    let y = rw more at z in
-    let first = and-left (not (eqb after resetCount)) (noReset sched (a + b) (n + 1) after) y in
-    rw (first, prefix sched a b (n + 1) after (and-right (not (eqb after resetCount)) (noReset sched (a + b) (n + 1) after) y))
-
--- what the ordinary machine does without a reset cycle, the chip does, whatever it counts
-same-held : (n to : ℕ) (s : State) (r q : Ran State) → SameButCount r q → FallHeld n to s q → FallHeld n to s r
-same-held n to s r q e p =
+same-keeps : (sched : List ℕ) (n to mark : ℕ) (s : State) (r q : Ran State) → SameButCount r q → Keeps sched n to mark s q
+    → Keeps sched n to mark s r
+same-keeps sched n to mark s r q e p =
     let core : r .state .core ≡ q .state .core = ap (λ (t : State). t .core) (e .state) in
+    let int = ap (λ (c : Core). c .interrupt .int) core in
     record {
       number = e .number ∙ p .number;
       cycles = e .cycles ∙ p .cycles;
       pc = ap (λ (c : Core). c .flow .pc) core ∙ p .pc;
-      int = ap (λ (c : Core). c .interrupt .int) core ∙ p .int;
+      mark = ap (λ (c : Core). c .mark) core ∙ p .mark;
+      owed = ap (λ (c : Core). c .owed) core ∙ p .owed;
       inte = ap (λ (c : Core). c .interrupt .inte) core ∙ p .inte;
-      held = ap accepts core ∙ p .held;
+      set = λ h. int ∙ p .set h;
+      fall = λ m h f. int ∙ p .fall m h f;
     }
 
 same-accepted : (back : ℕ) (r q : Ran State) → SameButCount r q → AcceptedBehind back q → AcceptedBehind back r
@@ -401,43 +386,59 @@ same-accepted back r q e p =
       inte = ap (λ (c : Core). c .interrupt .inte) core ∙ p .inte;
     }
 
-module _ (rom sched : List ℕ) (s : State) where
-  same-run : (n : ℕ) → noReset sched n (s .cycle .0) (s .count) ≡ true → SameButCount (unbroken upd546 rom sched n s) (unbroken ordinary rom sched n s)
-  same-run n z = unreset-run rom sched n s (s .count) z
+-- the first cycle of some
+first-no-reset : (sched : List ℕ) (q n count : ℕ) → noReset sched (1 + q + 1) n count ≡ true → noReset sched 1 n count ≡ true
+unfolding noReset
+first-no-reset sched q n count z =
+    let e : 1 + q + 1 ≡ suc (q + 1) = omega arith in
+    let f : noReset sched (suc (q + 1)) n count ≡ true = rw e at z in
+    rw (and-left (not (eqb (countAfter sched n count) resetCount)) (noReset sched (q + 1) (n + 1) (countAfter sched n count)) f)
 
-  same-core : (n : ℕ) → noReset sched n (s .cycle .0) (s .count) ≡ true → cyclesOn rom sched n s .core ≡ on rom sched n s .core
-  same-core n z = ap (λ (t : State). t .core) (same-run n z .state)
-
-  -- the acceptance, of the chip
-  accepts-behind : (n : ℕ) → on rom sched n s .core .owed ≡ 0 → accepts (on rom sched n s .core) ≡ false → on rom sched n s .core .interrupt .int ≡ 1
-      → Followed rom sched n s
+module _ (rom sched : List ℕ) (n : ℕ) (s : State) where
+  chip-behind : unbroken upd546 rom sched n s .number ≡ none → cyclesOn rom sched n s .core .owed ≡ 0
+      → accepts (cyclesOn rom sched n s .core) ≡ false → cyclesOn rom sched n s .core .interrupt .int ≡ 1 → Followed rom sched n s
       → AcceptedBehind (cyclesOn rom sched (n + 1) s .core .flow .pc)
       (unbroken upd546 rom sched (n + 1 + cyclesOn rom sched (n + 1) s .core .owed + 1) s)
-  accepts-behind n o a h f =
-      let q = cyclesOn rom sched (n + 1) s .core .owed in
-      let split : n + 1 + q + 1 ≡ n + 1 + (q + 1) = omega arith in
-      let up-to : noReset sched (n + 1) (s .cycle .0) (s .count) ≡ true
-      = prefix sched (n + 1) (q + 1) (s .cycle .0) (s .count) (rw split at (f .no-reset)) in
-      let here = same-core n (prefix sched n 1 (s .cycle .0) (s .count) up-to) in
-      let next = same-core (n + 1) up-to in
-      let number = sym (same-run (n + 1) up-to .number) ∙ f .number in
-      let other : instruction (byteAt rom (on rom sched n s .core .flow .pc)) ≡ chip.tit → ⊥
-      = λ e. f .other (ap (λ (c : Core). instruction (byteAt rom (c .flow .pc))) here ∙ e) in
-      let inte = ap (λ (c : Core). c .interrupt .inte) (sym next) ∙ f .inte in
-      let mark = ap (λ (c : Core). blocks (c .mark)) (sym next) ∙ f .mark in
-      let by-steps : AcceptedBehind (cyclesOn rom sched (n + 1) s .core .flow .pc) (unbroken ordinary rom sched (n + 1 + q + 1) s)
-      = subst (λ (c : Core). AcceptedBehind (c .flow .pc) (unbroken ordinary rom sched (n + 1 + c .owed + 1) s)) (sym next)
-      (behind rom sched n s o a h number other inte mark) in
-      same-accepted _ _ _ (same-run (n + 1 + q + 1) (f .no-reset)) by-steps
+  chip-behind done o a h f =
+      let t : State = cyclesOn rom sched n s in
+      let c : Core = cyclesOn rom sched (n + 1) s .core in
+      let q = c .owed in
+      let cut = unbroken-cut upd546 rom sched n 1 s in
+      let one = unreset-run rom sched 1 t (t .count) (first-no-reset sched q (t .cycle .0) (t .count) (f .no-reset)) in
+      let finishes : unbroken ordinary rom sched 1 t .number ≡ none =
+      sym (one .number) ∙ behind-none _ _ done (sym (ap (λ (r : Ran State). r .number) cut) ∙ f .number) in
+      let leaves : unbroken ordinary rom sched 1 t .state .core ≡ c =
+      sym (ap (λ (x : State). x .core) (one .state)) ∙ sym (ap (λ (r : Ran State). r .state .core) cut) in
+      let all = unreset-run rom sched (1 + q + 1) t (t .count) (f .no-reset) in
+      let e : AcceptedBehind (c .flow .pc) (unbroken upd546 rom sched (1 + q + 1) t) =
+      same-accepted (c .flow .pc) _ _ all (behind rom sched t c o a h (f .other) finishes leaves (f .inte) (f .mark)) in
+      let far : n + (1 + q + 1) ≡ n + 1 + q + 1 = omega arith in
+      subst (λ (m : ℕ). AcceptedBehind (c .flow .pc) (unbroken upd546 rom sched m s)) far
+      (subst (λ (r : Ran State). AcceptedBehind (c .flow .pc) r) (sym (unbroken-cut upd546 rom sched n (1 + q + 1) s))
+      (record { number = joined-none _ _ done (e .number); pc = e .pc; return = e .return; inte = e .inte }))
 
+-- BOTH
+
+not-accepted : (c : Core) → c .interrupt .int ≡ 0 → accepts c ≡ false
+unfolding accepts allOf
+not-accepted c e = rw e (go (eqb (c .owed) 0) (eqb (c .interrupt .inte) 1))
+  where
+    go : (a b : Bool) → allOf (a ∷ b ∷ false ∷ not (blocks (c .mark)) ∷ []) ≡ false
+    go false b = refl
+    go true false = refl
+    go true true = refl
+
+module _ (rom sched : List ℕ) (s : State) where
   kept : (mark n to m : ℕ) → ((c : Core) → c .mark ≡ mark → accepts c ≡ false) → Keeps sched n to mark s (unbroken ordinary rom sched n s)
       → m < n → FallsIn sched s m → noReset sched n (s .cycle .0) (s .count) ≡ true → FallKept rom sched n to s
-  kept mark n to m hold p h f z =
+  kept mark n to m hold q h f z =
+      let p =
+      same-keeps sched n to mark s (unbroken upd546 rom sched n s) (unbroken ordinary rom sched n s) (unreset-run rom sched n s (s .count) z) q in
       let int = p .fall m h f in
-      let held = hold (on rom sched n s .core) (p .mark) in
+      let held = hold (cyclesOn rom sched n s .core) (p .mark) in
       record {
-        behind = same-held n to s _ _ (same-run n z) (record { number = p .number; cycles = p .cycles; pc = p .pc; int = int; inte = p .inte; held = held });
-        accepted = accepts-behind n (p .owed) held int;
+        behind = record { number = p .number; cycles = p .cycles; pc = p .pc; int = int; inte = p .inte; held = held };
+        accepted = chip-behind rom sched n s (p .number) (p .owed) held int;
       }
 
   li-kept : (k m : ℕ) → s .core .owed ≡ 0 → s .core .interrupt .int ≡ 0 → Stand rom chip.li k (s .core .flow .pc)
@@ -460,10 +461,11 @@ module _ (rom sched : List ℕ) (s : State) where
 pub load-strings-keep-falls : LoadStringsKeepFalls
 load-strings-keep-falls = record {
   li = λ rom sched k m s o i l h f z.
-      let e : k ≡ 1 * k = omega arith in
-      subst (λ (n : ℕ). noReset sched n (s .cycle .0) (s .count) ≡ true → FallKept rom sched n (past n (s .core .flow .pc)) s) e
-      (li-kept rom sched s k m o i l (omega arith) f) z;
+      let e : 1 * k ≡ k = omega arith in
+      let none : noReset sched k (s .cycle .0) (s .count) ≡ true = rw e at z in
+      subst (λ (n : ℕ). FallKept rom sched n (past n (s .core .flow .pc)) s) (sym e) (li-kept rom sched s k m o i l (omega arith) f none);
   ldi = λ rom sched k m s o i l h f z.
-      subst (λ (n : ℕ). noReset sched n (s .cycle .0) (s .count) ≡ true → FallKept rom sched n (past n (s .core .flow .pc)) s) (double-is k)
-      (ldi-kept rom sched s k m o i l (omega (arith, double-is k)) f) z;
+      let none : noReset sched (double k) (s .cycle .0) (s .count) ≡ true = rw (← double-is k) at z in
+      subst (λ (n : ℕ). FallKept rom sched n (past n (s .core .flow .pc)) s) (double-is k)
+      (ldi-kept rom sched s k m o i l (omega (arith, double-is k)) f none);
 }

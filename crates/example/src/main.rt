@@ -1,25 +1,27 @@
-// How another crate uses the libraries: a board keeps a machine and a day's log. The machine is lent for a run of three cycles, is kept as
-// bytes, and goes on from them after a switch-off, by the other runner, on the part of the log that is still empty; then the bytes are
-// damaged.
+// How another crate uses the libraries: a board keeps a machine and a day's log. The machine is lent for a run of three cycles, and is kept
+// as an image of version 1, as old boards keep it. After a switch-off it goes on from that, by the other runner, on the part of the log
+// that is still empty, and is kept as an image of version 2; then that is damaged.
 // The ROM is document 01's example: OCD A5, LI 3, OE, and then a code that is none.
 use driver::DriveAnswer;
 use driver::KeptMachine;
 use driver::Runner;
 use runs::MachineCycles;
 use runs::Outcome;
+use runs::Version;
 use streams::Output;
 use upd546::CYCLE_BYTES;
 use upd546::LOG_RECORD;
 use upd546::ROM_LENGTH;
-use upd546::layout::DP_AT;
+use upd546::layout::COUNT_AT;
 use upd546::layout::IMAGE_LENGTH;
+use upd546::layout::IMAGE_LENGTH_ONE;
 ghost use mathlib.Core.Path.{_≡_};
 ghost use Rattle.runs.specs.Lists.{runAnswer};
 ghost use Rattle.upd546.specs.TwoRunners.{upd546};
 ghost use Rattle.driver.specs.Lending.{runnerKind, broughtTo};
 
-// 10 cycles in two runs: each run of n cycles has 8n + 8 bytes of it.
-const LOG_LENGTH: usize = 8 * 10 + 16;
+// 10 cycles in two runs: each run of n cycles has 16n bytes of it.
+const LOG_LENGTH: usize = 16 * 10;
 
 // What standard output has so far, and the place where the log is empty.
 struct Told {
@@ -35,15 +37,17 @@ fn main() {
     rom[3] = 0x44;
     rom[4] = 0x1C;
     let mut log = [0u8; LOG_LENGTH];
+    let mut old = [0u8; IMAGE_LENGTH_ONE];
     let mut image = [0u8; IMAGE_LENGTH];
-    let told = evening(&rom, &mut log, &mut image);
-    let out = morning(told, &rom, &mut log, &image);
-    image[DP_AT] = 0x80;
+    let told = evening(&rom, &mut log, &mut old);
+    let out = morning(told, &rom, &mut log, &old, &mut image);
+    image[COUNT_AT] = 5;
     streams::end_whole(b"example", damaged(out, &image));
 }
 
-// Three cycles from the fresh state by the plain runner, and a save.
-fn evening(rom: &[u8], log: &mut [u8], image: &mut [u8]) -> Told {
+// Three cycles from the fresh state by the plain runner, and a save of version 1. Where RES was high in the last cycle, that would be
+// refused with 54: version 1 has no place for the count.
+fn evening(rom: &[u8], log: &mut [u8], old: &mut [u8]) -> Told {
     let schedule = [0u8; 0];
     let state = upd546::fresh_state();
     let answer = lend(
@@ -56,7 +60,8 @@ fn evening(rom: &[u8], log: &mut [u8], image: &mut [u8]) -> Told {
     );
     let shown = show(Output::Whole(0), answer, log, 0);
     let machine = answer.machine;
-    let out = tell(shown, b"saved", save::save(machine.state, image));
+    let outcome = save::save(machine.state, Version::One, old);
+    let out = tell(shown, b"saved as version 1", outcome);
     Told {
         out,
         at: answer.report.written,
@@ -80,9 +85,10 @@ fn lend(
     DriveAnswer { machine, report }
 }
 
-// The bytes are restored, and the panel goes on by the timer-skipping runner. It stops at the code that is none, with number 23.
-fn morning(told: Told, rom: &[u8], log: &mut [u8], image: &[u8]) -> Output {
-    let kept = restore::restore(image);
+// An image of either version is restored; of version 1 the count is 0. The panel goes on by the timer-skipping runner, stops at the code
+// that is none, with number 23, and is saved as version 2.
+fn morning(told: Told, rom: &[u8], log: &mut [u8], old: &[u8], image: &mut [u8]) -> Output {
+    let kept = restore::restore(old);
     let outcome = kept.outcome;
     let before = told.out;
     let out = tell(before, b"restored", outcome);
@@ -97,10 +103,16 @@ fn morning(told: Told, rom: &[u8], log: &mut [u8], image: &[u8]) -> Output {
         told.at,
         MachineCycles(7),
     );
-    show(out, answer, log, told.at)
+    let shown = show(out, answer, log, told.at);
+    let machine = answer.machine;
+    tell(
+        shown,
+        b"saved as version 2",
+        save::save(machine.state, Version::Two, image),
+    )
 }
 
-// DP has 7 bits, so the image is refused with 34. The answer's state is the fresh one.
+// No count is above 4, so the image is refused with 34. The answer's state is the fresh one.
 fn damaged(before: Output, image: &[u8]) -> Output {
     let kept = restore::restore(image);
     let outcome = kept.outcome;

@@ -57,7 +57,7 @@ abbrev pub heldReset : Lines → ℕ → State → State
 heldReset l j s = onward j (withCount resetCount s) (cleared (taken l (s .core))) (s .ram) (replicate latches 0)
 
 -- What a reset cycle makes of a state, and that it begins nothing: "PC, owed, INT, INTE, TM, timer and ports become 0 and the mark
--- other; RAM, Acc, DP, carries and stack are kept"; "lines are taken first". Its record is appended "on reaching 4".
+-- other; RAM, Acc, DP, carries and stack are kept"; "lines are taken first". "On reaching 4 it appends one record".
 pub record Resets (sched : List ℕ) (s t : State) (w : List ℕ) (b : ℕ) : Type 0 where
   pub pc : t .core .flow .pc ≡ 0
   pub owed : t .core .owed ≡ 0

@@ -45,12 +45,6 @@ fn tell(s: Session, number: u8, image: &[u8], log: &[u8], report: &[u8]) -> Sess
     s
 }
 
-// A fresh image, as one call more of a group: its number and image.
-pub(crate) fn fresh(s: Session, number: u8, image: &[u8]) -> Session {
-    let h = digest(mixed(s.digest, number as u64), image);
-    test_stream::chained(s, number, h)
-}
-
 // One call more of a group: its number, report, image and log.
 fn chained(s: Session, number: u8, image: &[u8], log: &[u8], report: &[u8]) -> Session {
     let h = digest(mixed(s.digest, number as u64), report);

@@ -1,6 +1,7 @@
 // What a call is lent: parts of buffers, as long as the commands say.
 use crate::answers;
 use test_stream::Command;
+use test_stream::LIST;
 use test_stream::Session;
 use test_stream::bytes;
 use test_stream::copy;
@@ -37,13 +38,42 @@ pub(crate) fn fresh(c: Command, s: Session, image: &mut [u8]) -> Session {
     let mut t = s;
     t.image = c.length as usize;
     let size = least(c.length as usize, image.len());
-    made_fresh(t, &mut image[..size])
+    made_fresh(c, t, &mut image[..size])
 }
 
-fn made_fresh(s: Session, image: &mut [u8]) -> Session {
+fn made_fresh(c: Command, s: Session, image: &mut [u8]) -> Session {
     test_stream::fill(image);
     let number = board::wharfnettle_fresh(image);
-    answers::fresh(s, number, image)
+    test_stream::buffer_answered(c, s, number, image)
+}
+
+// The image in the version n, in a buffer in which the pattern stands.
+pub(crate) fn convert(c: Command, s: Session, image: &mut [u8], space: &mut [u8]) -> Session {
+    let size = least(c.length as usize, space.len());
+    converted(c, s, image, &mut space[..size])
+}
+
+fn converted(c: Command, s: Session, image: &mut [u8], buffer: &mut [u8]) -> Session {
+    let in_image = least(s.image, image.len());
+    let number = made_version(&image[..in_image], buffer, c.n);
+    let t = test_stream::buffer_answered(c, s, number, buffer);
+    taken(t, image, buffer, (c.value == LIST) & (number == 0))
+}
+
+fn made_version(image: &[u8], buffer: &mut [u8], version: u64) -> u8 {
+    test_stream::fill(buffer);
+    board::wharfnettle_convert(image, buffer, version)
+}
+
+// A list goes on from the buffer.
+fn taken(s: Session, image: &mut [u8], buffer: &[u8], goes_on: bool) -> Session {
+    if !goes_on {
+        return s;
+    }
+    let mut t = s;
+    t.image = buffer.len();
+    copy(image, buffer, 0);
+    t
 }
 
 pub(crate) fn keep(s: Session, image: &[u8], kept: &mut [u8]) -> Session {

@@ -1,7 +1,7 @@
-// Makes the board's calls that the commands of standard input ask for, one after the other on one image, and tells what they leave: a line
-// for a call, for a group of calls, or for a panel's lists. The other interpreter writes the same text; of lists it writes it of one
-// unbroken call. The commands and the text are told at the top of tests/reference/src/bin/trials/stream.rs. It may not know what a state is, nor how a
-// call goes.
+// Makes the board's calls that the commands of standard input ask for, one after the other on one image, and conversions of that image, and
+// tells what they leave: a line for a call, for a group of calls, or for a panel's lists. The other interpreter writes the same text; of
+// lists it writes it of one unbroken call. The commands and the text are told at the top of tests/reference/src/bin/trials/stream.rs. It
+// may not know what a state is, nor how a call goes.
 mod answers;
 mod lent;
 
@@ -16,6 +16,7 @@ fn main() {
     let mut schedule = io::large_buffer();
     let mut image = [0u8; 512];
     let mut kept = [0u8; 512];
+    let mut space = [0u8; 512];
     let mut log = io::large_buffer();
     let mut report = [0u8; 64];
     let mut s = test_stream::begin();
@@ -29,6 +30,7 @@ fn main() {
             &mut schedule,
             &mut image,
             &mut kept,
+            &mut space,
             &mut log,
             &mut report,
         );
@@ -46,6 +48,7 @@ fn one(
     schedule: &mut [u8; 65536],
     image: &mut [u8; 512],
     kept: &mut [u8; 512],
+    space: &mut [u8; 512],
     log: &mut [u8; 65536],
     report: &mut [u8; 64],
 ) -> Session {
@@ -56,6 +59,7 @@ fn one(
         b'I' => lent::image(c, s, image),
         b'X' => lent::changed(c, s, image),
         b'F' => lent::fresh(c, s, image),
+        b'T' => lent::convert(c, s, image, space),
         b'K' => lent::keep(s, image, kept),
         b'B' => lent::bring_back(s, image, kept),
         b'C' => lent::call(c, s, rom, schedule, image, log, report),

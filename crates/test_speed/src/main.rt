@@ -22,8 +22,8 @@ const ROM_AT: usize = 9;
 
 const SCHEDULE_AT: usize = ROM_AT + ROM_LENGTH;
 
-// A slice of 100,000 cycles has room for all its records.
-const LOG_LENGTH: usize = 808008;
+// 16n bytes for a slice of 100,000 cycles, which has room for all its records.
+const LOG_LENGTH: usize = 16 * 100000;
 
 // What the slices gave together, and the last PC. The digest is of the last bytes that each slice wrote.
 struct Sums {

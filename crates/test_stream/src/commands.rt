@@ -9,6 +9,9 @@ use libc::STDOUT_FILENO;
 // The bytes of a command, numbers big-endian.
 const HEAD: usize = 24;
 
+// The value of a call of a list.
+pub const LIST: u8 = 2;
+
 // A letter, and numbers that mean what the letter says.
 pub struct Command {
     pub letter: u8,

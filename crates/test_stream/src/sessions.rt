@@ -2,6 +2,11 @@
 use crate::columns::column;
 use crate::columns::last_column;
 use crate::commands;
+use crate::commands::Command;
+use crate::commands::LIST;
+use crate::digests::digest;
+use crate::digests::mixed;
+use crate::digests::untouched;
 use crate::lists;
 use crate::lists::Sums;
 use crate::lists::Tally;
@@ -94,6 +99,24 @@ pub fn with_list(s: Session, list: Sums) -> Session {
     let mut t = s;
     t.list = list;
     t
+}
+
+// A call of a list that does no cycle. One that is refused is clean where it changed nothing.
+pub fn listed(s: Session, number: u8, clean: bool) -> Session {
+    let list = s.list;
+    if number != 0 {
+        return with_list(s, lists::refused(list, number, clean));
+    }
+    with_list(s, lists::called(list, 0, 0, 0, 0, 0))
+}
+
+// What a save, a conversion or a fresh image left in a buffer in which the pattern stood: its number and the buffer. A refused one of a
+// list leaves the buffer.
+pub fn buffer_answered(c: Command, s: Session, number: u8, buffer: &[u8]) -> Session {
+    if c.value == LIST {
+        return listed(s, number, untouched(buffer, 0));
+    }
+    chained(s, number, digest(mixed(s.digest, number as u64), buffer))
 }
 
 // The list has ended, and is the one that others are compared with.

@@ -1,12 +1,14 @@
 // The calls that are made with the state: runs on a part of the log, saves to a buffer, restores of its bytes. The state that a run or a
 // restore answers is the next one's.
 use crate::answers;
-use crate::answers::LIST;
 use crate::values;
+use crate::values::LENGTH;
 use driver::KeptMachine;
 use driver::Runner;
 use runs::MachineCycles;
+use runs::Version;
 use test_stream::Command;
+use test_stream::LIST;
 use test_stream::Session;
 use test_stream::digest;
 use test_stream::least;
@@ -19,7 +21,7 @@ pub(crate) fn one(
     s: Session,
     rom: &[u8; 4096],
     schedule: &[u8; 65536],
-    value: &mut [u8; 132],
+    value: &mut [u8; LENGTH],
     image: &mut [u8; 512],
     log: &mut [u8; 65536],
 ) -> Session {
@@ -119,6 +121,14 @@ fn kind(runner: u64) -> Runner {
     Runner::Skipping
 }
 
+// Version 1 where the place is 1, else version 2.
+fn version(place: u16) -> Version {
+    if place == 1 {
+        return Version::One;
+    }
+    Version::Two
+}
+
 // A save to the first bytes of the buffer, in which the pattern stands.
 fn save(c: Command, s: Session, value: &[u8], image: &mut [u8]) -> Session {
     let size = least(c.length as usize, image.len());
@@ -128,8 +138,8 @@ fn save(c: Command, s: Session, value: &[u8], image: &mut [u8]) -> Session {
 fn saved(c: Command, s: Session, value: &[u8], buffer: &mut [u8]) -> Session {
     test_stream::fill(buffer);
     let state = values::state_of(value);
-    let outcome = save::save(state, buffer);
-    answers::save_answered(c, s, runs::outcome_number(outcome), buffer)
+    let outcome = save::save(state, version(c.place), buffer);
+    test_stream::buffer_answered(c, s, runs::outcome_number(outcome), buffer)
 }
 
 // A restore of the first bytes of the buffer.

@@ -1,6 +1,7 @@
 // What the calls answer: told in a line, chained to one digest, or summed to a list.
 use driver::Report;
 use test_stream::Command;
+use test_stream::LIST;
 use test_stream::Session;
 use test_stream::Sums;
 use test_stream::column;
@@ -9,9 +10,6 @@ use test_stream::digest_first;
 use test_stream::last_column;
 use test_stream::mixed;
 use test_stream::with_list;
-
-// A call of a list: what a command says in its place for the value.
-pub(crate) const LIST: u8 = 2;
 
 // What a run answered, as the command wants it. `before` and `value` are the digest of the state before it and the value after it.
 pub(crate) fn run_answered(
@@ -81,30 +79,12 @@ fn counts_nothing(report: Report) -> bool {
         & (report.steps == 0)
 }
 
-// A refused save leaves the buffer.
-pub(crate) fn save_answered(c: Command, s: Session, number: u8, buffer: &[u8]) -> Session {
-    if c.value == LIST {
-        return list_other(s, number, test_stream::untouched(buffer, 0));
-    }
-    let h = digest(mixed(s.digest, number as u64), buffer);
-    test_stream::chained(s, number, h)
-}
-
 // What a restore answered: its number, and the digest of the state behind that of all before. A refused one answers the fresh state.
 pub(crate) fn restore_answered(c: Command, s: Session, number: u8, h: u64, fresh: bool) -> Session {
     if c.value == LIST {
-        return list_other(s, number, fresh);
+        return test_stream::listed(s, number, fresh);
     }
     test_stream::chained(s, number, h)
-}
-
-// A save or a restore of a list. One that is refused is clean where it changed nothing.
-fn list_other(s: Session, number: u8, clean: bool) -> Session {
-    let list = s.list;
-    if number != 0 {
-        return with_list(s, test_stream::refused(list, number, clean));
-    }
-    with_list(s, test_stream::called(list, 0, 0, 0, 0, 0))
 }
 
 // The list with the state that it ends with, and with its log of so many bytes.

@@ -1,11 +1,12 @@
 // Runs, saves and restores states that are given as values, field by field and also above their widths, as the commands of standard input
 // ask for, and tells what they answer: a line for a run, for a group of calls, or for a panel's lists. The other interpreter writes the
-// same text; of lists it writes it of one unbroken run. The commands and the text are told at the top of tests/reference/src/bin/trials/stream.rs. It
-// may not know how a run, a save or a restore goes.
+// same text; of lists it writes it of one unbroken run. The commands and the text are told at the top of
+// tests/reference/src/bin/trials/stream.rs. It may not know how a run, a save or a restore goes.
 mod acts;
 mod answers;
 mod values;
 
+use crate::values::LENGTH;
 use test_stream::Command;
 use test_stream::Session;
 use test_stream::bytes;
@@ -19,8 +20,8 @@ const MOST: u64 = 0x4000_0000_0000;
 fn main() {
     let mut rom = io::buffer();
     let mut schedule = io::large_buffer();
-    let mut value = [0u8; 132];
-    let mut kept = [0u8; 132];
+    let mut value = [0u8; LENGTH];
+    let mut kept = [0u8; LENGTH];
     let mut image = [0u8; 512];
     let mut log = io::large_buffer();
     let mut s = test_stream::begin();
@@ -49,8 +50,8 @@ fn one(
     s: Session,
     rom: &mut [u8; 4096],
     schedule: &mut [u8; 65536],
-    value: &mut [u8; 132],
-    kept: &mut [u8; 132],
+    value: &mut [u8; LENGTH],
+    kept: &mut [u8; LENGTH],
     image: &mut [u8; 512],
     log: &mut [u8; 65536],
 ) -> Session {

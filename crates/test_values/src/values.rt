@@ -1,11 +1,12 @@
-// The value of a state: the bytes of its fields, each as it stands there. PC, stack, Acc, C, C', DPH, DPL, INT, INTE, TM, level, mark, owed,
-// register, counter, ports, RAM, cycle number.
+// The value of a state: the bytes of its fields, each as it stands there. PC, stack, Acc, C, C', DPH, DPL, INT, INTE, TM, level, mark,
+// owed, register, counter, ports, RAM, cycle number, count of cycles with RES high.
 use runs::MachineCycles;
 use test_stream::byte;
 use test_stream::copy;
 use test_stream::digest;
 use test_stream::eight;
 use test_stream::lay;
+use test_stream::store;
 use test_stream::word;
 use upd546::Core;
 use upd546::Flow;
@@ -22,7 +23,9 @@ const RAM_AT: usize = PORTS_AT + LATCHES;
 
 const CYCLE_AT: usize = RAM_AT + RAM_WORDS;
 
-const LENGTH: usize = CYCLE_AT + 8;
+const COUNT_AT: usize = CYCLE_AT + 8;
+
+pub(crate) const LENGTH: usize = COUNT_AT + 1;
 
 pub(crate) fn state_of(value: &[u8]) -> State {
     let core = core_of(value);
@@ -34,6 +37,7 @@ pub(crate) fn state_of(value: &[u8]) -> State {
         core,
         ports,
         ram,
+        count: byte(value, COUNT_AT),
         cycle: MachineCycles(eight(value, CYCLE_AT)),
     }
 }
@@ -77,6 +81,7 @@ pub(crate) fn put(value: &mut [u8], s: State) {
     lay(value, PORTS_AT, &ports);
     lay(value, RAM_AT, &ram);
     lay(value, CYCLE_AT, &cycle);
+    store(value, COUNT_AT, s.count);
 }
 
 fn put_core(value: &mut [u8], c: Core) {

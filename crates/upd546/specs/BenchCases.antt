@@ -52,8 +52,12 @@ pub record RunnerRow : Type 0 where
   pub answers : List (RunAnswer State → Bool)
   pub shows : List (State → Bool)
 
+-- the run is an argument here, so that it is computed once
+abbrev pub answerPasses : RunnerRow → RunAnswer State → Bool
+answerPasses r a = allPass (r .answers) a && allPass (r .shows) (a .state)
+
 abbrev pub onRunner : RunnerRow → Bool
-onRunner r = allPass (r .answers) (r .run) && allPass (r .shows) (r .run .state)
+onRunner r = answerPasses r (r .run)
 
 -- Numbers, bytes or a text: what the definitions give, and what the document says.
 pub record NumbersRow : Type 0 where

@@ -1,6 +1,6 @@
 -- The theorems about the machine cycle, each at variables. Assumes nothing.
-use mathlib.Core.Path.{_≡_, _∙_, refl, sym, ap, subst}
-use mathlib.Core.Bool.{true, false}
+use mathlib.Core.Path.{_≡_, _∙_, refl, sym, ap}
+use mathlib.Core.Bool.{false}
 use mathlib.Core.List.{List, []}
 use Prim.Native.Nat.{ℕ, zero, suc, _+_, min, max, _<_, _≤_}
 use native.Mathlib.Omega.{arith}
@@ -17,7 +17,7 @@ use Rattle.upd546.specs.TheLineSchedule.{linesAt}
 use Rattle.upd546.specs.Instructions as chip
 use Rattle.upd546.specs.Instructions.{Given, Instruction, instruction}
 use Rattle.upd546.specs.OneMachineCycle.{blocks, counted, cycle}
-use Rattle.upd546.specs.BenchCases.{from, fallAt}
+use Rattle.upd546.specs.BenchCases.{from}
 use Rattle.upd546.specs.StateImage.{stateNumber}
 use Rattle.upd546.specs.TwoRunners.{upd546}
 use Rattle.laws.specs.Reading.{ReadsEither}
@@ -36,7 +36,7 @@ use Rattle.laws.proofs.Lines.{lines-same}
 use Rattle.laws.proofs.Timer.{register-at, position-at, tick-left, running-left}
 use Rattle.laws.proofs.Jump.{jump-unbroken, jump-in-room}
 use Rattle.witness.specs.Calls as calls
-use Rattle.witness.specs.EveryCycle.{OfEveryString, OfEveryFall, OfEveryReset, OfEveryCount, Widths, CycleFacts, loads, edge, edgeAfter, waits, after, CycleFigures}
+use Rattle.witness.specs.EveryCycle.{OfEveryString, OfEveryFall, OfEveryReset, OfEveryCount, Widths, CycleFacts, loads, edge, edgeLines, edgeAfter, waits, after, panelAt, panelFrom, CycleFigures}
 use Rattle.witness.proofs.Opened.{opened}
 
 greater : (x y z : ℕ) → x < 2 → y < 2 → (x ≡ 1 → z ≡ 1) → (y ≡ 1 → z ≡ 1) → (x ≡ 0 → y ≡ 0 → z ≡ 0) → z ≡ max x y
@@ -76,6 +76,35 @@ string k n to s r p = record {
   int = p .int;
 }
 
+-- a mark that is none of the three
+none-blocks : (mark : ℕ) → (mark ≡ 1 → ⊥) → (mark ≡ 2 → ⊥) → (mark ≡ 4 → ⊥) → blocks mark ≡ false
+none-blocks mark a b c = rw (ne-eqb mark 1 a, ne-eqb mark 2 b, ne-eqb mark 4 c)
+
+fall : (rom sched : List ℕ) (n to : ℕ) (s : State) → FallKept rom sched n to s → OfEveryFall rom sched n to s
+fall rom sched n to s p = record {
+  number = p .behind .number;
+  cycles = p .behind .cycles;
+  pc = p .behind .pc;
+  int = p .behind .int;
+  inte = p .behind .inte;
+  held = p .behind .held;
+  accepted = λ v u r d e f z g i t l x y.
+      let q = p .accepted (record {
+        no-reset = rw (← d, ← e) z;
+        number = g;
+        other = λ h. i (ap (λ (a : ℕ). instruction (byteAt rom a)) (sym (p .behind .pc)) ∙ h);
+        inte = ap (λ (v : State). v .core .interrupt .inte) (sym e) ∙ t;
+        mark = ap (λ (v : State). blocks (v .core .mark)) (sym e) ∙ none-blocks (u .core .mark) l x y;
+      }) in
+      let back : r ≡ unbroken upd546 rom sched (n + 1 + unbroken upd546 rom sched (n + 1) s .state .core .owed + 1) s =
+      f ∙ ap (λ (v : State). unbroken upd546 rom sched (n + 1 + v .core .owed + 1) s) e in (
+        ap (λ (a : Ran State). a .number) back ∙ q .number,
+        ap (λ (a : Ran State). a .state .core .flow .pc) back ∙ q .pc,
+        ap (λ (a : Ran State). getD (a .state .core .flow .stack) 0 0) back ∙ q .return ∙ ap (λ (v : State). v .core .flow .pc) (sym e),
+        ap (λ (a : Ran State). a .state .core .interrupt .inte) back ∙ q .inte,
+      );
+}
+
 -- a reset cycle: its parts make up the whole state
 reset : (sched : List ℕ) (s t : State) (w : List ℕ) (b : ℕ) → Counts sched s t w b → t .count ≡ 4 → OfEveryReset (linesAt sched (s .cycle .0)) s t w b
 reset sched s t w b c e =
@@ -109,35 +138,6 @@ counts rom sched s t w b e =
       high = λ z. c .count ∙ ap (λ (res : ℕ). counted res (s .count)) z;
       reset = reset sched s t w b c;
     }
-
--- a mark that is none of the three
-none-blocks : (mark : ℕ) → (mark ≡ 1 → ⊥) → (mark ≡ 2 → ⊥) → (mark ≡ 4 → ⊥) → blocks mark ≡ false
-none-blocks mark a b c = rw (ne-eqb mark 1 a, ne-eqb mark 2 b, ne-eqb mark 4 c)
-
-fall : (rom sched : List ℕ) (n to : ℕ) (s : State) → FallKept rom sched n to s → OfEveryFall rom sched n to s
-fall rom sched n to s p = record {
-  number = p .behind .number;
-  cycles = p .behind .cycles;
-  pc = p .behind .pc;
-  int = p .behind .int;
-  inte = p .behind .inte;
-  held = p .behind .held;
-  accepted = λ u r e f z g i t l x y.
-      let q = p .accepted (record {
-        no-reset = subst (λ (v : State). noReset sched (n + 1 + v .core .owed + 1) (s .cycle .0) (s .count) ≡ true) e z;
-        number = g;
-        other = λ h. i (ap (λ (a : ℕ). instruction (byteAt rom a)) (sym (p .behind .pc)) ∙ h);
-        inte = ap (λ (v : State). v .core .interrupt .inte) (sym e) ∙ t;
-        mark = ap (λ (v : State). blocks (v .core .mark)) (sym e) ∙ none-blocks (u .core .mark) l x y;
-      }) in
-      let back : r ≡ unbroken upd546 rom sched (n + 1 + unbroken upd546 rom sched (n + 1) s .state .core .owed + 1) s =
-      f ∙ ap (λ (v : State). unbroken upd546 rom sched (n + 1 + v .core .owed + 1) s) e in (
-        ap (λ (a : Ran State). a .number) back ∙ q .number,
-        ap (λ (a : Ran State). a .state .core .flow .pc) back ∙ q .pc,
-        ap (λ (a : Ran State). getD (a .state .core .flow .stack) 0 0) back ∙ q .return ∙ ap (λ (v : State). v .core .flow .pc) (sym e),
-        ap (λ (a : Ran State). a .state .core .interrupt .inte) back ∙ q .inte,
-      );
-}
 
 widths : (s : State) → stateNumber s ≡ 0 → Widths s
 widths s e =
@@ -194,13 +194,18 @@ res-high k h (suc (suc (suc zero))) l = refl
 res-high k h (suc (suc (suc (suc zero)))) l = refl
 res-high k h (suc (suc (suc (suc (suc i))))) l = absurd (omega arith)
 
-abbrev begun-once : State
-begun-once = unbroken upd546 calls.rom calls.sched 1 fresh .state
-
-counted-high : (k : ℕ) → k ≤ 5 → unbroken upd546 calls.rom calls.sched k begun-once .cycles ≡ k
-    → unbroken upd546 calls.rom calls.sched k begun-once .state .count ≡ min 4 (0 + k)
+counted-high : (k : ℕ) → k ≤ 5 → panelFrom 1 k .cycles ≡ k → panelFrom 1 k .state .count ≡ min 4 (0 + k)
 unfolding opened
-counted-high k h e = facts .runs-count calls.rom calls.sched k begun-once (lit≤ tt) e (res-high k h)
+counted-high k h e = facts .runs-count calls.rom calls.sched k (panelAt 1) (lit≤ tt) e (res-high k h)
+
+-- cycle k of that panel
+abbrev OfPanel : ℕ → Type 0
+OfPanel k =
+    OfEveryCount (linesAt calls.sched (panelAt k .cycle .0)) (panelAt k) (panelFrom k 1 .state) (panelFrom k 1 .bytes) (panelFrom k 1 .begun)
+
+panel-counts : (k : ℕ)
+    → cycle calls.rom calls.sched (panelAt k) ≡ went (panelFrom k 1 .state) (panelFrom k 1 .bytes) (panelFrom k 1 .begun) → OfPanel k
+panel-counts k e = facts .counts calls.rom calls.sched _ _ _ _ e
 
 li-stands : Stand loads chip.li 2 1
 unfolding opened
@@ -214,7 +219,7 @@ edge-stands : Stand edge chip.li 2 0
 unfolding opened
 edge-stands = (refl, refl, refl, (refl, refl, refl, tt))
 
-edge-falls : FallsIn (fallAt 1) (from (setInte 1)) 1
+edge-falls : FallsIn edgeLines (from (setInte 1)) 1
 unfolding opened
 edge-falls = (refl, refl)
 
@@ -234,10 +239,11 @@ unfolding opened noReset withoutStm
 figures =
     let li = facts .li loads [] 2 (after loads 1) refl refl li-stands refl in
     let ldi = facts .ldi loads [] 1 (after loads 5) refl refl ldi-stands refl in
-    let kept = facts .li-falls edge (fallAt 1) 2 1 (from (setInte 1)) refl refl edge-stands (lit< tt) edge-falls refl in
+    let kept = facts .li-falls edge edgeLines 2 1 (from (setInte 1)) refl refl edge-stands (lit< tt) edge-falls refl in
     let accepted =
-    kept .accepted (edgeAfter 3) (unbroken upd546 edge (fallAt 1) 4 (from (setInte 1))) refl refl refl refl nop-other refl
+    kept .accepted (edgeAfter 2) (edgeAfter 3) (unbroken upd546 edge edgeLines 4 (from (setInte 1))) refl refl refl refl refl nop-other refl
     (λ e. omega arith) (λ e. omega arith) (λ e. omega arith) in
+    let reached = panel-counts 4 refl .reset refl in
     record {
       li-9 = ap (λ (r : Ran State). r .state .core .registers .acc) (li .whole);
       ldi-45 = ap (λ (r : Ran State). r .state .core .registers .dpl) (ldi .whole);
@@ -247,6 +253,11 @@ figures =
       edge-return = accepted .2;
       count-3 = counted-high 3 (lit≤ tt) refl;
       count-4 = counted-high 5 (lit≤ tt) refl;
+      reset-record = reached .reaching (λ e. omega arith);
+      reset-begun = reached .begins-none;
+      reset-latch = ap (λ (t : State). getD (t .ports) 2 0) (reached .state);
+      reset-acc = ap (λ (t : State). t .core .registers .acc) (reached .state);
+      held-bytes = panel-counts 5 refl .reset refl .staying refl;
       tm-before = facts .tm waits [] fresh 0 62 due refl .before (lit< tt);
       tm-from = facts .tm waits [] fresh 0 63 due refl .from (lit≤ tt);
     }

@@ -24,7 +24,7 @@ use Rattle.upd546.specs.Instructions as chip
 use Rattle.upd546.specs.Instructions.{instruction}
 use Rattle.upd546.specs.OneMachineCycle.{accepts, cycle}
 use Rattle.upd546.specs.StateImage.{stateNumber}
-use Rattle.upd546.specs.BenchCases.{romAt, from, fallAt}
+use Rattle.upd546.specs.BenchCases.{romAt, from, recordAt}
 use Rattle.upd546.specs.TwoRunners.{upd546, panelNumber, jumpLength}
 use Rattle.laws.specs.Timer.{timerLeft}
 use Rattle.laws.specs.Jump.{stateAfterJump}
@@ -78,7 +78,8 @@ pub record OfEveryString (k n to : ℕ) (s : State) (r : Ran State) : Type 0 whe
   pub int : s .core .interrupt .int ≡ 1 → r .state .core .interrupt .int ≡ 1
 
 -- R-5, `LoadStringsKeepFalls`: INT at the boundary behind the string, in n cycles from s, and where the run goes on from there: the
--- next cycle begins an instruction that isn't TIT, with INTE 1 and none of the marks LDI, EI and LI behind it, without a reset cycle
+-- next cycle, from t to u, begins an instruction that isn't TIT, with INTE 1 and none of the marks LDI, EI and LI behind it, and no
+-- cycle from t up to the acceptance is a reset cycle
 pub record OfEveryFall (rom sched : List ℕ) (n to : ℕ) (s : State) : Type 0 where
   pub number : unbroken upd546 rom sched n s .number ≡ none
   pub cycles : unbroken upd546 rom sched n s .cycles ≡ n
@@ -86,9 +87,8 @@ pub record OfEveryFall (rom sched : List ℕ) (n to : ℕ) (s : State) : Type 0 
   pub int : unbroken upd546 rom sched n s .state .core .interrupt .int ≡ 1
   pub inte : unbroken upd546 rom sched n s .state .core .interrupt .inte ≡ s .core .interrupt .inte
   pub held : accepts (unbroken upd546 rom sched n s .state .core) ≡ false
-  pub accepted : (u : State) (r : Ran State) → u ≡ unbroken upd546 rom sched (n + 1) s .state
-      → r ≡ unbroken upd546 rom sched (n + 1 + u .core .owed + 1) s
-      → noReset sched (n + 1 + u .core .owed + 1) (s .cycle .0) (s .count) ≡ true
+  pub accepted : (t u : State) (r : Ran State) → t ≡ unbroken upd546 rom sched n s .state → u ≡ unbroken upd546 rom sched (n + 1) s .state
+      → r ≡ unbroken upd546 rom sched (n + 1 + u .core .owed + 1) s → noReset sched (1 + u .core .owed + 1) (t .cycle .0) (t .count) ≡ true
       → unbroken upd546 rom sched (n + 1) s .number ≡ none
       → (instruction (getD rom to 0) ≡ chip.tit → ⊥) → u .core .interrupt .inte ≡ 1
       → (u .core .mark ≡ 1 → ⊥) → (u .core .mark ≡ 2 → ⊥) → (u .core .mark ≡ 4 → ⊥)
@@ -177,10 +177,12 @@ pub record CycleFacts : Type 0 where
       → noReset sched (2 * k) (s .cycle .0) (s .count) ≡ true
       → OfEveryString k (2 * k) (past (2 * k) (s .core .flow .pc)) s (unbroken upd546 rom sched (2 * k) s)
   pub li-falls : (rom sched : List ℕ) (k m : ℕ) (s : State) → s .core .owed ≡ 0 → s .core .interrupt .int ≡ 0
-      → Stand rom chip.li k (s .core .flow .pc) → m < 1 * k → FallsIn sched s m → noReset sched (1 * k) (s .cycle .0) (s .count) ≡ true
+      → Stand rom chip.li k (s .core .flow .pc) → m < 1 * k → FallsIn sched s m
+      → noReset sched (1 * k) (s .cycle .0) (s .count) ≡ true
       → OfEveryFall rom sched (1 * k) (past (1 * k) (s .core .flow .pc)) s
   pub ldi-falls : (rom sched : List ℕ) (k m : ℕ) (s : State) → s .core .owed ≡ 0 → s .core .interrupt .int ≡ 0
-      → Stand rom chip.ldi k (s .core .flow .pc) → m < 2 * k → FallsIn sched s m → noReset sched (2 * k) (s .cycle .0) (s .count) ≡ true
+      → Stand rom chip.ldi k (s .core .flow .pc) → m < 2 * k → FallsIn sched s m
+      → noReset sched (2 * k) (s .cycle .0) (s .count) ≡ true
       → OfEveryFall rom sched (2 * k) (past (2 * k) (s .core .flow .pc)) s
   pub tm : (rom sched : List ℕ) (s : State) (i k : ℕ) → StmDue rom sched s i → withoutStm rom sched k (unbroken upd546 rom sched 2 s .state) ≡ true
       → OfEveryStm i k (unbroken upd546 rom sched (2 + k) s)
@@ -209,18 +211,22 @@ pub record CycleFacts : Type 0 where
   pub jump-in-room : (rom sched : List ℕ) (s : State) (left j : ℕ) → jumpLength rom sched s left ≡ j → (j ≡ 0 → ⊥) → Valid s → (room : ℕ)
       → within upd546 rom sched room j s ≡ jumped j s
 
--- IN FIGURES: the premises of four of them, as they are met
+-- IN FIGURES: the premises of six of them, as they are met
 
 -- LI 9, LI 2, LI 5, and from 003 on LDI 45, LDI 67
 abbrev pub loads : List ℕ
 loads = romAt 0 (0x99 ∷ 0x92 ∷ 0x95 ∷ 0x15 ∷ 0x45 ∷ 0x15 ∷ 0x67 ∷ [])
 
--- LI 5, LI 9 and NOPs, with INTE 1; INT falls between the two, in cycle 1
+-- LI 5, LI 9 and NOPs, with INTE 1; INT falls between the two, in cycle 1, and RES is high from there on: in cycle 3, that of the
+-- acceptance, the count becomes 3
 abbrev pub edge : List ℕ
 edge = romAt 0 (0x95 ∷ 0x99 ∷ [])
 
+abbrev pub edgeLines : List ℕ
+edgeLines = recordAt 1 0 1
+
 abbrev pub edgeAfter : ℕ → State
-edgeAfter n = unbroken upd546 edge (fallAt 1) n (from (setInte 1)) .state
+edgeAfter n = unbroken upd546 edge edgeLines n (from (setInte 1)) .state
 
 -- STM 80, and a JCP to itself
 abbrev pub waits : List ℕ
@@ -230,18 +236,31 @@ waits = romAt 0 (0x14 ∷ 0x80 ∷ 0xC2 ∷ [])
 abbrev pub after : List ℕ → ℕ → State
 after rom n = unbroken upd546 rom [] n fresh .state
 
+-- the panel of the list of calls before cycle k, and n cycles of it from there: RES is high from cycle 1 to cycle 5
+abbrev pub panelAt : ℕ → State
+panelAt k = unbroken upd546 calls.rom calls.sched k fresh .state
+
+abbrev pub panelFrom : (k n : ℕ) → Ran State
+panelFrom k n = unbroken upd546 calls.rom calls.sched n (panelAt k)
+
 pub record CycleFigures : Type 0 where
   -- behind LI 9 two more; behind LDI 45 one more, of two cycles
   pub li-9 : unbroken upd546 loads [] 2 (after loads 1) .state .core .registers .acc ≡ 9
   pub ldi-45 : unbroken upd546 loads [] 2 (after loads 5) .state .core .registers .dpl ≡ 5
   pub ldi-begun : unbroken upd546 loads [] 2 (after loads 5) .begun ≡ 1
-  -- RES is high from cycle 1 to cycle 5: the count is 3 before the reset, 4 after it and while it is held
-  pub count-3 : unbroken upd546 calls.rom calls.sched 3 (unbroken upd546 calls.rom calls.sched 1 fresh .state) .state .count ≡ 3
-  pub count-4 : unbroken upd546 calls.rom calls.sched 5 (unbroken upd546 calls.rom calls.sched 1 fresh .state) .state .count ≡ 4
   -- kept behind LI 9, and accepted behind the NOP at 002
   pub edge-kept : edgeAfter 2 .core .interrupt .int ≡ 1
   pub edge-accepted : edgeAfter 4 .core .flow .pc ≡ 0x03C
   pub edge-return : getD (edgeAfter 4 .core .flow .stack) 0 0 ≡ 3
+  -- the count is 3 before the reset, 4 after it and while it is held
+  pub count-3 : panelFrom 1 3 .state .count ≡ 3
+  pub count-4 : panelFrom 1 5 .state .count ≡ 4
+  -- cycle 4, the second of OE, is the first reset cycle: its record, nothing begun, latch E 0 and Acc still 3; cycle 5 appends nothing
+  pub reset-record : panelFrom 4 1 .bytes ≡ 0 ∷ 0 ∷ 0 ∷ 0 ∷ 0 ∷ 4 ∷ 0 ∷ 0 ∷ []
+  pub reset-begun : panelFrom 4 1 .begun ≡ 0
+  pub reset-latch : getD (panelFrom 4 1 .state .ports) 2 0 ≡ 0
+  pub reset-acc : panelFrom 4 1 .state .core .registers .acc ≡ 3
+  pub held-bytes : panelFrom 5 1 .bytes ≡ []
   -- I = 0
   pub tm-before : after waits 64 .core .timer .tm ≡ 0
   pub tm-from : after waits 65 .core .timer .tm ≡ 1
