@@ -1,5 +1,5 @@
--- No switch-off and no reset loses or invents a wait: the report over lists of the board's call, for any machine. Assumes nothing: these are
--- definitions.
+-- No switch-off and no reset loses or invents a wait: the report over lists of the board's call, for any machine. Assumes nothing:
+-- these are definitions.
 use Prim.Native.Nat.{ℕ, _+_, _≤_}
 use mathlib.Core.Path.{_≡_}
 use mathlib.Core.List.{List}

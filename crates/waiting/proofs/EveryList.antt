@@ -62,8 +62,8 @@ module _ (end : ℕ) where
 -- A RUN'S RECORDS ARE IN ORDER
 
 -- a record as it is written, behind one of an earlier cycle
-as-written : (first n : ℕ) (w : Write) {r : LogRecord} → first ≤ n → portTaken (w .port) ≡ true → w .value ≤ valueMost (w .port) → r .cycle .0 ≡ n
-    → r .port ≡ w .port → r .value ≡ w .value → recordSound first r ≡ true
+as-written : (first n : ℕ) (w : Write) {r : LogRecord} → first ≤ n → portTaken (w .port) ≡ true → w .value ≤ valueMost (w .port)
+    → r .cycle .0 ≡ n → r .port ≡ w .port → r .value ≡ w .value → recordSound first r ≡ true
 unfolding recordSound allOf
 as-written first n w {r} h t v e p q =
     let value : r .value ≤ valueMost (r .port) = rw (p, q) v in
@@ -74,7 +74,8 @@ as-written first n w {r} h t v e p q =
 logged-taken : (w : Write) → Logged w → portTaken (w .port) ≡ true
 unfolding portTaken
 logged-taken w (reset p v) = rw p
-logged-taken w (write v) = rw (ne-eqb (w .port) portReset (λ e. omega (arith, v .first)), le-leb portC (w .port) (v .first), le-leb (w .port) portI (v .last))
+logged-taken w (write v) =
+    rw (ne-eqb (w .port) portReset (λ e. omega (arith, v .first)), le-leb portC (w .port) (v .first), le-leb (w .port) portI (v .last))
 
 logged-value : (w : Write) → Logged w → w .value ≤ valueMost (w .port)
 unfolding valueMost
@@ -95,8 +96,11 @@ records-order {first} {end} (also {log = log} n w low high v r) h =
     let count : suc (suc (suc (suc (suc (suc (suc (suc (length log)))))))) / 8 ≡ suc (length log / 8) = omega arith in
     let cycle : recordHere (logRecord n w ++ log) .cycle .0 ≡ n = cycle-back n (omega arith) in
     let rest : InOrder n end (recordsOf log) = records-order r h in
-    subst (λ (k : ℕ). InOrder first end (recordsIn k (logRecord n w ++ log))) (sym count)
-    (as-written first n w low (logged-taken w v) (logged-value w v) cycle refl refl, rw cycle high, subst (λ (m : ℕ). InOrder m end (recordsOf log)) (sym cycle) rest)
+    subst (λ (k : ℕ). InOrder first end (recordsIn k (logRecord n w ++ log))) (sym count) (
+      as-written first n w low (logged-taken w v) (logged-value w v) cycle refl refl,
+      rw cycle high,
+      subst (λ (m : ℕ). InOrder m end (recordsOf log)) (sym cycle) rest,
+    )
 
 -- LOGS READ ONE AFTER THE OTHER
 

@@ -80,7 +80,10 @@ entryBytes n port value = 0 ∷ 0 ∷ 0 ∷ 0 ∷ 0 ∷ n ∷ port ∷ value ∷
 
 -- 5 to C and A to D, 3 to E, the reset, and the same again
 abbrev pub wantedLog : List ℕ
-wantedLog = entryBytes 0 2 5 ++ entryBytes 0 3 10 ++ entryBytes 3 4 3 ++ entryBytes 4 0 0 ++ entryBytes 6 2 5 ++ entryBytes 6 3 10 ++ entryBytes 9 4 3
+wantedLog =
+    entryBytes 0 2 5 ++ entryBytes 0 3 10 ++ entryBytes 3 4 3
+    ++ entryBytes 4 0 0
+    ++ entryBytes 6 2 5 ++ entryBytes 6 3 10 ++ entryBytes 9 4 3
 
 -- `U43`, the version; PC 004, the stack; DP, Acc 3, the level, mark, owed, timer; ports C, D and E; RAM; cycle 11
 abbrev pub imageWith : (version : ℕ) → List ℕ

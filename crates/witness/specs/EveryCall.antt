@@ -132,7 +132,8 @@ pub record CallFacts : Type 0 where
       → restoreAnswer upd546 (take 81 (saveAnswer upd546 One (restoreAnswer upd546 bytes .state) buffer .buffer)) ≡ restoreAnswer upd546 bytes
   -- `EveryConversionRefusesInOrder`, `VersionRefusesBeforeTheBuffer`
   pub converted-by : (from to : List ℕ) (version : ℕ) → Bytes from
-      → convertAnswer upd546 from to version .number ≡ firstOf (imageNumber from ∷ wantedNumber upd546 (versionNamed version) (ofImage from) to ∷ [])
+      → convertAnswer upd546 from to version .number
+      ≡ firstOf (imageNumber from ∷ wantedNumber upd546 (versionNamed version) (ofImage from) to ∷ [])
   pub by-54 : (s : State) (buffer : List ℕ) → stateNumber s ≡ 0 → (s .count ≡ 0 → ⊥) → saveAnswer upd546 One s buffer .number ≡ 54
   -- `refused-as-it-was`, `numbered-as-it-was`: of what `drive` and `advance` ensure
   pub refused-run : (kind : Kind) (rom sched : List ℕ) (m : KeptMachine) (log : List ℕ) (n : ℕ) (r : Report) (m′ : KeptMachine) (log′ : List ℕ)
@@ -178,8 +179,8 @@ pub record OfAnyMachine {S : Type 0} (M : Machine S) : Type 0 where
       → endBy (callAnswer M c .number) ≡ runOf M c .end
   pub refused-by : JumpLaws M → NumberLaws M → (c : BoardCall) → callRefusal M c ≡ callNumber M c
   pub unchanged : JumpLaws M → NumberLaws M → (c : BoardCall) → CallChangesNothing M (callRefusal M c) c
-  pub accepted-images : Laws M → NumberLaws M → AcceptedLaws M → (rom sched image : List ℕ) (calls : List BoardCall) → Bytes image → Panel M rom sched
-      → currentAnswer M image .number ≡ 0 → OnOneImage M rom sched image (callsNotRefused M calls)
+  pub accepted-images : Laws M → NumberLaws M → AcceptedLaws M → (rom sched image : List ℕ) (calls : List BoardCall) → Bytes image
+      → Panel M rom sched → currentAnswer M image .number ≡ 0 → OnOneImage M rom sched image (callsNotRefused M calls)
       → CallsEndAsOneRun M rom sched image (currentAnswer M image .state) calls
   pub version-first : (version : Version) (s : S) (buffer : List ℕ) (k : ℕ) → M .stateNumber s ≡ 0 → M .versionNumber version s ≡ suc k
       → refusal M (save version s buffer) ≡ suc k
@@ -192,7 +193,8 @@ pub record OfAnyMachine {S : Type 0} (M : Machine S) : Type 0 where
       → M .versionNumber One (restoreAnswer M bytes .state) ≡ 0 → M .imageLength One ≤ length buffer
       → restoreAnswer M (savedAs M One (restoreAnswer M bytes .state) buffer) ≡ restoreAnswer M bytes
   pub converted-by : AcceptedLaws M → (from to : List ℕ) (version : ℕ) → Bytes from
-      → convertAnswer M from to version .number ≡ firstOf (M .imageNumber from ∷ wantedNumber M (versionNamed version) (M .ofImage from) to ∷ [])
+      → convertAnswer M from to version .number
+      ≡ firstOf (M .imageNumber from ∷ wantedNumber M (versionNamed version) (M .ofImage from) to ∷ [])
 
 -- What these ask of a machine, and nothing else: the laws, each made of all that it says.
 pub record OfEveryLaw {S : Type 0} (M : Machine S) : Type 0 where
@@ -206,9 +208,11 @@ pub record OfEveryLaw {S : Type 0} (M : Machine S) : Type 0 where
       → ((v : Version) (s : S) → M .stateNumber s ≡ 0 → M .versionNumber v s ≡ 0 → M .ofImage (M .image v s) ≡ s)
       → ((s : S) → M .versionNumber Two s ≡ 0) → ImageLaws M
   pub accepted : ((bytes : List ℕ) → M .imageNumber bytes ≡ 0 → (v : Version) × (length bytes ≡ M .imageLength v))
-      → ((v : Version) (bytes : List ℕ) → Bytes bytes → length bytes ≡ M .imageLength v → M .imageNumber bytes ≡ 0 → ImageOf M v bytes (M .ofImage bytes))
+      → ((v : Version) (bytes : List ℕ) → Bytes bytes → length bytes ≡ M .imageLength v → M .imageNumber bytes ≡ 0
+      → ImageOf M v bytes (M .ofImage bytes))
       → AcceptedLaws M
-  pub image-of : (v : Version) (bytes : List ℕ) (s : S) → M .stateNumber s ≡ 0 → M .versionNumber v s ≡ 0 → bytes ≡ M .image v s → ImageOf M v bytes s
+  pub image-of : (v : Version) (bytes : List ℕ) (s : S) → M .stateNumber s ≡ 0 → M .versionNumber v s ≡ 0 → bytes ≡ M .image v s
+      → ImageOf M v bytes s
   pub jumps : ((rom sched : List ℕ) (s : S) (left : ℕ) → M .jump rom sched s left ≤ left) → JumpLaws M
   pub numbers : ((rom sched : List ℕ) (s : S) (k : ℕ) → M .cycle rom sched s ≡ stop k → isStop k ≡ true)
       → ((rom sched : List ℕ) → isStop (M .panelNumber rom sched) ≡ false) → ((s : S) → isStop (M .stateNumber s) ≡ false)

@@ -194,7 +194,8 @@ pub record CycleFacts : Type 0 where
       → Valid t × (t .cycle .0 ≡ suc (s .cycle .0)) × (length w ≤ 16)
   pub begins-one : (rom sched : List ℕ) (s t : State) (w : List ℕ) (b : ℕ) → cycle rom sched s ≡ went t w b → b ≤ 1
   -- `EveryCycleCountsRes`, `EveryRunCountsRes`
-  pub counts : (rom sched : List ℕ) (s t : State) (w : List ℕ) (b : ℕ) → cycle rom sched s ≡ went t w b → OfEveryCount (linesAt sched (s .cycle .0)) s t w b
+  pub counts : (rom sched : List ℕ) (s t : State) (w : List ℕ) (b : ℕ) → cycle rom sched s ≡ went t w b
+      → OfEveryCount (linesAt sched (s .cycle .0)) s t w b
   pub runs-count : (rom sched : List ℕ) (k : ℕ) (s : State) → s .count ≤ 4 → unbroken upd546 rom sched k s .cycles ≡ k
       → ((i : ℕ) → i < k → linesAt sched (s .cycle .0 + i) .res ≡ 1) → unbroken upd546 rom sched k s .state .count ≡ min 4 (s .count + k)
   -- `lines-same`

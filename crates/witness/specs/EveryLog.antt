@@ -45,7 +45,8 @@ pub record OfEveryLog (c : Carried) (log : List ℕ) : Type 0 where
   -- R-8, `ResetClosesAllWaits`, `ResetHasValueZero`: a record of port 0
   pub reset : (n : ℕ) → waitingTimes log c .number ≡ 0 → waitingTimes log c .carried .last .0 ≤ n → n < 281474976710656
       → Darkened n (waitingTimes log c .carried) (waitingTimes (log ++ (bytesOf 6 n ++ (0 ∷ 0 ∷ []))) c)
-  pub reset-value : (n v : ℕ) → waitingTimes log c .number ≡ 0 → 0 < v → waitingTimes (log ++ (bytesOf 6 n ++ (0 ∷ v ∷ []))) c ≡ refusedWith 42
+  pub reset-value : (n v : ℕ) → waitingTimes log c .number ≡ 0 → 0 < v
+      → waitingTimes (log ++ (bytesOf 6 n ++ (0 ∷ v ∷ []))) c ≡ refusedWith 42
 
 -- why no figure overflows: `carried-grown`, `can-read`
 pub record OfEveryRecord (c : Carried) : Type 0 where

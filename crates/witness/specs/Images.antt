@@ -46,7 +46,8 @@ pub record ImageFigures : Type 0 where
   -- `EveryVersionOneImageComesBack`
   pub forward : saveAnswer upd546 Two (restoreAnswer upd546 wantedOld .state) (replicate 82 9) .number ≡ 0
   pub taken : restoreAnswer upd546 forth ≡ restoreAnswer upd546 wantedOld
-  pub backward : saveAnswer upd546 One (restoreAnswer upd546 forth .state) (replicate 83 9) ≡ record { number = 0; buffer = wantedOld ++ (9 ∷ 9 ∷ []) }
+  pub backward : saveAnswer upd546 One (restoreAnswer upd546 forth .state) (replicate 83 9)
+      ≡ record { number = 0; buffer = wantedOld ++ (9 ∷ 9 ∷ []) }
   -- `EveryConversionComesBack`
   pub converts : convertAnswer upd546 wantedOld (replicate 82 9) 2 .number ≡ 0
   pub converts-back : convertAnswer upd546 converted (replicate 83 9) 1 ≡ record { number = 0; buffer = wantedOld ++ (9 ∷ 9 ∷ []) }
