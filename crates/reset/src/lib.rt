@@ -4,11 +4,14 @@ use upd546::Core;
 use upd546::LATCHES;
 use upd546::LOG_RECORD;
 use upd546::Lines;
+use upd546::MARK_OTHER;
 use upd546::RESET_COUNT;
+use upd546::Timer;
 ghost use mathlib.Core.Path.{_≡_};
 ghost use Prim.Native.Nat.{_+_, _<_, _≤_};
 ghost use lib.ListN.{length, replicate};
 ghost use Rattle.upd546.specs.TheMachine.{latches};
+ghost use Rattle.upd546.specs.OneMachineCycle.{counted as countedOf, cleared as clearedOf};
 ghost use Rattle.reset.specs.Line.{records, appended, seenOf, lookedAt};
 
 // Where a run stands once the line was looked at: the next cycle, the limit up to which lines and count stay, and the count after
@@ -20,6 +23,38 @@ pub struct Looked {
     pub number: u64,
     pub limit: u64,
     pub count: u8,
+}
+
+// The count after a cycle with this RES: how many cycles it has been high, at most 4.
+fn counted(res: u8, count: u8) -> u8
+    ensures { λ r. ⌜ r ≡ countedOf res count ⌝ }
+{
+    if res == 0 {
+        return 0;
+    }
+    if count < RESET_COUNT {
+        return count + 1;
+    }
+    RESET_COUNT
+}
+
+// What a reset leaves of a core, once the lines are taken: registers, stack and the INT level.
+fn cleared(c: Core) -> Core
+    ensures { λ r. ⌜ r ≡ clearedOf c ⌝ }
+{
+    let stopped = Timer {
+        tm: 0,
+        register: 0,
+        counter: 0,
+    };
+    let mut d = c;
+    d.flow.pc = 0;
+    d.interrupt.int = 0;
+    d.interrupt.inte = 0;
+    d.timer = stopped;
+    d.mark = MARK_OTHER;
+    d.owed = 0;
+    d
 }
 
 fn clear(ports: &mut [u8; LATCHES])
@@ -55,7 +90,7 @@ pub fn look(
     requires { ⌜ (n < limit) × (at ≤ length (now log)) ⌝ }
     ensures { λ r. ⌜ seenOf r (now (ports .exit)) (now (log .exit)) ≡ lookedAt before (now (ports .entry)) (now (log .entry)) at lines n limit count ⌝ }
 {
-    let after = steps::counted(lines.res, count);
+    let after = counted(lines.res, count);
     if after != RESET_COUNT {
         return Looked {
             full: false,
@@ -78,7 +113,7 @@ pub fn look(
     }
     let end = recorded(log, at, n, count);
     clear(ports);
-    let core = steps::cleared(steps::taken(lines, before));
+    let core = cleared(steps::taken(lines, before));
     Looked {
         full: false,
         core,

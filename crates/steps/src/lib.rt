@@ -1,5 +1,4 @@
-// Steps a, b and d of a machine cycle, on cores: acceptance of an interrupt, the lines, the timer. What a reset clears, how RES is
-// counted and how PC counts.
+// Steps a, b and d of a machine cycle, on cores: acceptance of an interrupt, the lines, the timer. And how PC counts.
 // It may not know what an instruction does, nor how a run goes.
 use upd546::Core;
 use upd546::Flow;
@@ -9,12 +8,11 @@ use upd546::MARK_LDI;
 use upd546::MARK_LI;
 use upd546::MARK_OTHER;
 use upd546::MARK_STM;
-use upd546::RESET_COUNT;
 use upd546::Timer;
 ghost use mathlib.Core.Path.{_≡_};
 ghost use Rattle.upd546.specs.TheMachine.{follows as followsOf};
 ghost use Rattle.upd546.specs.Timer.{stepRegister, tick as tickOf};
-ghost use Rattle.upd546.specs.OneMachineCycle.{blocks as blocksOf, accepts as acceptsOf, accepted as acceptedOf, taken as takenOf, paid as paidOf, ticked as tickedOf, counted as countedOf, cleared as clearedOf};
+ghost use Rattle.upd546.specs.OneMachineCycle.{blocks as blocksOf, accepts as acceptsOf, accepted as acceptedOf, taken as takenOf, paid as paidOf, ticked as tickedOf};
 
 // Where an accepted interrupt goes.
 const INTERRUPT_ADDRESS: u16 = 0x03C;
@@ -132,37 +130,5 @@ pub fn accepted(c: Core) -> Core
     d.interrupt.int = 0;
     d.interrupt.inte = 0;
     d.mark = MARK_OTHER;
-    d
-}
-
-// The count after a cycle with this RES: how many cycles it has been high, at most 4.
-pub fn counted(res: u8, count: u8) -> u8
-    ensures { λ r. ⌜ r ≡ countedOf res count ⌝ }
-{
-    if res == 0 {
-        return 0;
-    }
-    if count < RESET_COUNT {
-        return count + 1;
-    }
-    RESET_COUNT
-}
-
-// What a reset leaves of a core, once the lines are taken: registers, stack and the INT level.
-pub fn cleared(c: Core) -> Core
-    ensures { λ r. ⌜ r ≡ clearedOf c ⌝ }
-{
-    let stopped = Timer {
-        tm: 0,
-        register: 0,
-        counter: 0,
-    };
-    let mut d = c;
-    d.flow.pc = 0;
-    d.interrupt.int = 0;
-    d.interrupt.inte = 0;
-    d.timer = stopped;
-    d.mark = MARK_OTHER;
-    d.owed = 0;
     d
 }

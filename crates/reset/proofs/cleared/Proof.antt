@@ -1,8 +1,8 @@
 -- Every part that a reset clears. Assumes nothing.
 use mathlib.Core.Path.{refl}
 use Rattle.upd546.specs.OneMachineCycle.{cleared as clearedOf}
-use Rattle.steps.proofs.cleared.Statement.{statement}
-use Rattle.steps.proofs.cleared.Tie as tie
+use Rattle.reset.proofs.cleared.Statement.{statement}
+use Rattle.reset.proofs.cleared.Tie as tie
 
 returns : tie.Need-returns
 unfolding clearedOf

@@ -5,8 +5,8 @@ use native.Mathlib.Omega.{arith}
 use borrow.Author.Needs.{needs}
 use Rattle.upd546.specs.TheMachine.{resetCount}
 use Rattle.upd546.specs.OneMachineCycle.{counted as countedOf}
-use Rattle.steps.proofs.counted.Statement.{statement}
-use Rattle.steps.proofs.counted.Tie as tie
+use Rattle.reset.proofs.counted.Statement.{statement}
+use Rattle.reset.proofs.counted.Tie as tie
 
 high : (res count : ℕ) → (res ≡ 0 → ⊥) → countedOf res count ≡ min resetCount (count + 1)
 high zero count n = absurd (n refl)
