@@ -5,6 +5,7 @@ use runs::Outcome;
 use runs::RunEnd;
 use runs::Version;
 use upd546::RunAnswer;
+use upd546::Sheet;
 ghost use mathlib.Core.Path.{_≡_};
 ghost use mathlib.Core.List.{_++_};
 ghost use Prim.Native.Nat.{_+_, _≤_};
@@ -13,8 +14,8 @@ ghost use Rattle.runs.specs.declared.Version.the-variants.{Two};
 ghost use Rattle.runs.specs.TwoRunners.{saveAnswer};
 ghost use Rattle.upd546.specs.Bytes.{bytesOf};
 ghost use Rattle.upd546.specs.TheMachine.{fresh};
-ghost use Rattle.upd546.specs.TwoRunners.{upd546, answerOf};
-ghost use Rattle.calls.specs.Call.{kindOf, reportLength, countBytes, reported, imageRun, callAnswer};
+ghost use Rattle.upd546.specs.TwoRunners.{upd546, chip, answerOf};
+ghost use Rattle.calls.specs.Call.{kindOf, reportLength, countBytes, reported, imageRun, boardAnswer};
 ghost use Rattle.calls.specs.EveryCall.{ranBy};
 
 // The bytes of a report.
@@ -39,7 +40,7 @@ fn put_counts(report: &mut [u8], cycles: MachineCycles, begun: u64, written: usi
     put_count(report, 24, steps);
 }
 
-// The run of an image: refused where a restore refuses the image, version 2 being due, else what the runner answers.
+// The run of an image: refused where a restore refuses the sheet or the image, version 2 being due, else what the runner answers.
 fn run_image(
     image: &[u8],
     rom: &[u8],
@@ -47,22 +48,23 @@ fn run_image(
     log: &mut [u8],
     n: u64,
     runner: u64,
+    sheet: Sheet,
 ) -> RunAnswer
-    ensures { λ r. ⌜ answerOf r (now (log .exit)) ≡ imageRun upd546 (kindOf runner) (now (image .entry)) (now (rom .entry)) (now (schedule .entry)) (now (log .entry)) n ⌝ }
+    ensures { λ r. ⌜ answerOf r (now (log .exit)) ≡ imageRun (chip sheet) (kindOf runner) (now (image .entry)) (now (rom .entry)) (now (schedule .entry)) (now (log .entry)) n ⌝ }
 {
-    let restored = restore::restore_current(image);
+    let restored = restore::restore_current(image, sheet);
     let outcome = restored.outcome;
     let state = restored.state;
     if let Outcome::Refused(why) = outcome {
         return runner::refused(why, state);
     }
     if runner == 0 {
-        return runner::run_plain(rom, schedule, state, log, MachineCycles(n));
+        return runner::run_plain(rom, schedule, state, log, MachineCycles(n), sheet);
     }
-    runner::run_skipping(rom, schedule, state, log, MachineCycles(n))
+    runner::run_skipping(rom, schedule, state, log, MachineCycles(n), sheet)
 }
 
-// THE BOARD'S CALL: 1 of a short report, the image's refusals, the run's; then the image is saved over.
+// THE BOARD'S CALL: 1 of a short report, 71, the image's refusals, the run's; then the image is saved over.
 #[no_mangle]
 pub extern "C" fn wharfnettle_call(
     image: &mut [u8],
@@ -72,13 +74,21 @@ pub extern "C" fn wharfnettle_call(
     n: u64,
     runner: u64,
     report: &mut [u8],
+    rom_bytes: u64,
+    rows: u64,
+    levels: u64,
 ) -> u8
-    ensures { λ r. ⌜ record { number = r; image = now (image .exit); log = now (log .exit); report = now (report .exit) } ≡ callAnswer upd546 (record { image = now (image .entry); rom = now (rom .entry); sched = now (schedule .entry); log = now (log .entry); n = n; runner = runner; report = now (report .entry) }) ⌝ }
+    ensures { λ r. ⌜ record { number = r; image = now (image .exit); log = now (log .exit); report = now (report .exit) } ≡ boardAnswer chip (record { image = now (image .entry); rom = now (rom .entry); sched = now (schedule .entry); log = now (log .entry); n = n; runner = runner; report = now (report .entry); sheet = record { rom = «rom_bytes»; rows = rows; levels = levels } }) ⌝ }
 {
     if report.len() < REPORT_LENGTH {
         return 1;
     }
-    let a = run_image(image, rom, schedule, log, n, runner);
+    let sheet = Sheet {
+        rom: rom_bytes,
+        rows,
+        levels,
+    };
+    let a = run_image(image, rom, schedule, log, n, runner, sheet);
     let end = a.end;
     let cycles = a.cycles;
     let state = a.state;
@@ -86,16 +96,21 @@ pub extern "C" fn wharfnettle_call(
     if let RunEnd::Refused(why) = end {
         return runs::refusal_number(why);
     }
-    save::save(state, Version::Two, image);
+    save::save(state, Version::Two, image, sheet);
     runs::end_number(end)
 }
 
-// The image of the fresh state, saved into a buffer as version 2.
+// The image of the fresh state, saved into a buffer as version 2. It is the same under every sheet.
 #[no_mangle]
 pub extern "C" fn wharfnettle_fresh(image: &mut [u8]) -> u8
     ensures { λ r. ⌜ record { number = r; buffer = now (image .exit) } ≡ saveAnswer upd546 Two fresh (now (image .entry)) ⌝ }
 {
-    runs::outcome_number(save::save(upd546::fresh_state(), Version::Two, image))
+    let sheet = Sheet {
+        rom: 2000,
+        rows: 31,
+        levels: 3,
+    };
+    runs::outcome_number(save::save(upd546::fresh_state(), Version::Two, image, sheet))
 }
 
 // Whether the number of a call is that of a finish or a stop, and no refusal's.

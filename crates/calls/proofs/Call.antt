@@ -1,5 +1,5 @@
 -- What the board's call answers, case by case, for whoever makes it. Assumes nothing.
-use mathlib.Core.Path.{_≡_, _∙_, refl, sym, ap, subst}
+use mathlib.Core.Path.{_≡_, _∙_, refl, sym, ap}
 use mathlib.Core.List.{List}
 use Prim.Native.Nat.{ℕ, zero, suc, _≤_, _<_}
 use lib.ListN.{length}
@@ -7,8 +7,8 @@ use borrow.Author.Tests.{le-leb, lt-leb}
 use Rattle.runs.specs.declared.Version.the-variants.{Two}
 use Rattle.runs.specs.Machine.{Machine}
 use Rattle.runs.specs.TwoRunners.{End, finished, stopped, refused, numberOfEnd, RunAnswer, refusedRun, RestoreAnswer, saveAnswer, currentAnswer}
-use Rattle.runs.specs.Lists.{Kind, run, refusalOf, runAnswer, ChangesNothing}
-use Rattle.runs.proofs.Calls.{changes-nothing}
+use Rattle.runs.specs.Lists.{Kind, refusalOf, runAnswer}
+use Rattle.runs.proofs.Calls.{run-refusal, run-refused}
 use Rattle.calls.specs.Call.{BoardCall, kindOf, reportLength, countBytes, reported, onRestored, imageRun, runOf, ranCall, answerAtEnd, callAnswer}
 
 -- an end that isn't a refusal
@@ -29,8 +29,8 @@ module _ {S : Type 0} (M : Machine S) where
   restored-idle : (k : ℕ) (s : S) (kind : Kind) (rom sched log : List ℕ) (n j : ℕ) → onRestored M k s kind rom sched log n .end ≡ refused (suc j)
       → Idle log (onRestored M k s kind rom sched log n)
   restored-idle zero s kind rom sched log n j e =
-      let same : ChangesNothing M (suc j) (run kind rom sched s log n)
-      = subst (λ (k : ℕ). ChangesNothing M k (run kind rom sched s log n)) (ap refusalOf e) (changes-nothing M (run kind rom sched s log n)) in
+      let same : runAnswer M kind rom sched s log n ≡ refusedRun (suc j) s log
+      = run-refused M kind rom sched s log n j (sym (run-refusal M kind rom sched s log n) ∙ ap refusalOf e) in
       record {
         cycles = ap (λ (a : RunAnswer S). a .cycles) same;
         begun = ap (λ (a : RunAnswer S). a .begun) same;

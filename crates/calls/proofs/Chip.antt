@@ -1,33 +1,38 @@
--- The board's call of the uPD546. Assumes nothing.
-use Rattle.upd546.specs.TwoRunners.{upd546}
+-- The board's call of the chip of every sheet. Assumes nothing.
+use Rattle.upd546.specs.declared.Sheet.{Sheet}
+use Rattle.upd546.specs.TwoRunners.{chip}
 use Rattle.laws.proofs.Numbers.{number-laws}
 use Rattle.laws.proofs.Demand3.{jump-laws, accepted-laws, laws}
-use Rattle.calls.specs.EveryCall.{EveryCallIsRefusedByNumbers, EveryRefusalChangesNothing, EveryFinishOrStopRewrites, EveryCallTellsItsRun}
+use Rattle.calls.specs.EveryCall.{EveryCallIsRefusedByNumbers, SheetRefusesBeforeTheImage, EveryRefusalChangesNothing}
+use Rattle.calls.specs.EveryCall.{EveryFinishOrStopRewrites, EveryCallTellsItsRun}
 use Rattle.calls.specs.Lists.{EveryListOnOneImageIsMeant, EveryListOfCallsEndsAsOneRun, EveryAcceptedImageEndsAsOneRun}
-use Rattle.calls.proofs.EveryCall.{refused-by-numbers, changes-nothing, call-rewrites, call-tells-run}
+use Rattle.calls.proofs.EveryCall.{refused-by-numbers, sheet-refuses-before-the-image, changes-nothing, call-rewrites, call-tells-run}
 use Rattle.calls.proofs.Lists.{calls-end, accepted-end, on-one-image}
 
 -- EVERY CALL
 
-pub every-call-is-refused-by-numbers : EveryCallIsRefusedByNumbers upd546
-every-call-is-refused-by-numbers = refused-by-numbers upd546 jump-laws number-laws
+pub every-call-is-refused-by-numbers : (sheet : Sheet) → EveryCallIsRefusedByNumbers (chip sheet)
+every-call-is-refused-by-numbers sheet = refused-by-numbers (chip sheet) (jump-laws sheet) (number-laws sheet)
 
-pub every-refusal-changes-nothing : EveryRefusalChangesNothing upd546
-every-refusal-changes-nothing = changes-nothing upd546 jump-laws number-laws
+pub every-sheet-refuses-before-the-image : (sheet : Sheet) → SheetRefusesBeforeTheImage (chip sheet)
+every-sheet-refuses-before-the-image sheet = sheet-refuses-before-the-image (chip sheet) (jump-laws sheet) (number-laws sheet)
 
-pub every-finish-or-stop-rewrites : EveryFinishOrStopRewrites upd546
-every-finish-or-stop-rewrites = call-rewrites upd546 laws number-laws
+pub every-refusal-changes-nothing : (sheet : Sheet) → EveryRefusalChangesNothing (chip sheet)
+every-refusal-changes-nothing sheet = changes-nothing (chip sheet) (jump-laws sheet) (number-laws sheet)
 
-pub every-call-tells-its-run : EveryCallTellsItsRun upd546
-every-call-tells-its-run = call-tells-run upd546 laws number-laws
+pub every-finish-or-stop-rewrites : (sheet : Sheet) → EveryFinishOrStopRewrites (chip sheet)
+every-finish-or-stop-rewrites sheet = call-rewrites (chip sheet) (laws sheet) (jump-laws sheet) (number-laws sheet)
+
+pub every-call-tells-its-run : (sheet : Sheet) → EveryCallTellsItsRun (chip sheet)
+every-call-tells-its-run sheet = call-tells-run (chip sheet) (laws sheet) (jump-laws sheet) (number-laws sheet)
 
 -- LISTS
 
-pub every-list-of-calls : EveryListOfCallsEndsAsOneRun upd546
-every-list-of-calls = calls-end upd546 laws number-laws
+pub every-list-of-calls : EveryListOfCallsEndsAsOneRun chip
+every-list-of-calls = calls-end chip laws jump-laws number-laws
 
-pub every-list-on-one-image : EveryListOnOneImageIsMeant upd546
-every-list-on-one-image = on-one-image upd546 jump-laws number-laws
+pub every-list-on-one-image : EveryListOnOneImageIsMeant chip
+every-list-on-one-image = on-one-image chip jump-laws number-laws
 
-pub every-accepted-image : EveryAcceptedImageEndsAsOneRun upd546
-every-accepted-image = accepted-end upd546 laws number-laws accepted-laws
+pub every-accepted-image : EveryAcceptedImageEndsAsOneRun chip
+every-accepted-image = accepted-end chip laws jump-laws number-laws accepted-laws

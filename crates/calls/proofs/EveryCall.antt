@@ -18,19 +18,20 @@ use Rattle.runs.specs.TwoRunners.{End, finished, stopped, refused, numberOfEnd,
 use Rattle.runs.specs.TwoRunners.{within, strides, runNumber, told, stepwise, plain, skipping, saveAnswer, got, restoreAnswer, currentNumber, currentAnswer}
 use Rattle.runs.specs.Laws.{ImageLaws, JumpLaws, NumberLaws, Laws}
 use Rattle.runs.specs.EveryRun.{CountsWithin, NumberTells}
-use Rattle.runs.specs.Lists.{Kind, plainOne, skippingOne, run, refusalOf, runAnswer, WrittenBy}
-use Rattle.runs.proofs.Refusals.{first-at, last-one, passes}
-use Rattle.runs.proofs.Calls.{run-fit, fit-save, got-number, by-number, restore-same, current-fit, current-long}
+use Rattle.runs.specs.Lists.{Kind, plainOne, skippingOne, refusalOf, runAnswer, WrittenBy}
+use Rattle.runs.proofs.Refusals.{first-at, first-past, first-is, last-one, passes}
+use Rattle.runs.proofs.Calls.{run-fit, fit-save, got-number, run-refusal, fit-restore, restore-same, current-fit, current-long}
 use Rattle.runs.proofs.EveryRun.{first-no-stop, unless-no-stop, runs-sound, counts-within, numbers-tell}
 use Rattle.upd546.specs.Bytes.{numberAt}
 use Rattle.laws.proofs.Digits.{bytes-back}
 use Rattle.calls.specs.Call.{BoardCall, BoardAnswer, kindOf, reportLength, countBytes, reported, longEnough, onRestored, imageRun, runOf, ranCall, onReport, callAnswer}
-use Rattle.calls.specs.EveryCall.{endBy, refusedReport, callRefusal, callNumber, EveryCallIsRefusedByNumbers, Refuses, CallChangesNothing, EveryRefusalChangesNothing}
+use Rattle.calls.specs.EveryCall.{endBy, refusedReport, callRefusal, callNumber, EveryCallIsRefusedByNumbers, SheetRefusesBeforeTheImage}
+use Rattle.calls.specs.EveryCall.{Refuses, CallChangesNothing, EveryRefusalChangesNothing}
 use Rattle.calls.specs.EveryCall.{TellsItsRun, EveryCallTellsItsRun, EveryFinishOrStopRewrites}
 use Rattle.calls.proofs.Call.{NoRefusal, idle, ran-answer}
 
 -- how a call ends: a report that is too short is refused with 1, else as the run ends
-abbrev endWithReport : Bool → End → End
+abbrev pub endWithReport : Bool → End → End
 endWithReport false e = refused 1
 endWithReport true e = e
 
@@ -38,13 +39,13 @@ module _ {S : Type 0} (M : Machine S) where
   -- WHAT REFUSES A CALL
 
   -- the number of the end that refuses it, else 0
-  abbrev ownRefusal : BoardCall → ℕ
+  abbrev pub ownRefusal : BoardCall → ℕ
   ownRefusal c = refusalOf (endWithReport (longEnough c) (runOf M c .end))
 
   restored-number : (k : ℕ) (s : S) (kind : Kind) (rom sched log : List ℕ) (n : ℕ)
       → refusalOf (onRestored M (got M k s .number) (got M k s .state) kind rom sched log n .end) ≡ firstOf (k ∷ runNumber M rom sched s n ∷ [])
   unfolding firstOf
-  restored-number zero s kind rom sched log n = by-number M (run kind rom sched s log n) ∙ sym (last-one (runNumber M rom sched s n))
+  restored-number zero s kind rom sched log n = run-refusal M kind rom sched s log n ∙ sym (last-one (runNumber M rom sched s n))
   restored-number (suc k) s kind rom sched log n = refl
 
   run-number : (c : BoardCall) → refusalOf (runOf M c .end) ≡ firstOf (currentNumber M (c .image) ∷ runNumber M (c .rom) (c .sched) (M .ofImage (c .image)) (c .n) ∷ [])
@@ -87,9 +88,10 @@ module _ {S : Type 0} (M : Machine S) where
 
   -- A CALL THAT ISN'T REFUSED
 
-  -- its image has version 2's length and is restored, its run is the run from there, which no number refuses, its report has 32
-  -- bytes, and it answers that run
+  -- its sheet is legal, its image has version 2's length and is restored, its run is the run from there, which no number refuses,
+  -- its report has 32 bytes, and it answers that run
   pub record Through (c : BoardCall) : Type 0 where
+    pub legal : M .ownNumber ≡ 0
     pub long : length (c .image) ≡ M .imageLength Two
     pub restored : restoreAnswer M (c .image) ≡ record { number = 0; state = M .ofImage (c .image) }
     pub same-run : runOf M c ≡ runAnswer M (kindOf (c .runner)) (c .rom) (c .sched) (restoreAnswer M (c .image) .state) (c .log) (c .n)
@@ -118,7 +120,7 @@ module _ {S : Type 0} (M : Machine S) where
       let s : S = restoreAnswer M (c .image) .state in
       let current = current-fit M (c .image) (first-at _ z 1) in
       let restored : restoreAnswer M (c .image) ≡ record { number = 0; state = M .ofImage (c .image) }
-      = ap (λ (k : ℕ). got M k (M .ofImage (c .image))) (current .accepted) in
+      = ap (λ (k : ℕ). got M k (M .ofImage (c .image))) (fit-restore M (c .image) (current .legal) (current .accepted)) in
       let same-state : s ≡ M .ofImage (c .image) = ap (λ (r : RestoreAnswer S). r .state) restored in
       let ok : runNumber M (c .rom) (c .sched) s (c .n) ≡ 0 = ap (λ (t : S). runNumber M (c .rom) (c .sched) t (c .n)) same-state ∙ first-at _ z 2 in
       let same : runOf M c ≡ runAnswer M kind (c .rom) (c .sched) s (c .log) (c .n)
@@ -128,6 +130,7 @@ module _ {S : Type 0} (M : Machine S) where
       = subst (λ (a : RunAnswer S). NoRefusal (a .end)) (sym same) (run-ends kind (c .rom) (c .sched) s (c .log) (c .n) ok) in
       let enough : longEnough c ≡ true = passes (longEnough c) 1 refl (first-at _ z 0) in
       record {
+        legal = current .legal;
         long = current .long;
         restored = restored;
         same-run = same;
@@ -140,13 +143,17 @@ module _ {S : Type 0} (M : Machine S) where
 
   -- IMAGES
 
-  module _ (L : ImageLaws M) where
+  module _ (L : ImageLaws M) (legal : M .ownNumber ≡ 0) where
     -- a save over an image
     pub saves-over : (s : S) (b : List ℕ) → M .stateNumber s ≡ 0 → length b ≡ M .imageLength Two
         → saveAnswer M Two s b ≡ record { number = 0; buffer = M .image Two s }
     unfolding saveAnswer
     saves-over s b v h =
-        rw (fit-save M Two s b v (L .two-holds-all s) (le-of-eq (sym h)), drop-of-length-le b (le-of-eq h), append-nil (M .image Two s))
+        rw (
+          fit-save M Two s b legal v (L .two-holds-all s) (le-of-eq (sym h)),
+          drop-of-length-le b (le-of-eq h),
+          append-nil (M .image Two s),
+        )
 
     pub written : (s : S) → M .stateNumber s ≡ 0 → WrittenBy M s (M .image Two s)
     written s v =
@@ -163,7 +170,7 @@ module _ {S : Type 0} (M : Machine S) where
 
     -- the image of an accepted state is restored to that state
     pub back : (s : S) (image : List ℕ) → M .stateNumber s ≡ 0 → image ≡ M .image Two s → restoreAnswer M image ≡ record { number = 0; state = s }
-    back s image v e = restore-same M L s image (subst (λ (i : List ℕ). WrittenBy M s i) (sym e) (written s v))
+    back s image v e = restore-same M L legal s image (subst (λ (i : List ℕ). WrittenBy M s i) (sym e) (written s v))
 
 -- WHAT THE NUMBER TELLS
 
@@ -177,7 +184,7 @@ module _ {S : Type 0} (M : Machine S) where
   unfolding currentAnswer currentNumber
   current-tells N image =
       ap isStop (got-number M (currentNumber M image) (M .ofImage image))
-      ∙ first-no-stop _ (unless-no-stop (eqb (length image) (M .imageLength Two)) 31 refl, (N .images image, tt))
+      ∙ first-no-stop _ (N .own, (unless-no-stop (eqb (length image) (M .imageLength Two)) 31 refl, (N .images image, tt)))
 
   run-tells : JumpLaws M → NumberLaws M → (c : BoardCall) → NumberTells (runOf M c .end)
   unfolding imageRun
@@ -203,25 +210,35 @@ module _ {S : Type 0} (M : Machine S) where
   pub refused-by-numbers : JumpLaws M → NumberLaws M → EveryCallIsRefusedByNumbers M
   refused-by-numbers J N c = sym (own-refusal J N c) ∙ call-number M c
 
+  -- 71 refuses where the report is long enough
+  pub sheet-refuses-before-the-image : JumpLaws M → NumberLaws M → SheetRefusesBeforeTheImage M
+  unfolding currentNumber
+  sheet-refuses-before-the-image J N c k long e =
+      refused-by-numbers J N c
+      ∙ first-past _ _ (ap (λ (b : Bool). unless b 1) (le-leb reportLength (length (c .report)) long))
+      ∙ first-is _ k _ (first-is (M .ownNumber) k _ e)
+
   pub changes-nothing : JumpLaws M → NumberLaws M → EveryRefusalChangesNothing M
   changes-nothing J N c = subst (λ (k : ℕ). CallChangesNothing M k c) (own-refusal J N c) (left M c)
 
 -- "a finish or a stop rewrites it", whatever the log's length
-pub call-rewrites : {S : Type 0} (M : Machine S) → Laws M → NumberLaws M → EveryFinishOrStopRewrites M
-call-rewrites {S} M L N c br bs h =
-    let t = through M c (own-refusal M (L .jumps) N c ∙ h) in
+pub call-rewrites : {S : Type 0} (M : Machine S) → (M .ownNumber ≡ 0 → Laws M) → JumpLaws M → NumberLaws M → EveryFinishOrStopRewrites M
+call-rewrites {S} M laws J N c br bs h =
+    let t = through M c (own-refusal M J N c ∙ h) in
+    let images : ImageLaws M = laws (t .legal) .images in
     let s : S = restoreAnswer M (c .image) .state in
     let kind : Kind = kindOf (c .runner) in
     let f = run-fit M (c .rom) (c .sched) s (c .n) (t .run-ok) in
     let sound : M .stateNumber (runOf M c .state) ≡ 0
-    = ap (λ (a : RunAnswer S). M .stateNumber (a .state)) (t .same-run) ∙ runs-sound M L kind (c .rom) (c .sched) s (c .log) (c .n) br bs (f .state) in
-    let over = saves-over M (L .images) (runOf M c .state) (c .image) sound (t .long) in
+    = ap (λ (a : RunAnswer S). M .stateNumber (a .state)) (t .same-run)
+    ∙ runs-sound M laws kind (c .rom) (c .sched) s (c .log) (c .n) br bs (f .state) in
+    let over = saves-over M images (t .legal) (runOf M c .state) (c .image) sound (t .long) in
     let left : callAnswer M c .image ≡ M .image Two (runOf M c .state)
     = ap (λ (z : BoardAnswer). z .image) (t .answers) ∙ ap (λ (z : SaveAnswer). z .buffer) over in
     record {
       saved = ap (λ (z : SaveAnswer). z .number) over;
       image = left;
-      restores = back M (L .images) (runOf M c .state) (callAnswer M c .image) sound left;
+      restores = back M images (t .legal) (runOf M c .state) (callAnswer M c .image) sound left;
     }
 
 -- WHAT A CALL TELLS OF ITS RUN
@@ -232,9 +249,9 @@ refused-end finished k h = cc
 refused-end (stopped j) k h = cc
 refused-end (refused j) k h = ap refused h
 
-module _ {S : Type 0} (M : Machine S) (L : Laws M) (N : NumberLaws M) where
+module _ {S : Type 0} (M : Machine S) (laws : M .ownNumber ≡ 0 → Laws M) (J : JumpLaws M) (N : NumberLaws M) where
   end-as : (c : BoardCall) → longEnough c ≡ true → endBy (callAnswer M c .number) ≡ runOf M c .end
-  end-as c enough = call-tells M (L .jumps) N c ∙ ap (λ (b : Bool). endWithReport b (runOf M c .end)) enough
+  end-as c enough = call-tells M J N c ∙ ap (λ (b : Bool). endWithReport b (runOf M c .end)) enough
 
   -- a call that isn't refused, whose log bytes stand in eight bytes
   pub ran-tells : (c : BoardCall) → ownRefusal M c ≡ 0 → runOf M c .written < 2 ^ 64 → TellsItsRun M c
@@ -244,7 +261,8 @@ module _ {S : Type 0} (M : Machine S) (L : Laws M) (N : NumberLaws M) where
       let a : RunAnswer S = runOf M c in
       let f = run-fit M (c .rom) (c .sched) s (c .n) (t .run-ok) in
       let w : CountsWithin (c .log) (c .n) a
-      = subst (CountsWithin (c .log) (c .n)) (sym (t .same-run)) (counts-within M L (kindOf (c .runner)) (c .rom) (c .sched) s (c .log) (c .n)) in
+      = subst (CountsWithin (c .log) (c .n)) (sym (t .same-run))
+      (counts-within M laws (kindOf (c .runner)) (c .rom) (c .sched) s (c .log) (c .n)) in
       let told : callAnswer M c .report ≡ reported (countBytes (a .cycles) (a .begun) (a .written) (a .steps)) (c .report)
       = ap (λ (z : BoardAnswer). z .report) (t .answers) in
       let cycles : a .cycles < 256 ^ 8 = omega (arith, w .cycles, f .limit) in
@@ -285,7 +303,7 @@ module _ {S : Type 0} (M : Machine S) (L : Laws M) (N : NumberLaws M) where
       fits h =
           let w : CountsWithin (c .log) (c .n) (runOf M c)
           = subst (CountsWithin (c .log) (c .n)) (sym (through M c h .same-run))
-          (counts-within M L (kindOf (c .runner)) (c .rom) (c .sched) (restoreAnswer M (c .image) .state) (c .log) (c .n)) in
+          (counts-within M laws (kindOf (c .runner)) (c .rom) (c .sched) (restoreAnswer M (c .image) .state) (c .log) (c .n)) in
           omega (arith, w .written, small)
 
       go : (k : ℕ) → ownRefusal M c ≡ k → TellsItsRun M c

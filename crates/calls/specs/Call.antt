@@ -9,9 +9,11 @@ use Rattle.runs.specs.declared.Version.the-variants.{Two}
 use Rattle.runs.specs.Machine.{Machine}
 use Rattle.runs.specs.TwoRunners.{End, finished, stopped, refused, RunAnswer, refusedRun, saveAnswer, currentAnswer}
 use Rattle.runs.specs.Lists.{Kind, plainOne, skippingOne, runAnswer}
+use Rattle.upd546.specs.declared.Sheet.{Sheet}
 use Rattle.upd546.specs.Bytes.{bytesOf}
 
--- "called from the board's C program with numbers and byte slices: image, ROM, schedule, log, n and a runner", and "a lent report"
+-- "called from the board's C program with numbers and byte slices: image, ROM, schedule, log, n and a runner", and "a lent report";
+-- "A small sheet, given last to each call" (R-11)
 pub record BoardCall : Type 0 where
   pub image : List ℕ
   pub rom : List ℕ
@@ -20,6 +22,7 @@ pub record BoardCall : Type 0 where
   pub n : ℕ
   pub runner : ℕ
   pub report : List ℕ
+  pub sheet : Sheet
 
 -- What it answers: its number, and what it writes as that stands when the call returns.
 pub record BoardAnswer : Type 0 where
@@ -87,6 +90,10 @@ module _ {S : Type 0} (M : Machine S) where
   onReport false c e a = record { number = 1; image = c .image; log = c .log; report = c .report }
   onReport true c e a = answerAtEnd c e a
 
-  -- THE BOARD'S CALL
+  -- THE BOARD'S CALL on the machine of its sheet
   unfoldable pub callAnswer : BoardCall → BoardAnswer
   callAnswer c = onReport (longEnough c) c (runOf c .end) (runOf c)
+
+-- and where the machine of each sheet is M
+abbrev pub boardAnswer : {S : Type 0} → (Sheet → Machine S) → BoardCall → BoardAnswer
+boardAnswer M c = callAnswer (M (c .sheet)) c

@@ -1,4 +1,5 @@
--- What holds of every call of the board, over any machine: what its number tells, what refuses it, and what it answers and leaves.
+-- What holds of every call of the board, over any machine, which is that of its sheet, legal or not: what its number tells, what refuses
+-- it, and what it answers and leaves.
 -- Assumes nothing: these are definitions.
 use Prim.Native.Nat.{ℕ, zero, suc, _^_, _<_, _≤_}
 use mathlib.Core.Path.{_≡_}
@@ -40,7 +41,7 @@ module _ {S : Type 0} (M : Machine S) where
   callRefusal c = refusalOf (endBy (callAnswer M c .number))
 
   -- the number by which the documents refuse it, else 0: "A report under 32 bytes is 1, before all else, and is not written. Then
-  -- image refusals come first, then the run's." "R-3's call takes 82 bytes only, else 31" (R-8).
+  -- image refusals come first, then the run's." "R-3's call takes 82 bytes only, else 31" (R-8); 71 before that (`currentNumber`).
   abbrev pub callNumber : BoardCall → ℕ
   callNumber c =
       firstOf (unless (longEnough c) 1 ∷ currentNumber M (c .image) ∷ runNumber M (c .rom) (c .sched) (M .ofImage (c .image)) (c .n) ∷ [])
@@ -48,6 +49,10 @@ module _ {S : Type 0} (M : Machine S) where
   -- every call is refused where the documents refuse it, and with their number
   abbrev pub EveryCallIsRefusedByNumbers : Type 0
   EveryCallIsRefusedByNumbers = (c : BoardCall) → callRefusal c ≡ callNumber c
+
+  -- "71, before all else but R-3's report under 32 bytes" (R-11)
+  abbrev pub SheetRefusesBeforeTheImage : Type 0
+  SheetRefusesBeforeTheImage = (c : BoardCall) (k : ℕ) → reportLength ≤ length (c .report) → M .ownNumber ≡ suc k → callRefusal c ≡ suc k
 
   -- What a call that was refused with this number answers and leaves.
   pub record Refuses (k : ℕ) (c : BoardCall) : Type 0 where

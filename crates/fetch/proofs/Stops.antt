@@ -4,9 +4,11 @@ use mathlib.Core.Bool.{true, false}
 use mathlib.Core.List.{List}
 use Prim.Native.Nat.{ℕ, suc, _<_, _≤_}
 use native.Mathlib.Omega.{arith}
-use borrow.Author.Tests.{lt-ltb, le-leb, lt-leb}
+use lib.ListN.{length}
+use borrow.Author.Tests.{lt-ltb, le-ltb}
 use Rattle.runs.specs.Refusals.{firstOf}
-use Rattle.upd546.specs.TheMachine.{lastAddress, byteAt, follows, past}
+use Rattle.upd546.specs.declared.Sheet.{Sheet}
+use Rattle.upd546.specs.TheMachine.{byteAt, follows, past}
 use Rattle.upd546.specs.Instructions.{instruction}
 use Rattle.upd546.specs.OneMachineCycle.{needs}
 use Rattle.tables.specs.declared.Size.{Size}
@@ -17,11 +19,12 @@ use Rattle.fetch.specs.declared.Passed.{Passed}
 use Rattle.fetch.specs.Fetching.{instructionAt, fetchStop, heldFetch, FetchedAs, heldPass, PassedAs}
 
 -- a byte that is there, and one that isn't
-needs-none : (a : ℕ) → a ≤ lastAddress → needs a ≡ 0
-needs-none a h = rw (le-leb a lastAddress h)
+module _ (sheet : Sheet) (rom : List ℕ) (same : sheet .rom ≡ length rom) (a : ℕ) where
+  needs-none : a < length rom → needs sheet a ≡ 0
+  needs-none h = rw (same, lt-ltb a (length rom) h)
 
-needs-22 : (a : ℕ) → lastAddress < a → needs a ≡ 22
-needs-22 a h = rw (lt-leb a lastAddress h)
+  needs-22 : length rom ≤ a → needs sheet a ≡ 22
+  needs-22 h = rw (same, le-ltb a (length rom) h)
 
 -- what the table says of the code at an address
 pub size-at : (rom : List ℕ) (pc : ℕ) {code : ℕ} {s : Size} → code ≡ byteAt rom pc → s ≡ sizeOf code
@@ -35,65 +38,65 @@ bytes-at rom pc = (keeps (byteAt rom pc) .one-byte, keeps (byteAt rom pc) .two-b
 
 -- FETCHING
 
-stops : (rom : List ℕ) (pc k : ℕ) (f : Fetched) → f ≡ heldFetch (suc k) → fetchStop rom pc ≡ suc k → FetchedAs rom pc f
-stops rom pc k f e q =
+stops : (sheet : Sheet) (rom : List ℕ) (pc k : ℕ) (f : Fetched) → f ≡ heldFetch (suc k) → fetchStop sheet rom pc ≡ suc k → FetchedAs sheet rom pc f
+stops sheet rom pc k f e q =
     let number : f .stop ≡ suc k = ap (λ (x : Fetched). x .stop) e in
     record { stop = number ∙ sym q; begins = λ z. absurd (omega arith); held = λ n. e ∙ ap heldFetch (sym number) }
 
-module _ (rom : List ℕ) (pc : ℕ) (f : Fetched) where
-  pub stops-past : lastAddress < pc → f ≡ heldFetch 22 → FetchedAs rom pc f
+module _ (sheet : Sheet) (rom : List ℕ) (same : sheet .rom ≡ length rom) (pc : ℕ) (f : Fetched) where
+  pub stops-past : length rom ≤ pc → f ≡ heldFetch 22 → FetchedAs sheet rom pc f
   unfolding fetchStop firstOf
-  stops-past h e = stops rom pc 21 f e (rw (needs-22 pc h))
+  stops-past h e = stops sheet rom pc 21 f e (rw (needs-22 sheet rom same pc h))
 
-  module _ (h : pc ≤ lastAddress) where
-    pub stops-none : instructionAt rom pc .cycles ≡ 0 → f ≡ heldFetch 23 → FetchedAs rom pc f
+  module _ (h : pc < length rom) where
+    pub stops-none : instructionAt rom pc .cycles ≡ 0 → f ≡ heldFetch 23 → FetchedAs sheet rom pc f
     unfolding fetchStop firstOf
-    stops-none z e = stops rom pc 22 f e (rw (needs-none pc h, z))
+    stops-none z e = stops sheet rom pc 22 f e (rw (needs-none sheet rom same pc h, z))
 
     module _ (p : 0 < instructionAt rom pc .cycles) where
       -- an instruction of one byte
       pub begins-one : instructionAt rom pc .bytes ≡ 1 → f .stop ≡ 0 → f .code ≡ byteAt rom pc → f .second ≡ 0 → f .after ≡ follows pc
-          → f .cycles ≡ instructionAt rom pc .cycles → FetchedAs rom pc f
+          → f .cycles ≡ instructionAt rom pc .cycles → FetchedAs sheet rom pc f
       unfolding fetchStop firstOf past
       begins-one b e c s a k =
           record {
-            stop = e ∙ sym (rw (needs-none pc h, lt-ltb 0 (instructionAt rom pc .cycles) p, b));
+            stop = e ∙ sym (rw (needs-none sheet rom same pc h, lt-ltb 0 (instructionAt rom pc .cycles) p, b));
             begins = λ z. record { code = c; second = rw b s; after = rw b a; cycles = k };
             held = λ n. absurd (n e);
           }
 
       -- one whose second byte isn't there
-      pub stops-second : instructionAt rom pc .bytes ≡ 2 → lastAddress < follows pc → f ≡ heldFetch 22 → FetchedAs rom pc f
+      pub stops-second : instructionAt rom pc .bytes ≡ 2 → length rom ≤ follows pc → f ≡ heldFetch 22 → FetchedAs sheet rom pc f
       unfolding fetchStop firstOf
-      stops-second b g e = stops rom pc 21 f e (rw (needs-none pc h, lt-ltb 0 (instructionAt rom pc .cycles) p, b, needs-22 (follows pc) g))
+      stops-second b g e = stops sheet rom pc 21 f e (rw (needs-none sheet rom same pc h, lt-ltb 0 (instructionAt rom pc .cycles) p, b, needs-22 sheet rom same (follows pc) g))
 
       -- an instruction of two bytes
-      pub begins-two : instructionAt rom pc .bytes ≡ 2 → follows pc ≤ lastAddress → f .stop ≡ 0 → f .code ≡ byteAt rom pc → f .second ≡ byteAt rom (follows pc)
-          → f .after ≡ follows (follows pc) → f .cycles ≡ instructionAt rom pc .cycles → FetchedAs rom pc f
+      pub begins-two : instructionAt rom pc .bytes ≡ 2 → follows pc < length rom → f .stop ≡ 0 → f .code ≡ byteAt rom pc → f .second ≡ byteAt rom (follows pc)
+          → f .after ≡ follows (follows pc) → f .cycles ≡ instructionAt rom pc .cycles → FetchedAs sheet rom pc f
       unfolding fetchStop firstOf past
       begins-two b g e c s a k =
           record {
-            stop = e ∙ sym (rw (needs-none pc h, lt-ltb 0 (instructionAt rom pc .cycles) p, b, needs-none (follows pc) g));
+            stop = e ∙ sym (rw (needs-none sheet rom same pc h, lt-ltb 0 (instructionAt rom pc .cycles) p, b, needs-none sheet rom same (follows pc) g));
             begins = λ z. record { code = c; second = rw b s; after = rw b a; cycles = k };
             held = λ n. absurd (n e);
           }
 
 -- PASSING OVER
 
-module _ (rom : List ℕ) (to : ℕ) (p : Passed) where
-  pub passes-none : p .stop ≡ 0 → p .pc ≡ to → p .over ≡ 0 → PassedAs rom false to p
+module _ (sheet : Sheet) (rom : List ℕ) (same : sheet .rom ≡ length rom) (to : ℕ) (p : Passed) where
+  pub passes-none : p .stop ≡ 0 → p .pc ≡ to → p .over ≡ 0 → PassedAs sheet rom false to p
   unfolding past
   passes-none e q o = record { stop = e; over = λ z. o; pc = λ z. rw o q; held = λ n. absurd (n e) }
 
-  pub passes-past : lastAddress < to → p ≡ heldPass 22 → PassedAs rom true to p
+  pub passes-past : length rom ≤ to → p ≡ heldPass 22 → PassedAs sheet rom true to p
   passes-past h e =
       let number : p .stop ≡ 22 = ap (λ (x : Passed). x .stop) e in
       record {
-        stop = number ∙ sym (needs-22 to h);
+        stop = number ∙ sym (needs-22 sheet rom same to h);
         over = λ z. absurd (omega arith);
         pc = λ z. absurd (omega arith);
         held = λ n. e ∙ ap heldPass (sym number);
       }
 
-  pub passes-one : to ≤ lastAddress → p .stop ≡ 0 → p .over ≡ instructionAt rom to .bytes → p .pc ≡ past (p .over) to → PassedAs rom true to p
-  passes-one h e o q = record { stop = e ∙ sym (needs-none to h); over = λ z. o; pc = λ z. q; held = λ n. absurd (n e) }
+  pub passes-one : to < length rom → p .stop ≡ 0 → p .over ≡ instructionAt rom to .bytes → p .pc ≡ past (p .over) to → PassedAs sheet rom true to p
+  passes-one h e o q = record { stop = e ∙ sym (needs-none sheet rom same to h); over = λ z. o; pc = λ z. q; held = λ n. absurd (n e) }

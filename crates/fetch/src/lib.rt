@@ -1,11 +1,12 @@
-// What is read of the ROM: the instruction at PC, and what a skip passes over. Nothing of it changes the machine.
+// What is read of the ROM: the instruction at PC, and what a skip passes over. Nothing of it changes the machine. The ROM ends where
+// the lent bytes end; of a sheet with that length this is its last address.
 // It may not know what an instruction does, nor how a run goes.
 use tables::InstructionTable;
-use upd546::LAST_ADDRESS;
 ghost use mathlib.Core.Path.{_≡_};
 ghost use Prim.Native.Nat.{_<_, _≤_};
 ghost use lib.ListN.{length};
-ghost use Rattle.upd546.specs.TheMachine.{romLength, byteAt, past};
+ghost use Rattle.upd546.specs.declared.Sheet.{Sheet};
+ghost use Rattle.upd546.specs.TheMachine.{byteAt, past};
 ghost use Rattle.tables.specs.Tables.{instructionTable};
 ghost use Rattle.fetch.specs.Fetching.{heldFetch, FetchedAs, PassedAs};
 
@@ -39,7 +40,7 @@ pub fn byte_at(rom: &[u8], a: u16) -> u8
 
 // The byte at an address that the ROM has.
 pub fn byte_in(rom: &[u8], a: u16) -> u8
-    requires { ⌜ (length (now rom) ≡ romLength) × (a < romLength) ⌝ }
+    requires { ⌜ a < length (now rom) ⌝ }
     ensures { λ r. ⌜ r ≡ byteAt (now (rom .entry)) a ⌝ }
 {
     let i = a as usize;
@@ -71,10 +72,10 @@ fn stopped(stop: u8) -> Fetched
 }
 
 pub fn fetch_at(rom: &[u8], table: &InstructionTable, pc: u16) -> Fetched
-    requires { ⌜ (length (now rom) ≡ romLength) × (now table ≡ instructionTable) ⌝ }
-    ensures { λ r. ⌜ FetchedAs (now (rom .entry)) pc r ⌝ }
+    requires { ⌜ now table ≡ instructionTable ⌝ }
+    ensures { λ r. ⌜ ((sheet : Sheet) → sheet .rom ≡ length (now (rom .entry)) → FetchedAs sheet (now (rom .entry)) pc r) ⌝ }
 {
-    if LAST_ADDRESS < pc {
+    if rom.len() <= pc as usize {
         return stopped(22);
     }
     let code = byte_in(rom, pc);
@@ -92,7 +93,7 @@ pub fn fetch_at(rom: &[u8], table: &InstructionTable, pc: u16) -> Fetched
             cycles: size.cycles,
         };
     }
-    if LAST_ADDRESS < next {
+    if rom.len() <= next as usize {
         return stopped(22);
     }
     Fetched {
@@ -106,8 +107,8 @@ pub fn fetch_at(rom: &[u8], table: &InstructionTable, pc: u16) -> Fetched
 
 // A skip passes over the instruction at `to`, and only its first byte is read.
 pub fn pass_over(rom: &[u8], table: &InstructionTable, skip: bool, to: u16) -> Passed
-    requires { ⌜ (length (now rom) ≡ romLength) × (now table ≡ instructionTable) ⌝ }
-    ensures { λ r. ⌜ PassedAs (now (rom .entry)) skip to r ⌝ }
+    requires { ⌜ now table ≡ instructionTable ⌝ }
+    ensures { λ r. ⌜ ((sheet : Sheet) → sheet .rom ≡ length (now (rom .entry)) → PassedAs sheet (now (rom .entry)) skip to r) ⌝ }
 {
     if !skip {
         return Passed {
@@ -116,7 +117,7 @@ pub fn pass_over(rom: &[u8], table: &InstructionTable, skip: bool, to: u16) -> P
             over: 0,
         };
     }
-    if LAST_ADDRESS < to {
+    if rom.len() <= to as usize {
         return Passed {
             stop: 22,
             pc: 0,

@@ -1,3 +1,2 @@
 pub mod Bits
-pub mod Places
 pub mod Writes

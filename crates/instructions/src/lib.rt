@@ -14,6 +14,7 @@ use decode::Test;
 use decode::Working;
 use portlog::NO_PORT;
 use portlog::PORTS_C_AND_D;
+use tables::RowTable;
 use upd546::Core;
 use upd546::Flow;
 use upd546::LATCHES;
@@ -32,13 +33,15 @@ ghost use mathlib.Core.Path.{_≡_};
 ghost use mathlib.Core.Bool.{false};
 ghost use mathlib.Core.List.{List};
 ghost use Prim.Native.Nat.{ℕ, _+_, _*_, _^_, _<_};
-ghost use Rattle.upd546.specs.TheMachine.{placeOf};
+ghost use Rattle.upd546.specs.declared.Sheet.{Sheet};
+ghost use Rattle.upd546.specs.TheMachine.{placeIn};
 ghost use Rattle.upd546.specs.Bytes.{bitAt, withBit};
 ghost use Rattle.upd546.specs.Ports.{readPort, outputs, bitOutputs};
-ghost use Rattle.decode.specs.Named.{namedTest, namedAcc, namedSum, namedMove, namedPointer, namedWorking, namedFlag, namedJump, namedControl, namedPort};
+ghost use Rattle.tables.specs.Tables.{rowTable, Rows};
+ghost use Rattle.decode.specs.Named.{namedTest, namedAcc, namedSum, namedMove, namedPointer, namedWorking, namedFlag, namedControl, namedPort};
 ghost use Rattle.portlog.specs.Appending.{writesOf};
 ghost use Rattle.laws.specs.Valid.{Scalars, ValidPorts};
-ghost use Rattle.instructions.specs.Groups.{givenOf, staysOf, testEffect, accEffect, sumEffect, moveEffect, pointerEffect, workingEffect, flagEffect, jumpEffect, controlEffect, portEffect};
+ghost use Rattle.instructions.specs.Groups.{givenOf, staysOf, testEffect, accEffect, sumEffect, moveEffect, pointerEffect, workingEffect, flagEffect, JumpsAs, controlEffect, portEffect};
 
 // What an instruction is given besides the RAM and the latches.
 pub struct Inputs {
@@ -156,26 +159,20 @@ fn read_port(l: Lines, ports: &[u8; LATCHES], p: u8) -> u8
     }
 }
 
-// The place of the flag word. Row 7 is the sixth row that exists, so its words have the places 80 to 95.
+// The place of the flag word. Row 7 is the sixth row that is stored, so its words have the places 80 to 95 on every chip.
 pub const FLAG_PLACE: usize = 89;
 
 // The place of the RAM word at DP.
-pub fn dp_place(dph: u8, dpl: u8) -> usize
-    requires { ⌜ (dph < 8) × (dpl < 16) ⌝ }
-    ensures { λ r. ⌜ r ≡ placeOf (16 * dph + dpl) ⌝ }
+pub fn dp_place(rows: &RowTable, dph: u8, dpl: u8) -> usize
+    requires { ⌜ Rows (now rows) × (dph < 8) × (dpl < 16) ⌝ }
+    ensures { λ r. ⌜ ((sheet : Sheet) → now (rows .entry) ≡ rowTable sheet → r ≡ placeIn sheet (16 * dph + dpl)) ⌝ }
 {
-    let a = 16 * dph + dpl;
-    if a < 80 {
-        return a as usize;
-    }
-    if a < 112 {
-        return (96 + a % 16) as usize;
-    }
-    (a - 32) as usize
+    let i = dph as usize;
+    (rows[i] + dpl) as usize
 }
 
 pub fn working_place(op: Working) -> usize
-    ensures { λ r. ⌜ ((c : Core) → r ≡ placeOf (namedWorking op .address c)) ⌝ }
+    ensures { λ r. ⌜ ((sheet : Sheet) (c : Core) → r ≡ placeIn sheet (namedWorking op .address c)) ⌝ }
 {
     match op {
         Working::Taz => 90,
@@ -193,7 +190,7 @@ pub fn working_place(op: Working) -> usize
 
 // Whether the next instruction is skipped.
 pub fn test_group(op: Test, g: Inputs) -> bool
-    ensures { λ r. ⌜ ((word : ℕ) (ports : List ℕ) → namedTest op .effect (givenOf g word ports) ≡ testEffect (givenOf g word ports) r) ⌝ }
+    ensures { λ r. ⌜ ((sheet : Sheet) (word : ℕ) (ports : List ℕ) → namedTest op .effect (givenOf sheet g word ports) ≡ testEffect (givenOf sheet g word ports) r) ⌝ }
 {
     match op {
         Test::Nop => false,
@@ -212,7 +209,7 @@ fn acc_left(acc: u8, carry: u8, skip: bool) -> Accumulated
 // Acc and C alone.
 pub fn acc_group(op: Acc, g: Inputs) -> Accumulated
     requires { ⌜ Scalars (g .core) ⌝ }
-    ensures { λ r. ⌜ ((word : ℕ) (ports : List ℕ) → namedAcc op .effect (givenOf g word ports) ≡ accEffect (givenOf g word ports) r) ⌝ }
+    ensures { λ r. ⌜ ((sheet : Sheet) (word : ℕ) (ports : List ℕ) → namedAcc op .effect (givenOf sheet g word ports) ≡ accEffect (givenOf sheet g word ports) r) ⌝ }
 {
     let acc = g.core.registers.acc;
     let carry = g.core.registers.carry;
@@ -245,7 +242,7 @@ fn sum_left(acc: u8, carry: u8, word: u8, skip: bool) -> Summed
 // M, with Acc and C.
 pub fn sum_group(op: Sum, g: Inputs, word: u8) -> Summed
     requires { ⌜ Scalars (g .core) × (word < 16) ⌝ }
-    ensures { λ r. ⌜ ((ports : List ℕ) → namedSum op .effect (givenOf g word ports) ≡ sumEffect (givenOf g word ports) r) ⌝ }
+    ensures { λ r. ⌜ ((sheet : Sheet) (ports : List ℕ) → namedSum op .effect (givenOf sheet g word ports) ≡ sumEffect (givenOf sheet g word ports) r) ⌝ }
 {
     let acc = g.core.registers.acc;
     let carry = g.core.registers.carry;
@@ -290,7 +287,7 @@ fn move_left(acc: u8, dph: u8, dpl: u8, mark: u8, skip: bool) -> Moved
 
 // LDI loads DP, unless the instruction before it was an LDI.
 fn ldi(g: Inputs) -> Moved
-    ensures { λ r. ⌜ ((word : ℕ) (ports : List ℕ) → namedMove Move.Ldi .effect (givenOf g word ports) ≡ moveEffect (givenOf g word ports) r) ⌝ }
+    ensures { λ r. ⌜ ((sheet : Sheet) (word : ℕ) (ports : List ℕ) → namedMove Move.Ldi .effect (givenOf sheet g word ports) ≡ moveEffect (givenOf sheet g word ports) r) ⌝ }
 {
     let acc = g.core.registers.acc;
     if g.core.mark == MARK_LDI {
@@ -307,7 +304,7 @@ fn ldi(g: Inputs) -> Moved
 
 // LI loads Acc, unless the instruction before it was an LI.
 fn li(g: Inputs) -> Moved
-    ensures { λ r. ⌜ ((word : ℕ) (ports : List ℕ) → namedMove Move.Li .effect (givenOf g word ports) ≡ moveEffect (givenOf g word ports) r) ⌝ }
+    ensures { λ r. ⌜ ((sheet : Sheet) (word : ℕ) (ports : List ℕ) → namedMove Move.Li .effect (givenOf sheet g word ports) ≡ moveEffect (givenOf sheet g word ports) r) ⌝ }
 {
     let dph = g.core.registers.dph;
     let dpl = g.core.registers.dpl;
@@ -320,7 +317,7 @@ fn li(g: Inputs) -> Moved
 // DP and Acc, without M.
 pub fn move_group(op: Move, g: Inputs) -> Moved
     requires { ⌜ Scalars (g .core) ⌝ }
-    ensures { λ r. ⌜ ((word : ℕ) (ports : List ℕ) → namedMove op .effect (givenOf g word ports) ≡ moveEffect (givenOf g word ports) r) ⌝ }
+    ensures { λ r. ⌜ ((sheet : Sheet) (word : ℕ) (ports : List ℕ) → namedMove op .effect (givenOf sheet g word ports) ≡ moveEffect (givenOf sheet g word ports) r) ⌝ }
 {
     let acc = g.core.registers.acc;
     let dph = g.core.registers.dph;
@@ -352,7 +349,7 @@ fn pointer_left(acc: u8, dph: u8, dpl: u8, word: u8, skip: bool) -> Pointed
 // DP, and M with it.
 pub fn pointer_group(op: Pointer, g: Inputs, word: u8) -> Pointed
     requires { ⌜ Scalars (g .core) × (word < 16) ⌝ }
-    ensures { λ r. ⌜ ((ports : List ℕ) → namedPointer op .effect (givenOf g word ports) ≡ pointerEffect (givenOf g word ports) r) ⌝ }
+    ensures { λ r. ⌜ ((sheet : Sheet) (ports : List ℕ) → namedPointer op .effect (givenOf sheet g word ports) ≡ pointerEffect (givenOf sheet g word ports) r) ⌝ }
 {
     let acc = g.core.registers.acc;
     let dph = g.core.registers.dph;
@@ -380,7 +377,7 @@ fn working_left(acc: u8, dph: u8, dpl: u8, word: u8) -> Worked
 // The words Z, W, S, R, Y and X.
 pub fn working_group(op: Working, g: Inputs, word: u8) -> Worked
     requires { ⌜ Scalars (g .core) × (word < 16) ⌝ }
-    ensures { λ r. ⌜ ((ports : List ℕ) → namedWorking op .effect (givenOf g word ports) ≡ workingEffect (givenOf g word ports) r) ⌝ }
+    ensures { λ r. ⌜ ((sheet : Sheet) (ports : List ℕ) → namedWorking op .effect (givenOf sheet g word ports) ≡ workingEffect (givenOf sheet g word ports) r) ⌝ }
 {
     let acc = g.core.registers.acc;
     let dph = g.core.registers.dph;
@@ -402,7 +399,7 @@ pub fn working_group(op: Working, g: Inputs, word: u8) -> Worked
 // Bits of the flag word.
 pub fn flag_group(op: Flag, g: Inputs, word: u8) -> Flagged
     requires { ⌜ word < 16 ⌝ }
-    ensures { λ r. ⌜ ((ports : List ℕ) → namedFlag op .effect (givenOf g word ports) ≡ flagEffect (givenOf g word ports) r) ⌝ }
+    ensures { λ r. ⌜ ((sheet : Sheet) (ports : List ℕ) → namedFlag op .effect (givenOf sheet g word ports) ≡ flagEffect (givenOf sheet g word ports) r) ⌝ }
 {
     let b = g.code % 4;
     match op {
@@ -449,10 +446,10 @@ pub fn stays(op: Jump) -> bool
     }
 }
 
-// PC and the stack.
+// PC and the stack, moved as on three levels.
 pub fn jump_group(op: Jump, g: Inputs) -> Jumped
     requires { ⌜ Scalars (g .core) ⌝ }
-    ensures { λ r. ⌜ ((word : ℕ) (ports : List ℕ) → namedJump op .effect (givenOf g word ports) ≡ jumpEffect (givenOf g word ports) r) ⌝ }
+    ensures { λ r. ⌜ JumpsAs op g r ⌝ }
 {
     let stack = g.core.flow.stack;
     let s0 = stack[0];
@@ -473,7 +470,7 @@ pub fn jump_group(op: Jump, g: Inputs) -> Jumped
 
 // Flip-flops, carries and the timer.
 pub fn control_group(op: Control, g: Inputs) -> Controlled
-    ensures { λ r. ⌜ ((word : ℕ) (ports : List ℕ) → namedControl op .effect (givenOf g word ports) ≡ controlEffect (givenOf g word ports) r) ⌝ }
+    ensures { λ r. ⌜ ((sheet : Sheet) (word : ℕ) (ports : List ℕ) → namedControl op .effect (givenOf sheet g word ports) ≡ controlEffect (givenOf sheet g word ports) r) ⌝ }
 {
     let carry = g.core.registers.carry;
     let saved = g.core.registers.saved;
@@ -620,7 +617,7 @@ fn written(acc: u8, o: Output) -> Ported
 // Ports.
 pub fn port_group(op: Port, g: Inputs, ports: &[u8; LATCHES]) -> Ported
     requires { ⌜ Scalars (g .core) × ValidPorts (now ports) ⌝ }
-    ensures { λ r. ⌜ ((word : ℕ) → namedPort op .effect (givenOf g word (now (ports .entry))) ≡ portEffect (givenOf g word (now (ports .entry))) r) ⌝ }
+    ensures { λ r. ⌜ ((sheet : Sheet) (word : ℕ) → namedPort op .effect (givenOf sheet g word (now (ports .entry))) ≡ portEffect (givenOf sheet g word (now (ports .entry))) r) ⌝ }
 {
     let acc = g.core.registers.acc;
     let dpl = g.core.registers.dpl;

@@ -10,25 +10,28 @@ use lib.Seq.{take-add, take-at, drop-at, drop-cons, getD-append-add}
 use borrow.Author.Tests.{eq-eqb, eqb-true, lt-ltb, ltb-true, le-leb}
 use Rattle.runs.specs.declared.Version.{Version}
 use Rattle.runs.specs.declared.Version.the-variants.{One, Two}
-use Rattle.runs.specs.TwoRunners.{saveNumber, saveAnswer, restoreAnswer}
+use Rattle.runs.specs.TwoRunners.{saveNumber, saveAnswer, restoreNumber, restoreAnswer}
 use Rattle.runs.specs.Refusals.{firstOf, unless}
 use Rattle.runs.specs.Laws.{Bytes}
 use Rattle.runs.proofs.Refusals.{first-at, passes}
+use Rattle.runs.proofs.Calls.{restore-number, restore-fit, fit-restore}
 use Rattle.upd546.specs.declared.Core.{Core}
 use Rattle.upd546.specs.declared.State.{State}
+use Rattle.upd546.specs.declared.Sheet.{Sheet}
 use Rattle.upd546.specs.TheMachine.{addresses, stackDepth, latches, dpOf}
 use Rattle.upd546.specs.Parts.{withCore, withCount, withFlow}
 use Rattle.upd546.specs.Sequences.{entries}
 use Rattle.upd546.specs.Bytes.{bitAt, numberOf, bytesOf, part}
 use Rattle.upd546.specs.Sequences.{sameNumbers}
 use Rattle.upd546.specs.StateImage.{imageLength, imageMarkAt, versionAt, pcAt, stackAt, dpAt, flagsAt, portsAt, ramAt, ramBytes, cycleAt, countAt}
-use Rattle.upd546.specs.StateImage.{imageMark, ordinal, versionBytes, versionBy, versionOf, wordsBytes, flagsByte, coreBytes, packed, bodyBytes, countBytes, imageOf, byte, unpacked, ofImage, stateSound, stateNumber, versionNumber, fieldsNumber, imageNumber}
-use Rattle.upd546.specs.TwoRunners.{upd546}
+use Rattle.upd546.specs.StateImage.{imageMark, ordinal, versionBytes, versionBy, versionOf, wordsBytes, flagsByte, coreBytes, packed, bodyBytes, countBytes, imageOf, byte, unpacked, ofImage, fieldsSound, absentZero, stateSound, stateNumber, versionNumber, fieldsNumber, imageNumber}
+use Rattle.upd546.specs.TheSheet.{sheetNumber}
+use Rattle.upd546.specs.TwoRunners.{chip}
 use Rattle.upd546.proofs.Computed.{every-at, entries-of}
 use Rattle.laws.specs.Valid.{Scalars, Valid}
 use Rattle.laws.specs.Images.{SavedRestores, RestoredSaves, ImageOfSome, AcceptedExactly}
 use Rattle.laws.proofs.Lists.{and-left, and-right}
-use Rattle.laws.proofs.Sound.{sound-valid, valid-sound, accepted-valid, valid-accepted}
+use Rattle.laws.proofs.Sound.{valid-sound, accepted-valid, accepted-absent}
 use Rattle.laws.proofs.Parts.{part-add, part-two, part-six, part-seven}
 use Rattle.laws.proofs.Digits.{bytes-back}
 use Rattle.laws.proofs.Packing.{words-length, length-packed, unpacked-packed, packed-unpacked}
@@ -264,12 +267,13 @@ module _ (w : Version) (s : State) (v : Valid s) (fits : versionNumber w s ≡ 0
   unfolding imageOf
   flags-in = omega (arith, flags-read s v w (countBytes w (s .count)), v .core .scalars)
 
-  pub image-accepted : imageNumber (imageOf w s) ≡ 0
-  unfolding imageNumber fieldsNumber firstOf
-  image-accepted =
+  pub image-accepted : (sheet : Sheet) → absentZero sheet s ≡ true → imageNumber sheet (imageOf w s) ≡ 0
+  unfolding imageNumber fieldsNumber stateSound firstOf
+  image-accepted sheet absent =
       let six : ltb (byte (imageOf w s) flagsAt) 64 ≡ true = lt-ltb (byte (imageOf w s) flagsAt) 64 flags-in in
-      let sound : stateSound (ofImage (imageOf w s)) ≡ true = ap stateSound image-back ∙ valid-sound s v in
-      rw (version-back, eq-eqb (length (imageOf w s)) (imageLength w) image-length, mark-at, version-at, six, sound)
+      let sound : fieldsSound (ofImage (imageOf w s)) ≡ true = ap fieldsSound image-back ∙ valid-sound s v in
+      let zero : absentZero sheet (ofImage (imageOf w s)) ≡ true = ap (absentZero sheet) image-back ∙ absent in
+      rw (version-back, eq-eqb (length (imageOf w s)) (imageLength w) image-length, mark-at, version-at, six, sound, zero)
 
 -- THE IMAGE OF THE STATE OF AN IMAGE
 same-eq : (l m : List ℕ) → sameNumbers l m ≡ true → l ≡ m
@@ -291,9 +295,9 @@ pub length-fits : (image ks : List ℕ) → firstOf (unless (eqb (length image) 
     → length image ≡ imageLength (versionOf image)
 length-fits image ks e = eqb-true _ _ (passes (eqb (length image) (imageLength (versionOf image))) 31 refl (first-at _ e 0))
 
-pub accepted-length : (image : List ℕ) → imageNumber image ≡ 0 → length image ≡ imageLength (versionOf image)
+pub accepted-length : (sheet : Sheet) (image : List ℕ) → imageNumber sheet image ≡ 0 → length image ≡ imageLength (versionOf image)
 unfolding imageNumber
-accepted-length image e = length-fits image _ e
+accepted-length sheet image e = length-fits image _ e
 
 -- such a length is 82, or it is 81
 pub version-cases : (image : List ℕ) → length image ≡ imageLength (versionOf image) → (P : Version → Type 0)
@@ -304,16 +308,17 @@ version-cases image e P one two = go (eqb (length image) (imageLength Two)) refl
     go true f = two (eqb-true (length image) (imageLength Two) f)
     go false f = one (e ∙ ap (λ (b : Bool). imageLength (versionBy b)) f)
 
-module _ (image : List ℕ) (bytes : Bytes image) (accepted : imageNumber image ≡ 0) where
-  fields-sound : (ltb (byte image flagsAt) 64 && stateSound (ofImage image)) ≡ true
+module _ (sheet : Sheet) (image : List ℕ) (bytes : Bytes image) (accepted : imageNumber sheet image ≡ 0) where
+  fields-sound : (ltb (byte image flagsAt) 64 && stateSound sheet (ofImage image)) ≡ true
   unfolding imageNumber fieldsNumber
-  fields-sound = passes (ltb (byte image flagsAt) 64 && stateSound (ofImage image)) 34 refl (first-at _ accepted 3)
+  fields-sound = passes (ltb (byte image flagsAt) 64 && stateSound sheet (ofImage image)) 34 refl (first-at _ accepted 3)
 
-  pub accepted-sound : stateSound (ofImage image) ≡ true
-  accepted-sound = and-right (ltb (byte image flagsAt) 64) (stateSound (ofImage image)) fields-sound
+  pub accepted-state : stateNumber sheet (ofImage image) ≡ 0
+  unfolding stateNumber
+  accepted-state = rw (and-right (ltb (byte image flagsAt) 64) (stateSound sheet (ofImage image)) fields-sound)
 
   flags-small : byte image flagsAt < 64
-  flags-small = ltb-true _ _ (and-left (ltb (byte image flagsAt) 64) (stateSound (ofImage image)) fields-sound)
+  flags-small = ltb-true _ _ (and-left (ltb (byte image flagsAt) 64) (stateSound sheet (ofImage image)) fields-sound)
 
   mark-same : imageMark ≡ part image imageMarkAt 3
   unfolding imageNumber
@@ -327,7 +332,8 @@ module _ (image : List ℕ) (bytes : Bytes image) (accepted : imageNumber image 
   -- the body is there
   whole-body : countAt ≤ length image
   whole-body =
-      version-cases image (accepted-length image accepted) (λ w. countAt ≤ length image) (λ e. omega (arith, e)) (λ e. omega (arith, e))
+      version-cases image (accepted-length sheet image accepted) (λ w. countAt ≤ length image) (λ e. omega (arith, e))
+      (λ e. omega (arith, e))
 
   word-same : (at : ℕ) → at + 2 ≤ countAt → bytesOf 2 (numberOf (part image at 2)) ≡ part image at 2
   word-same at h = rw (part-two image at (omega (arith, whole-body))) (word-bytes (byte image at) (byte image (at + 1)) (bytes at) (bytes (at + 1)))
@@ -373,7 +379,7 @@ module _ (image : List ℕ) (bytes : Bytes image) (accepted : imageNumber image 
   tail-same : countBytes (versionOf image) (ofImage image .count) ≡ drop countAt image
   unfolding ofImage
   tail-same =
-      version-cases image (accepted-length image accepted) (λ w. countBytes w (byte image countAt) ≡ drop countAt image)
+      version-cases image (accepted-length sheet image accepted) (λ w. countBytes w (byte image countAt) ≡ drop countAt image)
       (λ e. sym (drop-of-length-le image {i = 81} (omega (arith, e))))
       (λ e.
       let behind : drop 82 image ≡ [] = drop-of-length-le image {i = 82} (omega (arith, e)) in
@@ -382,7 +388,7 @@ module _ (image : List ℕ) (bytes : Bytes image) (accepted : imageNumber image 
   pub version-fits : versionNumber (versionOf image) (ofImage image) ≡ 0
   unfolding ofImage versionNumber
   version-fits =
-      version-cases image (accepted-length image accepted) (λ w. versionNumber w (ofImage image) ≡ 0)
+      version-cases image (accepted-length sheet image accepted) (λ w. versionNumber w (ofImage image) ≡ 0)
       (λ e. rw (eq-eqb (byte image countAt) 0 (List·getD-eq-default image 0 {n = 81} (omega (arith, e)))))
       (λ e. refl)
 
@@ -397,48 +403,63 @@ module _ (image : List ℕ) (bytes : Bytes image) (accepted : imageNumber image 
 -- DEMAND 2, SECOND HALF
 
 pub saved-restores : SavedRestores
-unfolding saveAnswer saveNumber restoreAnswer firstOf
-saved-restores w s buffer e f h =
-    let v = accepted-valid s e in
+unfolding saveAnswer saveNumber restoreAnswer restoreNumber firstOf
+saved-restores sheet w s buffer o e f h =
+    let v = accepted-valid sheet s e in
     let first : take (imageLength w) (imageOf w s ++ drop (imageLength w) buffer) ≡ imageOf w s =
     take-at (imageOf w s) _ (imageLength w) (image-length w s v f) in
-    rw (e, f, le-leb (imageLength w) (length buffer) h, first, image-accepted w s v f, image-back w s v f)
+    rw (
+      o,
+      e,
+      f,
+      le-leb (imageLength w) (length buffer) h,
+      first,
+      image-accepted w s v f sheet (accepted-absent sheet s e),
+      image-back w s v f,
+    )
 
 -- the state that an accepted image restores to
-pub restores-to : (image : List ℕ) → imageNumber image ≡ 0 → restoreAnswer upd546 image ≡ record { number = 0; state = ofImage image }
+pub restores-to : (sheet : Sheet) (image : List ℕ) → sheetNumber sheet ≡ 0 → imageNumber sheet image ≡ 0
+    → restoreAnswer (chip sheet) image ≡ record { number = 0; state = ofImage image }
 unfolding restoreAnswer
-restores-to image e = rw e
+restores-to sheet image o e = rw (fit-restore (chip sheet) image o e)
 
-pub restore-number : (image : List ℕ) → restoreAnswer upd546 image .number ≡ imageNumber image
-unfolding restoreAnswer
-restore-number image = go (imageNumber image) refl
-  where
-    go : (k : ℕ) → imageNumber image ≡ k → restoreAnswer upd546 image .number ≡ imageNumber image
-    go zero e = rw e
-    go (suc k) e = rw e
+-- a restore that isn't refused: of a legal sheet, and of an accepted image
+restored : (sheet : Sheet) (image : List ℕ) → restoreAnswer (chip sheet) image .number ≡ 0
+    → (sheetNumber sheet ≡ 0) × (imageNumber sheet image ≡ 0)
+restored sheet image e = restore-fit (chip sheet) image (sym (restore-number (chip sheet) image) ∙ e)
 
 pub restored-saves : RestoredSaves
 unfolding saveAnswer saveNumber firstOf
-restored-saves image buffer b e h =
-    let z = sym (restore-number image) ∙ e in
-    let sound : stateNumber (ofImage image) ≡ 0 = valid-accepted (ofImage image) (sound-valid (ofImage image) (accepted-sound image b z)) in
-    rw (restores-to image z, sound, version-fits image b z, le-leb (imageLength (versionOf image)) (length buffer) h, image-same image b z)
+restored-saves sheet image buffer b e h =
+    let o = restored sheet image e .0 in
+    let z = restored sheet image e .1 in
+    rw (
+      restores-to sheet image o z,
+      o,
+      accepted-state sheet image b z,
+      version-fits sheet image b z,
+      le-leb (imageLength (versionOf image)) (length buffer) h,
+      image-same sheet image b z,
+    )
 
 pub accepted-exactly : AcceptedExactly
-accepted-exactly image b = (to, from)
+accepted-exactly sheet image o b = (to, from)
   where
-    to : restoreAnswer upd546 image .number ≡ 0 → ImageOfSome image
+    to : restoreAnswer (chip sheet) image .number ≡ 0 → ImageOfSome sheet image
     to e =
-        let z = sym (restore-number image) ∙ e in
+        let z = restored sheet image e .1 in
         record {
           state = ofImage image;
-          not-refused = valid-accepted (ofImage image) (sound-valid (ofImage image) (accepted-sound image b z));
-          fits = version-fits image b z;
-          same = sym (image-same image b z);
+          not-refused = accepted-state sheet image b z;
+          fits = version-fits sheet image b z;
+          same = sym (image-same sheet image b z);
         }
 
-    from : ImageOfSome image → restoreAnswer upd546 image .number ≡ 0
-    from o =
-        restore-number image
-        ∙ ap imageNumber (o .same)
-        ∙ image-accepted (versionOf image) (o .state) (accepted-valid (o .state) (o .not-refused)) (o .fits)
+    from : ImageOfSome sheet image → restoreAnswer (chip sheet) image .number ≡ 0
+    from i =
+        let v = accepted-valid sheet (i .state) (i .not-refused) in
+        restore-number (chip sheet) image
+        ∙ fit-restore (chip sheet) image o
+        (ap (imageNumber sheet) (i .same)
+        ∙ image-accepted (versionOf image) (i .state) v (i .fits) sheet (accepted-absent sheet (i .state) (i .not-refused)))

@@ -15,13 +15,14 @@ use Rattle.runs.specs.Machine.{went}
 use Rattle.runs.specs.TwoRunners.{Ran, begins, unbroken, within}
 use Rattle.runs.specs.Refusals.{cycleLimit, firstOf}
 use Rattle.runs.specs.Laws.{Panel}
-use Rattle.runs.proofs.Iterate as iterate
 use Rattle.runs.proofs.Cut.{roomy}
 use Rattle.upd546.specs.declared.Core.{Core}
 use Rattle.upd546.specs.declared.Timer.{Timer}
 use Rattle.upd546.specs.declared.Lines.{Lines}
 use Rattle.upd546.specs.declared.State.{State}
-use Rattle.upd546.specs.TheMachine.{inRom, byteAt, follows, past, pageOf, markOther}
+use Rattle.upd546.specs.declared.Sheet.{Sheet}
+use Rattle.upd546.specs.TheSheet.{inRom}
+use Rattle.upd546.specs.TheMachine.{byteAt, follows, past, pageOf, markOther}
 use Rattle.upd546.specs.Parts.{withParts, withTimer, setMark, setOwed, setPc}
 use Rattle.upd546.specs.Sequences.{allOf}
 use Rattle.upd546.specs.TheLineSchedule.{recordCount, recordCycle, linesAt, noneAmong, noRecord}
@@ -29,17 +30,16 @@ use Rattle.upd546.specs.Timer.{tick, ticksLeft}
 use Rattle.laws.specs.Timer.{timerLeft}
 use Rattle.upd546.specs.Instructions.{instruction, codes, jcp, none as noInstruction}
 use Rattle.upd546.specs.OneMachineCycle.{blocks, accepts, taken, ticked, given, instructionStop, passedOver, begun, execute, ordinaryCycle}
-use Rattle.upd546.specs.StateImage.{stateNumber}
-use Rattle.upd546.specs.TwoRunners.{atTtm, atJcpBack, mayJump, jumpable, largest, onJump, waitLength, resetFar, jumpLength, upd546}
+use Rattle.upd546.specs.TwoRunners.{atTtm, atJcpBack, mayJump, jumpable, largest, onJump, waitLength, resetFar, jumpLength, chip}
 use Rattle.laws.specs.Ordinary.{stepsOf, ordinary}
 use Rattle.laws.specs.Reset.{Unreset}
 use Rattle.laws.specs.Jump.{coreAfterJump, stateAfterJump}
 use Rattle.laws.specs.Valid.{Valid}
 use Rattle.laws.proofs.Lists.{and-left, and-right, all-at}
-use Rattle.laws.proofs.Sound.{accepted-valid, valid-accepted}
-use Rattle.laws.proofs.Lines.{lines-same}
+use Rattle.laws.proofs.Sheets.{legal-sheet}
+use Rattle.laws.proofs.Lines.{lines-same, panel-schedule}
 use Rattle.laws.proofs.Reset.{low-run}
-use Rattle.laws.proofs.Chip.{chip-laws}
+use Rattle.laws.proofs.Chip.{reaches-valid}
 use Rattle.laws.proofs.Timer.{tick-left, running-left}
 
 -- ONE CYCLE OF THE WAITING LOOP
@@ -79,26 +79,26 @@ is-jcp code h =
 abbrev inLoop : State → ℕ → Timer → ℕ → State
 inLoop s pc t n = withParts s (setPc pc (setMark markOther (setOwed 0 (withTimer (s .core) t)))) (s .ram) (s .ports) n
 
-module _ (rom sched : List ℕ) (s : State) where
+module _ (sheet : Sheet) (rom sched : List ℕ) (s : State) where
   -- an instruction is due where nothing is owed and no interrupt is accepted
   pub cycle-due : s .core .owed ≡ 0 → accepts (s .core) ≡ false → linesAt sched (s .cycle .0) .int ≡ s .core .interrupt .level
-      → stepsOf rom sched s ≡ execute rom (linesAt sched (s .cycle .0)) s (s .core)
+      → stepsOf sheet rom sched s ≡ execute sheet rom (linesAt sched (s .cycle .0)) s (s .core)
   unfolding ordinaryCycle
   cycle-due o a l = rw (a, taken-same (linesAt sched (s .cycle .0)) (s .core) l, o)
 
   cycle-executes : s .core .owed ≡ 0 → (eqb (s .core .interrupt .int) 1 && eqb (s .core .interrupt .inte) 1) ≡ false
       → linesAt sched (s .cycle .0) .int ≡ s .core .interrupt .level
-      → stepsOf rom sched s ≡ execute rom (linesAt sched (s .cycle .0)) s (s .core)
+      → stepsOf sheet rom sched s ≡ execute sheet rom (linesAt sched (s .cycle .0)) s (s .core)
   cycle-executes o f l = cycle-due o (free-accepts (s .core) f) l
 
   -- TTM with TM 0
-  execute-ttm : (l : Lines) → s .core .timer .tm ≡ 0 → inRom (s .core .flow .pc) ≡ true → byteAt rom (s .core .flow .pc) ≡ 0x05
-      → execute rom l s (s .core) ≡ went (inLoop s (follows (s .core .flow .pc)) (tick (s .core .timer)) (s .cycle .0 + 1)) [] 1
+  execute-ttm : (l : Lines) → s .core .timer .tm ≡ 0 → inRom sheet (s .core .flow .pc) ≡ true → byteAt rom (s .core .flow .pc) ≡ 0x05
+      → execute sheet rom l s (s .core) ≡ went (inLoop s (follows (s .core .flow .pc)) (tick (s .core .timer)) (s .cycle .0 + 1)) [] 1
   unfolding execute given instructionStop passedOver begun instruction past firstOf ticked
   execute-ttm l z i b = rw (b, i, z, set-getD)
 
-  execute-jcp : (l : Lines) → inRom (s .core .flow .pc) ≡ true → 0xC0 ≤ byteAt rom (s .core .flow .pc)
-      → execute rom l s (s .core)
+  execute-jcp : (l : Lines) → inRom sheet (s .core .flow .pc) ≡ true → 0xC0 ≤ byteAt rom (s .core .flow .pc)
+      → execute sheet rom l s (s .core)
       ≡ went (inLoop s (pageOf (s .core .flow .pc) + byteAt rom (s .core .flow .pc) % 64) (tick (s .core .timer)) (s .cycle .0 + 1)) [] 1
   unfolding execute given instructionStop passedOver begun past firstOf ticked
   execute-jcp l i b = rw (is-jcp (byteAt rom (s .core .flow .pc)) b, i, set-getD)
@@ -110,12 +110,12 @@ abbrev atTtmAgain : State → ℕ → ℕ → State
 atTtmAgain s q n = inLoop s (s .core .flow .pc) (timerLeft 0 q) n
 
 -- what stays as it is in the loop `TTM; JCP back`
-record Waits (rom : List ℕ) (c : Core) : Type 0 where
+record Waits (sheet : Sheet) (rom : List ℕ) (c : Core) : Type 0 where
   owed : c .owed ≡ 0
   free : (eqb (c .interrupt .int) 1 && eqb (c .interrupt .inte) 1) ≡ false
-  ttm-in : inRom (c .flow .pc) ≡ true
+  ttm-in : inRom sheet (c .flow .pc) ≡ true
   ttm : byteAt rom (c .flow .pc) ≡ 0x05
-  jcp-in : inRom (follows (c .flow .pc)) ≡ true
+  jcp-in : inRom sheet (follows (c .flow .pc)) ≡ true
   jcp : 0xC0 ≤ byteAt rom (follows (c .flow .pc))
   back : pageOf (follows (c .flow .pc)) + byteAt rom (follows (c .flow .pc)) % 64 ≡ c .flow .pc
 
@@ -142,24 +142,25 @@ pub left-tm : (tm k : ℕ) → timerLeft tm (suc k) .tm ≡ tm
 unfolding timerLeft
 left-tm tm k = refl
 
-module _ (rom sched : List ℕ) (s : State) (w : Waits rom (s .core)) where
+module _ (sheet : Sheet) (rom sched : List ℕ) (s : State) (w : Waits sheet rom (s .core)) where
   ttm-cycle : s .core .timer .tm ≡ 0 → linesAt sched (s .cycle .0) .int ≡ s .core .interrupt .level
-      → stepsOf rom sched s ≡ went (inLoop s (follows (s .core .flow .pc)) (tick (s .core .timer)) (s .cycle .0 + 1)) [] 1
+      → stepsOf sheet rom sched s ≡ went (inLoop s (follows (s .core .flow .pc)) (tick (s .core .timer)) (s .cycle .0 + 1)) [] 1
   ttm-cycle z l =
-      cycle-executes rom sched s (w .owed) (w .free) l
-      ∙ execute-ttm rom sched s (linesAt sched (s .cycle .0)) z (w .ttm-in) (w .ttm)
+      cycle-executes sheet rom sched s (w .owed) (w .free) l
+      ∙ execute-ttm sheet rom sched s (linesAt sched (s .cycle .0)) z (w .ttm-in) (w .ttm)
 
   jcp-cycle : (t : Timer) (n : ℕ) → linesAt sched n .int ≡ s .core .interrupt .level
-      → stepsOf rom sched (inLoop s (follows (s .core .flow .pc)) t n) ≡ went (inLoop s (s .core .flow .pc) (tick t) (n + 1)) [] 1
+      → stepsOf sheet rom sched (inLoop s (follows (s .core .flow .pc)) t n) ≡ went (inLoop s (s .core .flow .pc) (tick t) (n + 1)) [] 1
   jcp-cycle t n l =
       let u = inLoop s (follows (s .core .flow .pc)) t n in
-      cycle-executes rom sched u refl (w .free) l
-      ∙ execute-jcp rom sched u (linesAt sched n) (w .jcp-in) (w .jcp)
+      cycle-executes sheet rom sched u refl (w .free) l
+      ∙ execute-jcp sheet rom sched u (linesAt sched n) (w .jcp-in) (w .jcp)
       ∙ ap (λ (pc : ℕ). went (inLoop s pc (tick t) (n + 1)) [] 1) (w .back)
 
   -- with q + 2 ticks left, TM is 0 at TTM; two cycles later PC is back
   turn : (q k : ℕ) → s .core .timer ≡ timerLeft 0 (suc (suc q)) → Level sched s (suc (suc k)) (s .cycle .0)
-      → unbroken ordinary rom sched (suc (suc k)) s ≡ begins [] 1 (begins [] 1 (unbroken ordinary rom sched k (atTtmAgain s q (s .cycle .0 + 1 + 1))))
+      → unbroken (ordinary sheet) rom sched (suc (suc k)) s
+      ≡ begins [] 1 (begins [] 1 (unbroken (ordinary sheet) rom sched k (atTtmAgain s q (s .cycle .0 + 1 + 1))))
   unfolding unbroken
   turn q k t l =
       let n = s .cycle .0 in
@@ -177,32 +178,35 @@ pub double-is : (h : ℕ) → double h ≡ 2 * h
 double-is zero = refl
 double-is (suc h) = omega (arith, double-is h)
 
-again-waits : (rom : List ℕ) (s : State) (q n : ℕ) → Waits rom (s .core) → Waits rom (atTtmAgain s q n .core)
-again-waits rom s q n w =
+again-waits : (sheet : Sheet) (rom : List ℕ) (s : State) (q n : ℕ) → Waits sheet rom (s .core) → Waits sheet rom (atTtmAgain s q n .core)
+again-waits sheet rom s q n w =
     record { owed = refl; free = w .free; ttm-in = w .ttm-in; ttm = w .ttm; jcp-in = w .jcp-in; jcp = w .jcp; back = w .back }
 
-last-turn : (rom sched : List ℕ) (s : State) → begins [] 1 (begins [] 1 (unbroken ordinary rom sched 0 s)) ≡ quietly 2 s
+last-turn : (sheet : Sheet) (rom sched : List ℕ) (s : State)
+    → begins [] 1 (begins [] 1 (unbroken (ordinary sheet) rom sched 0 s)) ≡ quietly 2 s
 unfolding unbroken
-last-turn rom sched s = two-more 0 s
+last-turn sheet rom sched s = two-more 0 s
 
 -- h + 1 turns; the first may find any mark
-turns : (rom sched : List ℕ) (h q : ℕ) (s : State) → Waits rom (s .core) → s .core .timer ≡ timerLeft 0 (double (suc h) + q)
+turns : (sheet : Sheet) (rom sched : List ℕ) (h q : ℕ) (s : State) → Waits sheet rom (s .core)
+    → s .core .timer ≡ timerLeft 0 (double (suc h) + q)
     → Level sched s (double (suc h)) (s .cycle .0)
-    → unbroken ordinary rom sched (double (suc h)) s ≡ quietly (double (suc h)) (atTtmAgain s q (s .cycle .0 + double (suc h)))
-turns rom sched zero q s w t l =
+    → unbroken (ordinary sheet) rom sched (double (suc h)) s ≡ quietly (double (suc h)) (atTtmAgain s q (s .cycle .0 + double (suc h)))
+turns sheet rom sched zero q s w t l =
     let e : 2 + q ≡ suc (suc q) = omega arith in
     let a : s .cycle .0 + 1 + 1 ≡ s .cycle .0 + 2 = omega arith in
-    turn rom sched s w q 0 (t ∙ ap (timerLeft 0) e) l
-    ∙ last-turn rom sched (atTtmAgain s q (s .cycle .0 + 1 + 1))
+    turn sheet rom sched s w q 0 (t ∙ ap (timerLeft 0) e) l
+    ∙ last-turn sheet rom sched (atTtmAgain s q (s .cycle .0 + 1 + 1))
     ∙ ap (λ (n : ℕ). quietly 2 (atTtmAgain s q n)) a
-turns rom sched (suc h) q s w t l =
+turns sheet rom sched (suc h) q s w t l =
     let j = double (suc h) in
     let n = s .cycle .0 in
     let e : suc (suc j) + q ≡ suc (suc (j + q)) = omega arith in
     let a : n + 1 + 1 + j ≡ n + suc (suc j) = omega arith in
-    turn rom sched s w (j + q) j (t ∙ ap (timerLeft 0) e) l
+    turn sheet rom sched s w (j + q) j (t ∙ ap (timerLeft 0) e) l
     ∙ ap (λ (r : Ran State). begins [] 1 (begins [] 1 r))
-    (turns rom sched h q (atTtmAgain s (j + q) (n + 1 + 1)) (again-waits rom s (j + q) (n + 1 + 1) w) refl (level-later sched s j n l))
+    (turns sheet rom sched h q (atTtmAgain s (j + q) (n + 1 + 1)) (again-waits sheet rom s (j + q) (n + 1 + 1) w) refl
+    (level-later sched s j n l))
     ∙ two-more j (atTtmAgain s q (n + 1 + 1 + j))
     ∙ ap (λ (m : ℕ). quietly (suc (suc j)) (atTtmAgain s q m)) a
 
@@ -241,15 +245,15 @@ level-stays sched s j e q i h = ap (λ (l : Lines). l .int) (lines-stay sched (s
 -- AN EVEN NUMBER OF CYCLES
 
 -- what the test of a jump says
-record MayJump (rom sched : List ℕ) (s : State) : Type 0 where
-  waits : Waits rom (s .core)
+record MayJump (sheet : Sheet) (rom sched : List ℕ) (s : State) : Type 0 where
+  waits : Waits sheet rom (s .core)
   tm : s .core .timer .tm ≡ 0
   runs : 0 < s .core .timer .register
   level : linesAt sched (s .cycle .0) .int ≡ s .core .interrupt .level
 
-may-jump : (rom sched : List ℕ) (s : State) → mayJump rom sched s ≡ true → MayJump rom sched s
+may-jump : (sheet : Sheet) (rom sched : List ℕ) (s : State) → mayJump sheet rom sched s ≡ true → MayJump sheet rom sched s
 unfolding mayJump atTtm atJcpBack
-may-jump rom sched s e =
+may-jump sheet rom sched s e =
     let t = all-at _ e in
     let a = all-at _ (t 4) in
     let b = all-at _ (t 5) in
@@ -275,12 +279,13 @@ unfolding coreAfterJump
 jumped-is s j o z = rw (o, z)
 
 -- any even number of cycles, up to the ticks left and the next record
-module _ (rom sched : List ℕ) (s : State) (j : ℕ) (small : s .core .timer .register < 64) (may : mayJump rom sched s ≡ true)
+module _ (sheet : Sheet) (rom sched : List ℕ) (s : State) (j : ℕ) (small : s .core .timer .register < 64)
+    (may : mayJump sheet rom sched s ≡ true)
     (even : j % 2 ≡ 0) (more : 0 < j) (left : j ≤ ticksLeft (s .core .timer))
     (between : noRecord sched (s .cycle .0 + 1) (s .cycle .0 + j) ≡ true) where
-  turns-unbroken : unbroken ordinary rom sched j s ≡ quietly j (stateAfterJump j s)
+  turns-unbroken : unbroken (ordinary sheet) rom sched j s ≡ quietly j (stateAfterJump j s)
   turns-unbroken =
-      let m = may-jump rom sched s may in
+      let m = may-jump sheet rom sched s may in
       let n = s .cycle .0 in
       let timer = s .core .timer in
       let q = ticksLeft timer - j in
@@ -288,8 +293,9 @@ module _ (rom sched : List ℕ) (s : State) (j : ℕ) (small : s .core .timer .r
       let a : ticksLeft timer ≡ j + q = omega arith in
       let z : timerLeft (timer .tm) (ticksLeft timer) ≡ timerLeft 0 (ticksLeft timer) = ap (λ (x : ℕ). timerLeft x (ticksLeft timer)) (m .tm) in
       let t : timer ≡ timerLeft 0 (j + q) = running-left timer (m .runs) small ∙ z ∙ ap (timerLeft 0) a in
-      subst (λ (k : ℕ). timer ≡ timerLeft 0 (k + q) → Level sched s k n → unbroken ordinary rom sched k s ≡ quietly k (atTtmAgain s q (n + k))) e
-      (turns rom sched (j / 2 - 1) q s (m .waits)) t (level-stays sched s j (m .level) between)
+      subst (λ (k : ℕ). timer ≡ timerLeft 0 (k + q) → Level sched s k n
+          → unbroken (ordinary sheet) rom sched k s ≡ quietly k (atTtmAgain s q (n + k))) e
+      (turns sheet rom sched (j / 2 - 1) q s (m .waits)) t (level-stays sched s j (m .level) between)
       ∙ ap (quietly j) (jumped-is s j (m .waits .owed) (m .tm))
 
 -- THE LENGTH OF A WAIT
@@ -313,26 +319,27 @@ largest-passes test (suc k) h = go (test (suc k)) refl (largest-passes test k) h
     go true e ih h = rw (e, largest) e
     go false e ih h = rw (e, largest) (ih (rw (e, largest) at h))
 
-pub wait-within : (rom sched : List ℕ) (s : State) (left : ℕ) → waitLength rom sched s left ≤ left
+pub wait-within : (sheet : Sheet) (rom sched : List ℕ) (s : State) (left : ℕ) → waitLength sheet rom sched s left ≤ left
 unfolding waitLength
-wait-within rom sched s left = go (mayJump rom sched s)
+wait-within sheet rom sched s left = go (mayJump sheet rom sched s)
   where
     go : (b : Bool) → onJump b sched s left ≤ left
     go true = omega (arith, largest-most (jumpable sched (s .cycle .0)) (min (ticksLeft (s .core .timer)) left))
     go false = omega arith
 
 -- such a number is as the law above asks
-record Jumps (rom sched : List ℕ) (s : State) (j : ℕ) : Type 0 where
-  may : mayJump rom sched s ≡ true
+record Jumps (sheet : Sheet) (rom sched : List ℕ) (s : State) (j : ℕ) : Type 0 where
+  may : mayJump sheet rom sched s ≡ true
   even : j % 2 ≡ 0
   left : j ≤ ticksLeft (s .core .timer)
   between : noRecord sched (s .cycle .0 + 1) (s .cycle .0 + j) ≡ true
 
-jumps : (rom sched : List ℕ) (s : State) (left : ℕ) → (waitLength rom sched s left ≡ 0 → ⊥) → Jumps rom sched s (waitLength rom sched s left)
+jumps : (sheet : Sheet) (rom sched : List ℕ) (s : State) (left : ℕ) → (waitLength sheet rom sched s left ≡ 0 → ⊥)
+    → Jumps sheet rom sched s (waitLength sheet rom sched s left)
 unfolding waitLength jumpable
-jumps rom sched s left h = go (mayJump rom sched s) refl h
+jumps sheet rom sched s left h = go (mayJump sheet rom sched s) refl h
   where
-    go : (b : Bool) → mayJump rom sched s ≡ b → (onJump b sched s left ≡ 0 → ⊥) → Jumps rom sched s (onJump b sched s left)
+    go : (b : Bool) → mayJump sheet rom sched s ≡ b → (onJump b sched s left ≡ 0 → ⊥) → Jumps sheet rom sched s (onJump b sched s left)
     go true e h =
         let n = s .cycle .0 in
         let b = min (ticksLeft (s .core .timer)) left in
@@ -347,12 +354,12 @@ jumps rom sched s left h = go (mayJump rom sched s) refl h
     go false e h = absurd (h refl)
 
 -- it is even: there is none where one cycle is left
-pub wait-of-one : (rom sched : List ℕ) (s : State) → waitLength rom sched s 1 ≡ 0
-wait-of-one rom sched s = go (eqb (waitLength rom sched s 1) 0) refl
+pub wait-of-one : (sheet : Sheet) (rom sched : List ℕ) (s : State) → waitLength sheet rom sched s 1 ≡ 0
+wait-of-one sheet rom sched s = go (eqb (waitLength sheet rom sched s 1) 0) refl
   where
-    go : (b : Bool) → eqb (waitLength rom sched s 1) 0 ≡ b → waitLength rom sched s 1 ≡ 0
+    go : (b : Bool) → eqb (waitLength sheet rom sched s 1) 0 ≡ b → waitLength sheet rom sched s 1 ≡ 0
     go true e = eqb-true _ _ e
-    go false e = omega (arith, wait-within rom sched s 1, jumps rom sched s 1 (eqb-false _ _ e) .even)
+    go false e = omega (arith, wait-within sheet rom sched s 1, jumps sheet rom sched s 1 (eqb-false _ _ e) .even)
 
 -- WHAT A RUNNER COMPUTES
 
@@ -378,44 +385,46 @@ largest-even sched n m (suc k) p q =
         rw (e, largest) (omega arith)
 
 -- the length where it may jump
-wait-length-even : (rom sched : List ℕ) (s : State) (left m : ℕ) → mayJump rom sched s ≡ true
+wait-length-even : (sheet : Sheet) (rom sched : List ℕ) (s : State) (left m : ℕ) → mayJump sheet rom sched s ≡ true
     → ((j : ℕ) → j ≤ m → noRecord sched (s .cycle .0 + 1) (s .cycle .0 + j) ≡ true)
     → ((j : ℕ) → m < j → j ≤ left → noRecord sched (s .cycle .0 + 1) (s .cycle .0 + j) ≡ false)
-    → (k : ℕ) → k ≡ min (min (ticksLeft (s .core .timer)) left) m → waitLength rom sched s left ≡ k - k % 2
+    → (k : ℕ) → k ≡ min (min (ticksLeft (s .core .timer)) left) m → waitLength sheet rom sched s left ≡ k - k % 2
 unfolding waitLength
-wait-length-even rom sched s left m e p q k f =
+wait-length-even sheet rom sched s left m e p q k f =
     rw (e, f) (largest-even sched (s .cycle .0) m (min (ticksLeft (s .core .timer)) left) p (λ j h l. q j h (omega arith)))
 
 -- and where it may not
-pub wait-length-none : (rom sched : List ℕ) (s : State) (left : ℕ) → mayJump rom sched s ≡ false → waitLength rom sched s left ≡ 0
+pub wait-length-none : (sheet : Sheet) (rom sched : List ℕ) (s : State) (left : ℕ) → mayJump sheet rom sched s ≡ false
+    → waitLength sheet rom sched s left ≡ 0
 unfolding waitLength
-wait-length-none rom sched s left e = rw e
+wait-length-none sheet rom sched s left e = rw e
 
 -- the length where it may jump and no record comes before the cycles that are left are over
-pub wait-length-steady : (rom sched : List ℕ) (s : State) (left : ℕ) → mayJump rom sched s ≡ true
+pub wait-length-steady : (sheet : Sheet) (rom sched : List ℕ) (s : State) (left : ℕ) → mayJump sheet rom sched s ≡ true
     → noRecord sched (s .cycle .0 + 1) (s .cycle .0 + left) ≡ true
-    → (k : ℕ) → k ≡ min (ticksLeft (s .core .timer)) left → waitLength rom sched s left ≡ k - k % 2
+    → (k : ℕ) → k ≡ min (ticksLeft (s .core .timer)) left → waitLength sheet rom sched s left ≡ k - k % 2
 unfolding noRecord
-wait-length-steady rom sched s left e v k f =
+wait-length-steady sheet rom sched s left e v k f =
     let n = s .cycle .0 in
-    wait-length-even rom sched s left left e (λ j h. none-fewer sched (n + 1) (n + left) (n + j) (recordCount sched) (omega arith) v) (λ j h l. absurd (omega arith)) k
+    wait-length-even sheet rom sched s left left e (λ j h. none-fewer sched (n + 1) (n + left) (n + j) (recordCount sched) (omega arith) v)
+    (λ j h l. absurd (omega arith)) k
     (omega (arith, f))
 
 -- THE CUT: as it ends before the next record, m cycles on, it is as long where no more cycles are left than those
-wait-length-cut : (rom sched : List ℕ) (s : State) (left m : ℕ)
+wait-length-cut : (sheet : Sheet) (rom sched : List ℕ) (s : State) (left m : ℕ)
     → ((j : ℕ) → j ≤ m → noRecord sched (s .cycle .0 + 1) (s .cycle .0 + j) ≡ true)
     → ((j : ℕ) → m < j → j ≤ left → noRecord sched (s .cycle .0 + 1) (s .cycle .0 + j) ≡ false)
-    → waitLength rom sched s left ≡ waitLength rom sched s (min left m)
-wait-length-cut rom sched s left m p q = go (mayJump rom sched s) refl
+    → waitLength sheet rom sched s left ≡ waitLength sheet rom sched s (min left m)
+wait-length-cut sheet rom sched s left m p q = go (mayJump sheet rom sched s) refl
   where
     k : ℕ
     k = min (min (ticksLeft (s .core .timer)) left) m
 
-    go : (b : Bool) → mayJump rom sched s ≡ b → waitLength rom sched s left ≡ waitLength rom sched s (min left m)
+    go : (b : Bool) → mayJump sheet rom sched s ≡ b → waitLength sheet rom sched s left ≡ waitLength sheet rom sched s (min left m)
     go true e =
-        wait-length-even rom sched s left m e p q k refl
-        ∙ sym (wait-length-even rom sched s (min left m) m e p (λ j h l. absurd (omega arith)) k (omega arith))
-    go false e = wait-length-none rom sched s left e ∙ sym (wait-length-none rom sched s (min left m) e)
+        wait-length-even sheet rom sched s left m e p q k refl
+        ∙ sym (wait-length-even sheet rom sched s (min left m) m e p (λ j h l. absurd (omega arith)) k (omega arith))
+    go false e = wait-length-none sheet rom sched s left e ∙ sym (wait-length-none sheet rom sched s (min left m) e)
 
 -- THE CHIP'S JUMP: a wait, where RES is low and the count 0
 
@@ -429,56 +438,57 @@ far sched s e =
       none = eqb-true (s .count) 0 (and-right (eqb n 0) (eqb (s .count) 0) e);
     }
 
-pub jump-is-wait : (rom sched : List ℕ) (s : State) (left : ℕ) → Unreset sched s → jumpLength rom sched s left ≡ waitLength rom sched s left
+pub jump-is-wait : (sheet : Sheet) (rom sched : List ℕ) (s : State) (left : ℕ) → Unreset sched s
+    → jumpLength sheet rom sched s left ≡ waitLength sheet rom sched s left
 unfolding jumpLength resetFar
-jump-is-wait rom sched s left u = rw (u .low, u .none)
+jump-is-wait sheet rom sched s left u = rw (u .low, u .none)
 
 -- a jump has an even number of cycles: there is none where one is left
-pub jump-of-one : (rom sched : List ℕ) (s : State) → jumpLength rom sched s 1 ≡ 0
+pub jump-of-one : (sheet : Sheet) (rom sched : List ℕ) (s : State) → jumpLength sheet rom sched s 1 ≡ 0
 unfolding jumpLength
-jump-of-one rom sched s = go (resetFar sched s)
+jump-of-one sheet rom sched s = go (resetFar sched s)
   where
-    go : (b : Bool) → cond b (waitLength rom sched s 1) 0 ≡ 0
-    go true = wait-of-one rom sched s
+    go : (b : Bool) → cond b (waitLength sheet rom sched s 1) 0 ≡ 0
+    go true = wait-of-one sheet rom sched s
     go false = refl
 
-pub jump-within : (rom sched : List ℕ) (s : State) (left : ℕ) → jumpLength rom sched s left ≤ left
+pub jump-within : (sheet : Sheet) (rom sched : List ℕ) (s : State) (left : ℕ) → jumpLength sheet rom sched s left ≤ left
 unfolding jumpLength
-jump-within rom sched s left = go (resetFar sched s)
+jump-within sheet rom sched s left = go (resetFar sched s)
   where
-    go : (b : Bool) → cond b (waitLength rom sched s left) 0 ≤ left
-    go true = wait-within rom sched s left
+    go : (b : Bool) → cond b (waitLength sheet rom sched s left) 0 ≤ left
+    go true = wait-within sheet rom sched s left
     go false = omega arith
 
-pub jump-length-cut : (rom sched : List ℕ) (s : State) (left m : ℕ)
+pub jump-length-cut : (sheet : Sheet) (rom sched : List ℕ) (s : State) (left m : ℕ)
     → ((j : ℕ) → j ≤ m → noRecord sched (s .cycle .0 + 1) (s .cycle .0 + j) ≡ true)
     → ((j : ℕ) → m < j → j ≤ left → noRecord sched (s .cycle .0 + 1) (s .cycle .0 + j) ≡ false)
-    → jumpLength rom sched s left ≡ jumpLength rom sched s (min left m)
+    → jumpLength sheet rom sched s left ≡ jumpLength sheet rom sched s (min left m)
 unfolding jumpLength
-jump-length-cut rom sched s left m p q = ap (λ (k : ℕ). cond (resetFar sched s) k 0) (wait-length-cut rom sched s left m p q)
+jump-length-cut sheet rom sched s left m p q = ap (λ (k : ℕ). cond (resetFar sched s) k 0) (wait-length-cut sheet rom sched s left m p q)
 
 -- a jump is a wait, and RES and the count are as it asks
-record JumpsSo (rom sched : List ℕ) (s : State) (j : ℕ) : Type 0 where
-  wait : Jumps rom sched s j
+record JumpsSo (sheet : Sheet) (rom sched : List ℕ) (s : State) (j : ℕ) : Type 0 where
+  wait : Jumps sheet rom sched s j
   unreset : Unreset sched s
 
-jumps-so : (rom sched : List ℕ) (s : State) (left : ℕ) → (jumpLength rom sched s left ≡ 0 → ⊥)
-    → JumpsSo rom sched s (jumpLength rom sched s left)
+jumps-so : (sheet : Sheet) (rom sched : List ℕ) (s : State) (left : ℕ) → (jumpLength sheet rom sched s left ≡ 0 → ⊥)
+    → JumpsSo sheet rom sched s (jumpLength sheet rom sched s left)
 unfolding jumpLength
-jumps-so rom sched s left h = go (resetFar sched s) refl h
+jumps-so sheet rom sched s left h = go (resetFar sched s) refl h
   where
-    go : (b : Bool) → resetFar sched s ≡ b → (cond b (waitLength rom sched s left) 0 ≡ 0 → ⊥)
-        → JumpsSo rom sched s (cond b (waitLength rom sched s left) 0)
-    go true e h = record { wait = jumps rom sched s left h; unreset = far sched s e }
+    go : (b : Bool) → resetFar sched s ≡ b → (cond b (waitLength sheet rom sched s left) 0 ≡ 0 → ⊥)
+        → JumpsSo sheet rom sched s (cond b (waitLength sheet rom sched s left) 0)
+    go true e h = record { wait = jumps sheet rom sched s left h; unreset = far sched s e }
     go false e h = absurd (h refl)
 
-module _ (rom sched : List ℕ) (s : State) (left j : ℕ) (e : jumpLength rom sched s left ≡ j) (more : j ≡ 0 → ⊥) where
-  is-jump : JumpsSo rom sched s j
-  is-jump = subst (JumpsSo rom sched s) e (jumps-so rom sched s left (λ z. more (sym e ∙ z)))
+module _ (sheet : Sheet) (rom sched : List ℕ) (s : State) (left j : ℕ) (e : jumpLength sheet rom sched s left ≡ j) (more : j ≡ 0 → ⊥) where
+  is-jump : JumpsSo sheet rom sched s j
+  is-jump = subst (JumpsSo sheet rom sched s) e (jumps-so sheet rom sched s left (λ z. more (sym e ∙ z)))
 
   -- what a runner asks of the timer and the schedule where it jumps
   pub jump-runs : 0 < s .core .timer .register
-  jump-runs = may-jump rom sched s (is-jump .wait .may) .runs
+  jump-runs = may-jump sheet rom sched s (is-jump .wait .may) .runs
 
   pub jump-ticks : j ≤ ticksLeft (s .core .timer)
   jump-ticks = is-jump .wait .left
@@ -495,21 +505,23 @@ module _ (rom sched : List ℕ) (s : State) (left j : ℕ) (e : jumpLength rom s
 
   -- THE JUMP LAW: where the timer-skipping runner jumps j cycles, j plain cycles come to what the jump says
   module _ (v : Valid s) where
-    pub jump-unbroken : unbroken upd546 rom sched j s ≡ quietly j (stateAfterJump j s)
+    pub jump-unbroken : unbroken (chip sheet) rom sched j s ≡ quietly j (stateAfterJump j s)
     jump-unbroken =
         let w = is-jump .wait in
-        low-run rom sched j s (jump-unreset .none) stays-low
-        ∙ turns-unbroken rom sched s j (v .core .scalars .register) (w .may) (w .even) (omega arith) (w .left) (w .between)
+        low-run sheet rom sched j s (jump-unreset .none) stays-low
+        ∙ turns-unbroken sheet rom sched s j (v .core .scalars .register) (w .may) (w .even) (omega arith) (w .left) (w .between)
 
-    pub jump-in-room : (room : ℕ) → within upd546 rom sched room j s ≡ quietly j (stateAfterJump j s)
+    pub jump-in-room : (room : ℕ) → within (chip sheet) rom sched room j s ≡ quietly j (stateAfterJump j s)
     jump-in-room room =
-        let none : length (unbroken upd546 rom sched j s .bytes) ≤ room =
+        let none : length (unbroken (chip sheet) rom sched j s .bytes) ≤ room =
         omega (arith, ap (λ (r : Ran State). length (r .bytes)) jump-unbroken) in
-        roomy upd546 rom sched j room s none ∙ jump-unbroken
+        roomy (chip sheet) rom sched j room s none ∙ jump-unbroken
 
--- a jump leads from an accepted state to an accepted state
-pub jump-keeps : (rom sched : List ℕ) (s : State) (left j : ℕ) → Panel upd546 rom sched → Valid s → s .cycle .0 + j ≤ cycleLimit
-    → jumpLength rom sched s left ≡ j → (j ≡ 0 → ⊥) → Valid (stateAfterJump j s)
-jump-keeps rom sched s left j p v h e more =
-    let r = iterate.reaches upd546 chip-laws rom sched p j s (valid-accepted s v) h in
-    accepted-valid (stateAfterJump j s) (sym (ap (λ (x : Ran State). stateNumber (x .state)) (jump-unbroken rom sched s left j e more v)) ∙ r .sound)
+-- a jump leads from a valid state to a valid state
+pub jump-keeps : (sheet : Sheet) (rom sched : List ℕ) (s : State) (left j : ℕ) → Panel (chip sheet) rom sched → Valid s
+    → s .cycle .0 + j ≤ cycleLimit → jumpLength sheet rom sched s left ≡ j → (j ≡ 0 → ⊥) → Valid (stateAfterJump j s)
+jump-keeps sheet rom sched s left j p v h e more =
+    let few = legal-sheet sheet (p .legal) .level-most in
+    let read = panel-schedule sheet rom sched (p .not-refused) in
+    subst (λ (r : Ran State). Valid (r .state)) (jump-unbroken sheet rom sched s left j e more v)
+    (reaches-valid sheet few rom sched (p .rom-bytes) (p .sched-bytes) read j s v h)

@@ -1,6 +1,6 @@
 -- The test of 34 passes exactly at the valid states. Assumes nothing.
 use mathlib.Core.Path.{_≡_, refl}
-use mathlib.Core.Bool.{true, _||_}
+use mathlib.Core.Bool.{true, _&&_, _||_}
 use mathlib.Core.List.{List}
 use Prim.Native.Nat.{ℕ, zero, suc, _*_, _<_, _≤_}
 use native.Mathlib.Omega.{arith}
@@ -9,11 +9,12 @@ use borrow.Author.Tests.{lt-ltb, ltb-true, le-leb, leb-true, eq-eqb, eqb-true}
 use Rattle.runs.proofs.Refusals.{passes}
 use Rattle.upd546.specs.declared.Core.{Core}
 use Rattle.upd546.specs.declared.State.{State}
+use Rattle.upd546.specs.declared.Sheet.{Sheet}
 use Rattle.upd546.specs.TheMachine.{addresses}
 use Rattle.upd546.specs.Sequences.{allOf}
-use Rattle.upd546.specs.StateImage.{registersSound, flowSound, interruptSound, timerSound, coreSound, portsSound, ramSound, stateSound, stateNumber}
+use Rattle.upd546.specs.StateImage.{registersSound, flowSound, interruptSound, timerSound, coreSound, portsSound, ramSound, fieldsSound, absentZero, stateSound, stateNumber}
 use Rattle.laws.specs.Valid.{Scalars, ValidStack, ValidPorts, ValidRam, Valid}
-use Rattle.laws.proofs.Lists.{all-at, below-all, all-below}
+use Rattle.laws.proofs.Lists.{and-left, and-right, all-at, below-all, all-below}
 
 -- the rule of a stopped timer, both ways
 rule-of : (r k : ℕ) → k < 64 → (ltb 0 r || eqb k 0) ≡ true → k ≤ 63 * r
@@ -67,8 +68,8 @@ unfolding ramSound
 ram-of ram e = record { count = eqb-true _ _ (all-at _ e 0); below = below-all 16 ram (omega arith) (all-at _ e 1) }
 
 -- a state that passes the test is valid
-pub sound-valid : (s : State) → stateSound s ≡ true → Valid s
-unfolding stateSound
+pub sound-valid : (s : State) → fieldsSound s ≡ true → Valid s
+unfolding fieldsSound
 sound-valid s e =
     record {
       core = record { scalars = scalars-of (s .core) (all-at _ e 0); stack = stack-of (s .core) (all-at _ e 0) };
@@ -79,8 +80,8 @@ sound-valid s e =
     }
 
 -- a valid state passes the test
-pub valid-sound : (s : State) → Valid s → stateSound s ≡ true
-unfolding allOf registersSound flowSound interruptSound timerSound coreSound portsSound ramSound stateSound
+pub valid-sound : (s : State) → Valid s → fieldsSound s ≡ true
+unfolding allOf registersSound flowSound interruptSound timerSound coreSound portsSound ramSound fieldsSound
 valid-sound s v =
     let c = v .core .scalars in
     rw (
@@ -110,11 +111,17 @@ valid-sound s v =
       le-leb _ _ (v .cycle),
     )
 
--- what 34 doesn't refuse is valid, and the other way round
-pub accepted-valid : (s : State) → stateNumber s ≡ 0 → Valid s
-unfolding stateNumber
-accepted-valid s e = sound-valid s (passes (stateSound s) 34 refl e)
+-- what 34 doesn't refuse is valid, with zeros for what the sheet lacks, and the other way round
+accepted-sound : (sheet : Sheet) (s : State) → stateNumber sheet s ≡ 0 → (fieldsSound s && absentZero sheet s) ≡ true
+unfolding stateNumber stateSound
+accepted-sound sheet s e = passes (fieldsSound s && absentZero sheet s) 34 refl e
 
-pub valid-accepted : (s : State) → Valid s → stateNumber s ≡ 0
-unfolding stateNumber
-valid-accepted s v = rw (valid-sound s v)
+pub accepted-valid : (sheet : Sheet) (s : State) → stateNumber sheet s ≡ 0 → Valid s
+accepted-valid sheet s e = sound-valid s (and-left (fieldsSound s) (absentZero sheet s) (accepted-sound sheet s e))
+
+pub accepted-absent : (sheet : Sheet) (s : State) → stateNumber sheet s ≡ 0 → absentZero sheet s ≡ true
+accepted-absent sheet s e = and-right (fieldsSound s) (absentZero sheet s) (accepted-sound sheet s e)
+
+pub valid-accepted : (sheet : Sheet) (s : State) → Valid s → absentZero sheet s ≡ true → stateNumber sheet s ≡ 0
+unfolding stateNumber stateSound
+valid-accepted sheet s v a = rw (valid-sound s v, a)

@@ -5,6 +5,8 @@ use Prim.Native.Nat.{ℕ}
 use mathlib.Core.List.{List}
 use Rattle.runs.specs.Machine.{Machine, Out}
 use Rattle.upd546.specs.declared.State.{State}
+use Rattle.upd546.specs.declared.Sheet.{Sheet}
+use Rattle.upd546.specs.TheSheet.{sheetNumber}
 use Rattle.upd546.specs.TheMachine.{fresh}
 use Rattle.upd546.specs.TheLineSchedule.{linesAt}
 use Rattle.upd546.specs.OneMachineCycle.{ordinaryCycle}
@@ -12,18 +14,19 @@ use Rattle.upd546.specs.StateImage.{imageLength, imageOf, ofImage, stateNumber,
 use Rattle.upd546.specs.TwoRunners.{waitLength, panelNumber}
 
 -- an ordinary cycle of the state, with the lines of its cycle number
-abbrev pub stepsOf : List ℕ → List ℕ → State → Out State
-stepsOf rom sched s = ordinaryCycle rom (linesAt sched (s .cycle .0)) s
+abbrev pub stepsOf : Sheet → List ℕ → List ℕ → State → Out State
+stepsOf sheet rom sched s = ordinaryCycle sheet rom (linesAt sched (s .cycle .0)) s
 
-abbrev pub ordinary : Machine State
-ordinary = record {
-  cycle = stepsOf;
+abbrev pub ordinary : Sheet → Machine State
+ordinary sheet = record {
+  ownNumber = sheetNumber sheet;
+  cycle = stepsOf sheet;
   at = λ s. s .cycle .0;
-  jump = waitLength;
-  panelNumber = panelNumber;
-  stateNumber = stateNumber;
+  jump = waitLength sheet;
+  panelNumber = panelNumber sheet;
+  stateNumber = stateNumber sheet;
   versionNumber = versionNumber;
-  imageNumber = imageNumber;
+  imageNumber = imageNumber sheet;
   imageLength = imageLength;
   image = imageOf;
   ofImage = ofImage;

@@ -10,12 +10,13 @@ use Rattle.runs.specs.Machine.{Out, stop, went}
 use Rattle.runs.specs.TwoRunners.{Ran, unbroken}
 use Rattle.upd546.specs.declared.Lines.{Lines}
 use Rattle.upd546.specs.declared.State.{State}
+use Rattle.upd546.specs.declared.Sheet.{Sheet}
 use Rattle.upd546.specs.TheMachine.{latches, markOther, resetCount}
 use Rattle.upd546.specs.Parts.{withCount, onward}
 use Rattle.upd546.specs.TheLineSchedule.{linesAt}
 use Rattle.upd546.specs.OneMachineCycle.{taken, counted, cleared, cycle}
 use Rattle.upd546.specs.Ports.{logRecord}
-use Rattle.upd546.specs.TwoRunners.{upd546}
+use Rattle.upd546.specs.TwoRunners.{chip}
 
 -- the count that cycle n leaves, of the count before it
 abbrev pub countAfter : List ℕ → ℕ → ℕ → ℕ
@@ -81,11 +82,12 @@ pub record Counts (sched : List ℕ) (s t : State) (w : List ℕ) (b : ℕ) : Ty
   pub resets : t .count ≡ resetCount → Resets sched s t w b
 
 abbrev pub EveryCycleCountsRes : Type 0
-EveryCycleCountsRes = (rom sched : List ℕ) (s t : State) (w : List ℕ) (b : ℕ) → cycle rom sched s ≡ went t w b → Counts sched s t w b
+EveryCycleCountsRes =
+    (sheet : Sheet) (rom sched : List ℕ) (s t : State) (w : List ℕ) (b : ℕ) → cycle sheet rom sched s ≡ went t w b → Counts sched s t w b
 
 -- "a count of consecutive cycles with RES high, at most 4": after k cycles of a run, with RES high in each of them
 abbrev pub EveryRunCountsRes : Type 0
 EveryRunCountsRes =
-    (rom sched : List ℕ) (k : ℕ) (s : State) → s .count ≤ resetCount → unbroken upd546 rom sched k s .cycles ≡ k
+    (sheet : Sheet) (rom sched : List ℕ) (k : ℕ) (s : State) → s .count ≤ resetCount → unbroken (chip sheet) rom sched k s .cycles ≡ k
     → ((i : ℕ) → i < k → linesAt sched (s .cycle .0 + i) .res ≡ 1)
-    → unbroken upd546 rom sched k s .state .count ≡ min resetCount (s .count + k)
+    → unbroken (chip sheet) rom sched k s .state .count ≡ min resetCount (s .count + k)

@@ -11,14 +11,16 @@ use lib.Seq.{drop-cons}
 use borrow.Author.Tests.{eq-eqb, ne-eqb, eqb-true, lt-ltb, le-ltb}
 use Rattle.runs.specs.declared.Version.{Version}
 use Rattle.runs.specs.declared.Version.the-variants.{One, Two}
-use Rattle.runs.specs.TwoRunners.{restoreAnswer}
+use Rattle.runs.specs.TwoRunners.{restoreNumber, restoreAnswer, currentNumber, currentAnswer}
 use Rattle.runs.specs.Refusals.{firstOf, unless}
 use Rattle.runs.proofs.Refusals.{first-at, passes}
+use Rattle.upd546.specs.declared.Sheet.{Sheet}
+use Rattle.upd546.specs.TheSheet.{sheetNumber}
 use Rattle.upd546.specs.TheMachine.{fresh}
 use Rattle.upd546.specs.Sequences.{sameNumbers}
 use Rattle.upd546.specs.Bytes.{part}
 use Rattle.upd546.specs.StateImage.{imageLength, imageMark, versionBytes, versionOf, byte, ofImage, stateSound, stateNumber, fieldsNumber, imageNumber}
-use Rattle.upd546.specs.TwoRunners.{upd546}
+use Rattle.upd546.specs.TwoRunners.{chip}
 use Rattle.laws.proofs.Parts.{part-cons}
 use Rattle.restore.specs.Head.{headNumber}
 
@@ -89,11 +91,11 @@ compared-all bytes expected at i h =
     rw (none, drop-of-length-le expected h)
 
 -- WHAT A RESTORE ANSWERS
-module _ (image : List ℕ) where
+module _ (sheet : Sheet) (image : List ℕ) where
   -- what refuses an image is what refuses its head, or its fields
-  all-number : imageNumber image ≡ firstOf (headNumber image ∷ stateNumber (ofImage image) ∷ [])
+  all-number : imageNumber sheet image ≡ firstOf (headNumber image ∷ stateNumber sheet (ofImage image) ∷ [])
   unfolding imageNumber headNumber fieldsNumber stateNumber firstOf
-  all-number = go (eqb (length image) (imageLength (versionOf image))) (sameNumbers (part image 0 3) imageMark) (sameNumbers (part image 3 2) (versionBytes (versionOf image))) (ltb (byte image 15) 64) (stateSound (ofImage image))
+  all-number = go (eqb (length image) (imageLength (versionOf image))) (sameNumbers (part image 0 3) imageMark) (sameNumbers (part image 3 2) (versionBytes (versionOf image))) (ltb (byte image 15) 64) (stateSound sheet (ofImage image))
     where
       go : (a b c d e : Bool) → firstOf (unless a 31 ∷ unless b 32 ∷ unless c 33 ∷ unless (d && e) 34 ∷ []) ≡ firstOf (firstOf (unless a 31 ∷ unless b 32 ∷ unless c 33 ∷ unless d 34 ∷ []) ∷ unless e 34 ∷ [])
       go false b c d e = refl
@@ -102,17 +104,33 @@ module _ (image : List ℕ) where
       go true true true false e = refl
       go true true true true e = refl
 
-  pub restore-head : (k : ℕ) → k ≡ headNumber image → (k ≡ 0 → ⊥) → record { number = k; state = fresh } ≡ restoreAnswer upd546 image
-  unfolding restoreAnswer firstOf
-  restore-head zero e h = absurd (h refl)
-  restore-head (suc k) e h = rw (all-number, ← e)
+  pub restore-illegal : (k : ℕ) → k ≡ sheetNumber sheet → (k ≡ 0 → ⊥)
+      → record { number = k; state = fresh } ≡ restoreAnswer (chip sheet) image
+  unfolding restoreAnswer restoreNumber firstOf
+  restore-illegal zero e h = absurd (h refl)
+  restore-illegal (suc k) e h = rw (← e)
 
-  module _ (head : headNumber image ≡ 0) where
-    pub restore-fields : (k : ℕ) → k ≡ stateNumber (ofImage image) → (k ≡ 0 → ⊥) → record { number = k; state = fresh } ≡ restoreAnswer upd546 image
-    unfolding restoreAnswer firstOf
-    restore-fields zero e h = absurd (h refl)
-    restore-fields (suc k) e h = rw (all-number, head, ← e)
+  module _ (legal : sheetNumber sheet ≡ 0) where
+    pub restore-head : (k : ℕ) → k ≡ headNumber image → (k ≡ 0 → ⊥)
+        → record { number = k; state = fresh } ≡ restoreAnswer (chip sheet) image
+    unfolding restoreAnswer restoreNumber firstOf
+    restore-head zero e h = absurd (h refl)
+    restore-head (suc k) e h = rw (legal, all-number, ← e)
 
-    pub restore-done : stateNumber (ofImage image) ≡ 0 → record { number = 0; state = ofImage image } ≡ restoreAnswer upd546 image
-    unfolding restoreAnswer firstOf
-    restore-done e = rw (all-number, head, e)
+    module _ (head : headNumber image ≡ 0) where
+      pub restore-fields : (k : ℕ) → k ≡ stateNumber sheet (ofImage image) → (k ≡ 0 → ⊥)
+          → record { number = k; state = fresh } ≡ restoreAnswer (chip sheet) image
+      unfolding restoreAnswer restoreNumber firstOf
+      restore-fields zero e h = absurd (h refl)
+      restore-fields (suc k) e h = rw (legal, all-number, head, ← e)
+
+      pub restore-done : stateNumber sheet (ofImage image) ≡ 0
+          → record { number = 0; state = ofImage image } ≡ restoreAnswer (chip sheet) image
+      unfolding restoreAnswer restoreNumber firstOf
+      restore-done e = rw (legal, all-number, head, e)
+
+  pub current-illegal : (k : ℕ) → k ≡ sheetNumber sheet → (k ≡ 0 → ⊥)
+      → record { number = k; state = fresh } ≡ currentAnswer (chip sheet) image
+  unfolding currentAnswer currentNumber firstOf
+  current-illegal zero e h = absurd (h refl)
+  current-illegal (suc k) e h = rw (← e)

@@ -11,6 +11,7 @@ use upd546::LATCHES;
 use upd546::RAM_WORDS;
 use upd546::Registers;
 use upd546::RestoreAnswer;
+use upd546::Sheet;
 use upd546::State;
 use upd546::Timer;
 use upd546::layout;
@@ -43,7 +44,7 @@ ghost use Rattle.upd546.specs.TheMachine.{latches, fresh};
 ghost use Rattle.upd546.specs.Bytes.{numberAt, part};
 ghost use Rattle.upd546.specs.Sequences.{sameNumbers};
 ghost use Rattle.upd546.specs.StateImage.{imageLength, portsAt, ramAt, ramBytes, countAt, byte, unpacked, ofImage, versionOf};
-ghost use Rattle.upd546.specs.TwoRunners.{upd546, restoreOf};
+ghost use Rattle.upd546.specs.TwoRunners.{chip, restoreOf};
 ghost use Rattle.restore.specs.Head.{coreOf, headNumber};
 
 // Flags are 6 bits.
@@ -205,16 +206,20 @@ fn refused(why: Outcome) -> RestoreAnswer
     }
 }
 
-// RESTORE: 31 to 34 in order; where it is refused, the fresh state.
-pub fn restore(bytes: &[u8]) -> RestoreAnswer
-    ensures { λ r. ⌜ restoreOf r ≡ restoreAnswer upd546 (now (bytes .entry)) ⌝ }
+// RESTORE: 71, then 31 to 34 in order; where it is refused, the fresh state.
+pub fn restore(bytes: &[u8], sheet: Sheet) -> RestoreAnswer
+    ensures { λ r. ⌜ restoreOf r ≡ restoreAnswer (chip sheet) (now (bytes .entry)) ⌝ }
 {
+    let by_sheet = fields::check_sheet(sheet);
+    if runs::outcome_number(by_sheet) != 0 {
+        return refused(by_sheet);
+    }
     let by_head = head_check(bytes);
     if runs::outcome_number(by_head) != 0 {
         return refused(by_head);
     }
     let state = state_at(bytes);
-    let by_fields = fields::check(state);
+    let by_fields = fields::check(state, sheet);
     if runs::outcome_number(by_fields) != 0 {
         return refused(by_fields);
     }
@@ -224,12 +229,16 @@ pub fn restore(bytes: &[u8]) -> RestoreAnswer
     }
 }
 
-// A RESTORE WHERE VERSION 2 IS DUE: 31 unless the image has its 82 bytes, else as any image.
-pub fn restore_current(bytes: &[u8]) -> RestoreAnswer
-    ensures { λ r. ⌜ restoreOf r ≡ currentAnswer upd546 (now (bytes .entry)) ⌝ }
+// A RESTORE WHERE VERSION 2 IS DUE: 71, then 31 unless the image has its 82 bytes, else as any image.
+pub fn restore_current(bytes: &[u8], sheet: Sheet) -> RestoreAnswer
+    ensures { λ r. ⌜ restoreOf r ≡ currentAnswer (chip sheet) (now (bytes .entry)) ⌝ }
 {
+    let by_sheet = fields::check_sheet(sheet);
+    if runs::outcome_number(by_sheet) != 0 {
+        return refused(by_sheet);
+    }
     if bytes.len() != IMAGE_LENGTH {
         return refused(Outcome::Refused(Refusal::ImageLength));
     }
-    restore(bytes)
+    restore(bytes, sheet)
 }

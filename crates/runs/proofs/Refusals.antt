@@ -35,6 +35,12 @@ pub first-is : (j k : ℕ) (ks : List ℕ) → j ≡ suc k → firstOf (j ∷ ks
 unfolding firstOf
 first-is j k ks e = rw e
 
+-- two lists behind the same number
+pub first-under : (k : ℕ) (ks js : List ℕ) → firstOf ks ≡ firstOf js → firstOf (k ∷ ks) ≡ firstOf (k ∷ js)
+unfolding firstOf
+first-under zero ks js e = e
+first-under (suc k) ks js e = refl
+
 pub last-one : (k : ℕ) → firstOf (k ∷ []) ≡ k
 unfolding firstOf
 last-one zero = refl
@@ -66,6 +72,7 @@ numbered why.ImageMark = (31, refl)
 numbered why.ImageVersion = (32, refl)
 numbered why.Field = (33, refl)
 numbered why.ResetCount = (53, refl)
+numbered why.Sheet = (70, refl)
 
 pub refusal-some : (w : Refusal) → refusalNumber w ≡ 0 → ⊥
 refusal-some w e = omega (arith, numbered w .1)

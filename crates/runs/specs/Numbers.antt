@@ -5,7 +5,7 @@ use lib.Dec.{eqb}
 use Rattle.runs.specs.declared.Stop.{Stop}
 use Rattle.runs.specs.declared.Stop.the-variants.{LogFull, RomEnd, NoInstruction}
 use Rattle.runs.specs.declared.Refusal.{Refusal}
-use Rattle.runs.specs.declared.Refusal.the-variants.{BufferShort, CycleLimit, ScheduleLength, ScheduleLong, RecordBytes, RecordOrder, RomLength, ImageLength, ImageMark, ImageVersion, Field, ResetCount}
+use Rattle.runs.specs.declared.Refusal.the-variants.{BufferShort, CycleLimit, ScheduleLength, ScheduleLong, RecordBytes, RecordOrder, RomLength, ImageLength, ImageMark, ImageVersion, Field, ResetCount, Sheet}
 use Rattle.runs.specs.declared.RunEnd.{RunEnd}
 use Rattle.runs.specs.declared.RunEnd.the-variants.{Finished, Stopped, Refused}
 use Rattle.runs.specs.declared.Outcome.{Outcome}
@@ -28,7 +28,7 @@ isStop k = eqb k 3 || eqb k 22 || eqb k 23
 -- "21 not 2,000 bytes"; "31 length not 81; 32 bytes 0 to 2; 33 version; 34 a field, also in a state given as a value";
 -- R-8: "The schedule's tenth byte becomes RES, 0 or 1, .. and 13 is amended so"; "31 is now a length of neither 81 nor 82, 33 a
 -- version that doesn't go with the length, 1 a buffer under the version's length"; "54, in a save between 34 and 1, a version 1
--- image wanted while the count isn't 0"
+-- image wanted while the count isn't 0"; R-11: "71, before all else but R-3's report under 32 bytes, a sheet outside these limits"
 abbrev pub refusalNumber : Refusal → ℕ
 refusalNumber BufferShort = 1
 refusalNumber CycleLimit = 2
@@ -42,6 +42,7 @@ refusalNumber ImageMark = 32
 refusalNumber ImageVersion = 33
 refusalNumber Field = 34
 refusalNumber ResetCount = 54
+refusalNumber Sheet = 71
 
 -- "unless it finished n, its number"; 0 stands for a finish
 abbrev pub endNumber : RunEnd → ℕ

@@ -135,9 +135,10 @@ module _ {S : Type 0} (M : Machine S) where
       let r = within rom sched room stride s in
       onStride r (r .number) (strides rom sched fuel (room - length (r .bytes)) (suc n - stride) (r .state))
 
-  -- "A run checks 21, 12, 11, 13/14, 34, 2"; "2 cycle number + n above 2^48 - 1"
+  -- "71, before all else" (R-11); "A run checks 21, 12, 11, 13/14, 34, 2"; "2 cycle number + n above 2^48 - 1"
   unfoldable pub runNumber : List ℕ → List ℕ → S → ℕ → ℕ
-  runNumber rom sched s n = firstOf (M .panelNumber rom sched ∷ M .stateNumber s ∷ unless (leb (M .at s + n) cycleLimit) 2 ∷ [])
+  runNumber rom sched s n =
+      firstOf (M .ownNumber ∷ M .panelNumber rom sched ∷ M .stateNumber s ∷ unless (leb (M .at s + n) cycleLimit) 2 ∷ [])
 
   -- What a run answers whose refusal is k, whose cycles come to r, on the state s and the log given.
   -- "A run starts at the lent log's first byte; each record it writes into the part of the log that is still empty."
@@ -166,10 +167,11 @@ module _ {S : Type 0} (M : Machine S) where
   unfoldable pub skipping : List ℕ → List ℕ → S → List ℕ → ℕ → RunAnswer S
   skipping rom sched s log n = told (runNumber rom sched s n) (strides rom sched n (length log) n s) s log
 
-  -- "save 34, 1"; "54, in a save between 34 and 1, a version 1 image wanted while the count isn't 0"; "1 a buffer under the
-  -- version's length" (R-8)
+  -- "71, before all else" (R-11); "save 34, 1"; "54, in a save between 34 and 1, a version 1 image wanted while the count isn't 0";
+  -- "1 a buffer under the version's length" (R-8)
   unfoldable pub saveNumber : Version → S → List ℕ → ℕ
-  saveNumber v s buffer = firstOf (M .stateNumber s ∷ M .versionNumber v s ∷ unless (leb (M .imageLength v) (length buffer)) 1 ∷ [])
+  saveNumber v s buffer =
+      firstOf (M .ownNumber ∷ M .stateNumber s ∷ M .versionNumber v s ∷ unless (leb (M .imageLength v) (length buffer)) 1 ∷ [])
 
   abbrev pub put : Version → ℕ → List ℕ → List ℕ → SaveAnswer
   put v zero bytes buffer = record { number = 0; buffer = bytes ++ drop (M .imageLength v) buffer }
@@ -183,13 +185,18 @@ module _ {S : Type 0} (M : Machine S) where
   got zero s = record { number = 0; state = s }
   got (suc k) s = record { number = suc k; state = M .fresh }
 
-  -- RESTORE: "restore 31 to 34", "a refused restore the fresh state"
-  unfoldable pub restoreAnswer : List ℕ → RestoreAnswer S
-  restoreAnswer bytes = got (M .imageNumber bytes) (M .ofImage bytes)
+  -- "71, before all else" (R-11); "restore 31 to 34"
+  unfoldable pub restoreNumber : List ℕ → ℕ
+  restoreNumber bytes = firstOf (M .ownNumber ∷ M .imageNumber bytes ∷ [])
 
-  -- "R-3's call takes 82 bytes only, else 31, and R-7's entries hold version 2" (R-8): what refuses an image where version 2 is due
+  -- RESTORE: "a refused restore the fresh state"
+  unfoldable pub restoreAnswer : List ℕ → RestoreAnswer S
+  restoreAnswer bytes = got (restoreNumber bytes) (M .ofImage bytes)
+
+  -- "R-3's call takes 82 bytes only, else 31, and R-7's entries hold version 2" (R-8): what refuses an image where version 2 is due,
+  -- after 71
   unfoldable pub currentNumber : List ℕ → ℕ
-  currentNumber bytes = firstOf (unless (eqb (length bytes) (M .imageLength Two)) 31 ∷ M .imageNumber bytes ∷ [])
+  currentNumber bytes = firstOf (M .ownNumber ∷ unless (eqb (length bytes) (M .imageLength Two)) 31 ∷ M .imageNumber bytes ∷ [])
 
   -- A RESTORE WHERE VERSION 2 IS DUE
   unfoldable pub currentAnswer : List ℕ → RestoreAnswer S

@@ -42,12 +42,12 @@ module _ {S : Type 0} (M : Machine S) where
   wantedNumber none s to = 33
   wantedNumber (some v) s to = firstOf (M .versionNumber v s ∷ unless (leb (M .imageLength v) (length to)) 1 ∷ [])
 
-  -- Every conversion is refused with the first of these numbers: those of a restore, then 33, 54 and 1.
+  -- Every conversion is refused with the first of these numbers: those of a restore, 71 before them, then 33, 54 and 1.
   abbrev pub EveryConversionRefusesInOrder : Type 0
   EveryConversionRefusesInOrder =
       (from to : List ℕ) (version : ℕ) → Bytes from
       → convertAnswer from to version .number
-      ≡ firstOf (M .imageNumber from ∷ wantedNumber (versionNamed version) (M .ofImage from) to ∷ [])
+      ≡ firstOf (M .ownNumber ∷ M .imageNumber from ∷ wantedNumber (versionNamed version) (M .ofImage from) to ∷ [])
 
 -- What the claims take from a machine: an accepted image has a version's length, and is the image of an accepted state, which that
 -- version holds.

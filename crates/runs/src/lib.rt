@@ -36,6 +36,7 @@ pub enum Refusal {
     ImageVersion,
     Field,
     ResetCount,
+    Sheet,
 }
 
 // How a run ended.
@@ -77,6 +78,7 @@ pub fn refusal_number(r: Refusal) -> u8
         Refusal::ImageVersion => 33,
         Refusal::Field => 34,
         Refusal::ResetCount => 54,
+        Refusal::Sheet => 71,
     }
 }
 

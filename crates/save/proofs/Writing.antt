@@ -11,9 +11,11 @@ use Rattle.runs.specs.TwoRunners.{saveNumber, saveAnswer}
 use Rattle.runs.specs.Refusals.{firstOf, unless}
 use Rattle.upd546.specs.declared.Core.{Core}
 use Rattle.upd546.specs.declared.State.{State}
+use Rattle.upd546.specs.declared.Sheet.{Sheet}
+use Rattle.upd546.specs.TheSheet.{sheetNumber}
 use Rattle.upd546.specs.Bytes.{bytesOf}
 use Rattle.upd546.specs.StateImage.{imageLength, imageMark, versionBytes, wordsBytes, coreBytes, packed, imageOf, stateNumber, versionNumber}
-use Rattle.upd546.specs.TwoRunners.{upd546}
+use Rattle.upd546.specs.TwoRunners.{chip}
 use Rattle.laws.specs.Valid.{ValidCore, Valid}
 use Rattle.laws.proofs.Tails.{put-next}
 use Rattle.laws.proofs.Packing.{words-length, length-packed}
@@ -88,31 +90,40 @@ unfolding imageOf
 two-written s v b₀ {b₁} e p = put-next b₀ b₁ (commonBytes Two s) (s .count ∷ []) 81 (common-length Two s v) e p
 
 -- WHAT A SAVE ANSWERS
-module _ (version : Version) (s : State) (buffer : List ℕ) where
-  pub save-refused : (k : ℕ) → k ≡ stateNumber s → (k ≡ 0 → ⊥) → record { number = k; buffer = buffer } ≡ saveAnswer upd546 version s buffer
+module _ (sheet : Sheet) (version : Version) (s : State) (buffer : List ℕ) where
+  pub save-illegal : (k : ℕ) → k ≡ sheetNumber sheet → (k ≡ 0 → ⊥)
+      → record { number = k; buffer = buffer } ≡ saveAnswer (chip sheet) version s buffer
   unfolding saveAnswer saveNumber firstOf
-  save-refused zero e h = absurd (h refl)
-  save-refused (suc k) e h = rw (← e)
+  save-illegal zero e h = absurd (h refl)
+  save-illegal (suc k) e h = rw (← e)
 
-  held-number : versionNumber version s ≡ unless (holds version (s .count)) 54
-  unfolding versionNumber
-  held-number = go version
-    where
-      go : (v : Version) → versionNumber v s ≡ unless (holds v (s .count)) 54
-      go One = refl
-      go Two = refl
-
-  module _ (v : stateNumber s ≡ 0) where
-    pub save-old : holds version (s .count) ≡ false → record { number = 54; buffer = buffer } ≡ saveAnswer upd546 version s buffer
+  module _ (legal : sheetNumber sheet ≡ 0) where
+    pub save-refused : (k : ℕ) → k ≡ stateNumber sheet s → (k ≡ 0 → ⊥)
+        → record { number = k; buffer = buffer } ≡ saveAnswer (chip sheet) version s buffer
     unfolding saveAnswer saveNumber firstOf
-    save-old h = rw (v, held-number, h)
+    save-refused zero e h = absurd (h refl)
+    save-refused (suc k) e h = rw (legal, ← e)
 
-    module _ (held : holds version (s .count) ≡ true) where
-      pub save-short : length buffer < imageLength version → record { number = 1; buffer = buffer } ≡ saveAnswer upd546 version s buffer
-      unfolding saveAnswer saveNumber firstOf
-      save-short h = rw (v, held-number, held, lt-leb (imageLength version) (length buffer) h)
+    held-number : versionNumber version s ≡ unless (holds version (s .count)) 54
+    unfolding versionNumber
+    held-number = go version
+      where
+        go : (v : Version) → versionNumber v s ≡ unless (holds v (s .count)) 54
+        go One = refl
+        go Two = refl
 
-      pub save-done : imageLength version ≤ length buffer → {b : List ℕ} → b ≡ imageOf version s ++ drop (imageLength version) buffer
-          → record { number = 0; buffer = b } ≡ saveAnswer upd546 version s buffer
+    module _ (v : stateNumber sheet s ≡ 0) where
+      pub save-old : holds version (s .count) ≡ false → record { number = 54; buffer = buffer } ≡ saveAnswer (chip sheet) version s buffer
       unfolding saveAnswer saveNumber firstOf
-      save-done h e = rw (v, held-number, held, le-leb (imageLength version) (length buffer) h, e)
+      save-old h = rw (legal, v, held-number, h)
+
+      module _ (held : holds version (s .count) ≡ true) where
+        pub save-short : length buffer < imageLength version
+            → record { number = 1; buffer = buffer } ≡ saveAnswer (chip sheet) version s buffer
+        unfolding saveAnswer saveNumber firstOf
+        save-short h = rw (legal, v, held-number, held, lt-leb (imageLength version) (length buffer) h)
+
+        pub save-done : imageLength version ≤ length buffer → {b : List ℕ} → b ≡ imageOf version s ++ drop (imageLength version) buffer
+            → record { number = 0; buffer = b } ≡ saveAnswer (chip sheet) version s buffer
+        unfolding saveAnswer saveNumber firstOf
+        save-done h e = rw (legal, v, held-number, held, le-leb (imageLength version) (length buffer) h, e)

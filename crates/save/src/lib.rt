@@ -5,6 +5,7 @@ use runs::Version;
 use upd546::Core;
 use upd546::RAM_WORDS;
 use upd546::STACK_DEPTH;
+use upd546::Sheet;
 use upd546::State;
 use upd546::layout;
 use upd546::layout::CORE_AT;
@@ -26,7 +27,7 @@ ghost use Rattle.runs.specs.declared.Version.the-variants.{One};
 ghost use Rattle.runs.specs.TwoRunners.{saveAnswer};
 ghost use Rattle.upd546.specs.Bytes.{bytesOf};
 ghost use Rattle.upd546.specs.StateImage.{imageLength, portsAt, wordsBytes, coreBytes, packed, imageOf};
-ghost use Rattle.upd546.specs.TwoRunners.{upd546, saveOf};
+ghost use Rattle.upd546.specs.TwoRunners.{chip, saveOf};
 ghost use Rattle.laws.specs.Valid.{Scalars, ValidCore, ValidRam, Valid};
 ghost use Rattle.save.specs.Parts.{frontBytes, commonBytes, holds};
 
@@ -132,11 +133,15 @@ fn write(s: State, version: Version, buffer: &mut [u8])
     }
 }
 
-// SAVE, as the version wanted: 34, then 54, then 1, and then the bytes of the image only.
-pub fn save(s: State, version: Version, buffer: &mut [u8]) -> Outcome
-    ensures { λ r. ⌜ saveOf r (now (buffer .exit)) ≡ saveAnswer upd546 version s (now (buffer .entry)) ⌝ }
+// SAVE, as the version wanted: 71, then 34, then 54, then 1, and then the bytes of the image only.
+pub fn save(s: State, version: Version, buffer: &mut [u8], sheet: Sheet) -> Outcome
+    ensures { λ r. ⌜ saveOf r (now (buffer .exit)) ≡ saveAnswer (chip sheet) version s (now (buffer .entry)) ⌝ }
 {
-    let by_fields = fields::check(s);
+    let by_sheet = fields::check_sheet(sheet);
+    if runs::outcome_number(by_sheet) != 0 {
+        return by_sheet;
+    }
+    let by_fields = fields::check(s, sheet);
     if runs::outcome_number(by_fields) != 0 {
         return by_fields;
     }

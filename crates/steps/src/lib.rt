@@ -1,4 +1,5 @@
-// Steps a, b and d of a machine cycle, on cores: acceptance of an interrupt, the lines, the timer. And how PC counts.
+// Steps a, b and d of a machine cycle, on cores: acceptance of an interrupt, the lines, the timer. And how PC counts, and how the
+// stack moves.
 // It may not know what an instruction does, nor how a run goes.
 use upd546::Core;
 use upd546::Flow;
@@ -8,9 +9,12 @@ use upd546::MARK_LDI;
 use upd546::MARK_LI;
 use upd546::MARK_OTHER;
 use upd546::MARK_STM;
+use upd546::STACK_DEPTH;
 use upd546::Timer;
 ghost use mathlib.Core.Path.{_≡_};
-ghost use Rattle.upd546.specs.TheMachine.{follows as followsOf};
+ghost use Prim.Native.Nat.{_≤_};
+ghost use Rattle.upd546.specs.declared.Sheet.{Sheet};
+ghost use Rattle.upd546.specs.TheMachine.{stackDepth, follows as followsOf, pushed as pushedOf, popped as poppedOf};
 ghost use Rattle.upd546.specs.Timer.{stepRegister, tick as tickOf};
 ghost use Rattle.upd546.specs.OneMachineCycle.{blocks as blocksOf, accepts as acceptsOf, accepted as acceptedOf, taken as takenOf, paid as paidOf, ticked as tickedOf};
 
@@ -117,13 +121,42 @@ pub fn accepts(c: Core) -> bool
     (c.owed == 0) & (c.interrupt.inte == 1) & (c.interrupt.int == 1) & !kept
 }
 
-pub fn accepted(c: Core) -> Core
-    ensures { λ r. ⌜ r ≡ acceptedOf c ⌝ }
+// The stack with an address pushed: the oldest of its levels is lost, and what doesn't exist stays as it is.
+pub fn pushed(levels: u8, a: u16, stack: [u16; STACK_DEPTH]) -> [u16; STACK_DEPTH]
+    requires { ⌜ (1 ≤ levels) × (levels ≤ stackDepth) ⌝ }
+    ensures { λ r. ⌜ r ≡ pushedOf levels a stack ⌝ }
+{
+    if levels == 3 {
+        return [a, stack[0], stack[1]];
+    }
+    if levels == 2 {
+        return [a, stack[0], stack[2]];
+    }
+    [a, stack[1], stack[2]]
+}
+
+// The stack with its newest address taken: the lowest of its levels keeps its value.
+pub fn popped(levels: u8, stack: [u16; STACK_DEPTH]) -> [u16; STACK_DEPTH]
+    requires { ⌜ (1 ≤ levels) × (levels ≤ stackDepth) ⌝ }
+    ensures { λ r. ⌜ r ≡ poppedOf levels stack ⌝ }
+{
+    if levels == 3 {
+        return [stack[1], stack[2], stack[2]];
+    }
+    if levels == 2 {
+        return [stack[1], stack[1], stack[2]];
+    }
+    stack
+}
+
+pub fn accepted(c: Core, levels: u8) -> Core
+    requires { ⌜ (1 ≤ levels) × (levels ≤ stackDepth) ⌝ }
+    ensures { λ r. ⌜ ((sheet : Sheet) → sheet .levels ≡ levels → r ≡ acceptedOf sheet c) ⌝ }
 {
     let stack = c.flow.stack;
     let flow = Flow {
         pc: INTERRUPT_ADDRESS,
-        stack: [c.flow.pc, stack[0], stack[1]],
+        stack: pushed(levels, c.flow.pc, stack),
     };
     let mut d = c;
     d.flow = flow;

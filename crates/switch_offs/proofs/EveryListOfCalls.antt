@@ -5,11 +5,12 @@ use Prim.Native.Nat.{ℕ}
 use native.Mathlib.Omega.{arith}
 use Rattle.runs.specs.Machine.{Machine}
 use Rattle.runs.specs.TwoRunners.{RunAnswer, unbroken}
-use Rattle.runs.specs.Laws.{NumberLaws, Laws}
+use Rattle.runs.specs.Laws.{JumpLaws, NumberLaws, LegalLaws}
 use Rattle.runs.specs.Lists.{notRefused, runs, runLog}
-use Rattle.upd546.specs.TwoRunners.{upd546}
+use Rattle.upd546.specs.declared.Sheet.{Sheet}
+use Rattle.upd546.specs.TwoRunners.{chip}
 use Rattle.laws.proofs.Numbers.{number-laws}
-use Rattle.laws.proofs.Demand3.{laws}
+use Rattle.laws.proofs.Demand3.{jump-laws, laws}
 use Rattle.calls.specs.Lists.{callsNotRefused, callLogs}
 use Rattle.calls.proofs.Lists.{slicesOf, calls-stand}
 use Rattle.waiting.specs.WaitingTimes.{startOfDay, waitingTimes}
@@ -22,19 +23,20 @@ logs-of [] = refl
 logs-of (a ∷ rs) = ap (λ (ls : List (List ℕ)). runLog a ∷ ls) (logs-of rs)
 
 -- Of a machine no more is seen than its laws and what is promised of its lists of runs, saves and restores.
-pub calls-report-as-one-run : {S : Type 0} (M : Machine S) → Laws M → NumberLaws M → EveryListReportsAsOneRun M → EveryListOfCallsReportsAsOneRun M
-calls-report-as-one-run M L N R rom sched s calls p v g limit =
+pub calls-report-as-one-run : {S : Type 0} (M : Sheet → Machine S) → LegalLaws M → ((sheet : Sheet) → JumpLaws (M sheet))
+    → ((sheet : Sheet) → NumberLaws (M sheet)) → EveryListReportsAsOneRun M → EveryListOfCallsReportsAsOneRun M
+calls-report-as-one-run M laws J N R sheet rom sched s calls p v g limit =
     let cs = callsNotRefused M calls in
-    let t = calls-stand M L N rom sched s calls p v g in
-    let r = R rom sched s (slicesOf M cs) p v (t .meant) (omega (arith, t .asks)) in
+    let t = calls-stand M laws J N sheet rom sched s calls p v g in
+    let r = R sheet rom sched s (slicesOf M cs) p v (t .meant) (omega (arith, t .asks)) in
     let logs : callLogs M cs ≡ listLogs M (slicesOf M cs) = t .logs ∙ logs-of (runs M (notRefused M (slicesOf M cs))) in
     record {
       accepted = subst (λ (ls : List (List ℕ)). AllAccepted startOfDay ls) (sym logs) (r .accepted);
       report =
           ap (λ (ls : List (List ℕ)). record { number = 0; carried = carriedOn startOfDay ls }) logs
           ∙ r .report
-          ∙ ap (λ (n : ℕ). waitingTimes (unbroken M rom sched n s .bytes) startOfDay) (t .asks);
+          ∙ ap (λ (n : ℕ). waitingTimes (unbroken (M sheet) rom sched n s .bytes) startOfDay) (t .asks);
     }
 
-pub every-list-of-calls-reports-as-one-run : EveryListOfCallsReportsAsOneRun upd546
-every-list-of-calls-reports-as-one-run = calls-report-as-one-run upd546 laws number-laws every-list-reports-as-one-run
+pub every-list-of-calls-reports-as-one-run : EveryListOfCallsReportsAsOneRun chip
+every-list-of-calls-reports-as-one-run = calls-report-as-one-run chip laws jump-laws number-laws every-list-reports-as-one-run

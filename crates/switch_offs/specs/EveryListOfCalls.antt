@@ -8,22 +8,24 @@ use Rattle.runs.specs.Machine.{Machine}
 use Rattle.runs.specs.Refusals.{cycleLimit}
 use Rattle.runs.specs.TwoRunners.{unbroken}
 use Rattle.runs.specs.Laws.{Panel}
+use Rattle.upd546.specs.declared.Sheet.{Sheet}
 use Rattle.calls.specs.Call.{BoardCall}
 use Rattle.calls.specs.Lists.{callsNotRefused, OnOneImage, callLogs, callsAsk}
 use Rattle.waiting.specs.WaitingTimes.{startOfDay, waitingTimes}
 use Rattle.waiting.specs.EveryList.{AllAccepted, carriedOn}
 
-module _ {S : Type 0} (M : Machine S) where
+module _ {S : Type 0} (M : Sheet → Machine S) where
   -- of calls that aren't refused: from the start of a day the log bytes that each wrote are accepted, as the board gets them, and the
   -- report that is carried on is the report of the unbroken run's log, which is accepted too
-  pub record CallsReportAsOneRun (rom sched : List ℕ) (s : S) (cs : List BoardCall) : Type 0 where
+  pub record CallsReportAsOneRun (sheet : Sheet) (rom sched : List ℕ) (s : S) (cs : List BoardCall) : Type 0 where
     pub accepted : AllAccepted startOfDay (callLogs M cs)
     pub report : record { number = 0; carried = carriedOn startOfDay (callLogs M cs) }
-        ≡ waitingTimes (unbroken M rom sched (callsAsk cs) s .bytes) startOfDay
+        ≡ waitingTimes (unbroken (M sheet) rom sched (callsAsk cs) s .bytes) startOfDay
 
   -- of every list of R-3, with its premises; "N keeps within the cycle limit"
   abbrev pub EveryListOfCallsReportsAsOneRun : Type 0
   EveryListOfCallsReportsAsOneRun =
-      (rom sched : List ℕ) (s : S) (calls : List BoardCall) → Panel M rom sched → M .stateNumber s ≡ 0
-      → OnOneImage M rom sched (M .image Two s) (callsNotRefused M calls) → M .at s + callsAsk (callsNotRefused M calls) ≤ cycleLimit
-      → CallsReportAsOneRun rom sched s (callsNotRefused M calls)
+      (sheet : Sheet) (rom sched : List ℕ) (s : S) (calls : List BoardCall) → Panel (M sheet) rom sched → M sheet .stateNumber s ≡ 0
+      → OnOneImage M sheet rom sched (M sheet .image Two s) (callsNotRefused M calls)
+      → M sheet .at s + callsAsk (callsNotRefused M calls) ≤ cycleLimit
+      → CallsReportAsOneRun sheet rom sched s (callsNotRefused M calls)

@@ -1,11 +1,15 @@
 -- Document 01: "One 256-entry table of bytes and base cycles serves decoding and skipping", which R-6 packs: "Keep bytes and base
--- cycles of two codes in one byte, 128 in all"; "A 63-entry table of register positions gives r"; and the inverse of that one.
+-- cycles of two codes in one byte, 128 in all"; "A 63-entry table of register positions gives r"; and the inverse of that one. R-11:
+-- the rows of a sheet.
 -- Assumes nothing: these are definitions.
 use Prim.Native.Nat.{ℕ, suc, _+_, _*_, _/_, _%_}
+use mathlib.Core.Path.{_≡_}
 use mathlib.Core.Bool.{cond}
 use mathlib.Core.List.{List}
 use lib.Dec.{ltb}
 use lib.ListN.{getD}
+use Rattle.upd546.specs.declared.Sheet.{Sheet}
+use Rattle.upd546.specs.TheMachine.{placeIn}
 use Rattle.upd546.specs.Sequences.{entries}
 use Rattle.upd546.specs.Instructions.{instruction}
 use Rattle.upd546.specs.Timer.{period, positionOf, registerAfter}
@@ -43,3 +47,12 @@ positionTable = entries period (λ i. positionOf (suc i))
 -- the registers by position, the register 1 having position 0
 unfoldable pub registerTable : List ℕ
 registerTable = entries period registerAfter
+
+-- where the words of each row begin; behind the end of the RAM where the sheet doesn't have the row
+unfoldable pub rowTable : Sheet → List ℕ
+rowTable sheet = entries 8 (λ r. placeIn sheet (16 * r))
+
+-- a table is that of some sheet
+pub record Rows (rows : List ℕ) : Type 0 where
+  pub sheet : Sheet
+  pub is : rows ≡ rowTable sheet

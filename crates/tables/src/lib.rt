@@ -1,11 +1,15 @@
 // The constant tables, each read by a function: document 01's two, bytes and base cycles of every code and the position of
-// every register of the timer, and the inverse of the second, the register of every position. A table is built anew wherever
-// it is named, so a run makes it once and lends it.
+// every register of the timer, and the inverse of the second, the register of every position; and the places of a sheet's rows. A
+// table is built anew wherever it is named, so a run makes it once and lends it.
 // It may not know what an instruction does, nor how a run goes.
+use upd546::RAM_WORDS;
 ghost use mathlib.Core.Path.{_≡_};
-ghost use Prim.Native.Nat.{_<_};
+ghost use Prim.Native.Nat.{_*_, _<_};
+ghost use Rattle.upd546.specs.declared.Sheet.{Sheet};
+ghost use Rattle.upd546.specs.Bytes.{bitAt};
+ghost use Rattle.upd546.specs.TheMachine.{placeIn};
 ghost use Rattle.upd546.specs.Timer.{positionOf, registerAfter};
-ghost use Rattle.tables.specs.Tables.{halfFor, instructionTable, positionTable, registerTable, sizeOf};
+ghost use Rattle.tables.specs.Tables.{halfFor, instructionTable, positionTable, registerTable, rowTable, sizeOf};
 
 // Two codes to an entry: code i has the low half of entry i, code i + 128 the high half. A half, one hexadecimal
 // digit, is 4 times the bytes plus the base cycles.
@@ -16,6 +20,9 @@ pub type PositionTable = [u8; 63];
 
 // The entry of position p is at p.
 pub type RegisterTable = [u8; 63];
+
+// The entry of row r, where its words begin in the RAM, is at r; RAM_WORDS where the row doesn't exist.
+pub type RowTable = [u8; 8];
 
 const INSTRUCTIONS: InstructionTable = [
     // codes 00 to 0F in the low halves, 80 to 8F in the high halves
@@ -348,4 +355,39 @@ pub fn register_at(table: &RegisterTable, position: u8) -> u8
 {
     let i = position as usize;
     table[i]
+}
+
+// Bit i of a sheet's rows.
+fn row_bit(rows: u8, i: u8) -> u8
+    requires { ⌜ i < 5 ⌝ }
+    ensures { λ r. ⌜ r ≡ bitAt rows i ⌝ }
+{
+    (rows >> i) % 2
+}
+
+// Where the words of row i begin, one of rows 0 to 4.
+fn row_at(rows: u8, i: u8) -> u8
+    requires { ⌜ i < 5 ⌝ }
+    ensures { λ r. ⌜ ((sheet : Sheet) → sheet .rows ≡ rows → r ≡ placeIn sheet (16 * i)) ⌝ }
+{
+    if row_bit(rows, i) == 1 {
+        return 16 * i;
+    }
+    RAM_WORDS as u8
+}
+
+// The table of a sheet with these rows. Rows 5 and 6 never exist, row 7 always does.
+pub fn row_table(rows: u8) -> RowTable
+    ensures { λ r. ⌜ ((sheet : Sheet) → sheet .rows ≡ rows → r ≡ rowTable sheet) ⌝ }
+{
+    [
+        row_at(rows, 0),
+        row_at(rows, 1),
+        row_at(rows, 2),
+        row_at(rows, 3),
+        row_at(rows, 4),
+        96,
+        96,
+        80,
+    ]
 }

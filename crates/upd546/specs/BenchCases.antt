@@ -6,14 +6,16 @@ use mathlib.Core.List.{List, [], _∷_, _++_}
 use lib.Dec.{eqb}
 use lib.ListN.{length, take, drop, replicate}
 use Rattle.runs.specs.declared.Version.the-variants.{One, Two}
-use Rattle.runs.specs.TwoRunners.{numberOfEnd, RunAnswer, unbroken, runNumber, saveNumber, plain, skipping}
+use Rattle.runs.specs.TwoRunners.{numberOfEnd, RunAnswer, unbroken, runNumber, saveNumber, restoreNumber, restoreAnswer, currentNumber, plain, skipping}
 use Rattle.upd546.specs.declared.Core.{Core}
 use Rattle.upd546.specs.declared.State.{State}
+use Rattle.upd546.specs.declared.Sheet.{Sheet}
+use Rattle.upd546.specs.TheSheet.{sheetNumber}
 use Rattle.upd546.specs.TheMachine.{fresh, newest}
-use Rattle.upd546.specs.Parts.{withCore, withCount, stateOf, withTimer, setAcc, setCarry, setDph, setDpl, setPc, setInt, setInte, setMark, setOwed}
-use Rattle.upd546.specs.StateImage.{imageOf, ofImage, stateNumber, imageNumber}
+use Rattle.upd546.specs.Parts.{withCore, withCount, stateOf, withFlow, withTimer, setAcc, setCarry, setDph, setDpl, setPc, setInt, setInte, setMark, setOwed}
+use Rattle.upd546.specs.StateImage.{imageOf, ofImage}
 use Rattle.upd546.specs.Sequences.{sameNumbers}
-use Rattle.upd546.specs.TwoRunners.{upd546}
+use Rattle.upd546.specs.TwoRunners.{chip, upd546}
 use Rattle.upd546.specs.Reports.{traceText}
 
 -- What is due stands in figures, and ROMs and states to start from do too, so that no definition is compared with itself.
@@ -642,14 +644,14 @@ markCases =
     onNumbers (record { given = imageOf One (from (setMark 4)); wanted = imageWith 4 0 })
     ∷ onState (record { given = ofImage (imageWith 4 0); wanted = zerosWith 4 0 })
     -- marks 0 to 4 are restored, 5 is 34; of a state given as a value too
-    ∷ onNumbers (record { given = imageNumber (imageWith 0 0) ∷ []; wanted = 0 ∷ [] })
-    ∷ onNumbers (record { given = imageNumber (imageWith 1 0) ∷ []; wanted = 0 ∷ [] })
-    ∷ onNumbers (record { given = imageNumber (imageWith 2 0) ∷ []; wanted = 0 ∷ [] })
-    ∷ onNumbers (record { given = imageNumber (imageWith 3 0) ∷ []; wanted = 0 ∷ [] })
-    ∷ onNumbers (record { given = imageNumber (imageWith 4 0) ∷ []; wanted = 0 ∷ [] })
-    ∷ onNumbers (record { given = imageNumber (imageWith 5 0) ∷ []; wanted = 34 ∷ [] })
-    ∷ onNumbers (record { given = stateNumber (from (setMark 4)) ∷ []; wanted = 0 ∷ [] })
-    ∷ onNumbers (record { given = stateNumber (from (setMark 5)) ∷ []; wanted = 34 ∷ [] })
+    ∷ onNumbers (record { given = upd546 .imageNumber (imageWith 0 0) ∷ []; wanted = 0 ∷ [] })
+    ∷ onNumbers (record { given = upd546 .imageNumber (imageWith 1 0) ∷ []; wanted = 0 ∷ [] })
+    ∷ onNumbers (record { given = upd546 .imageNumber (imageWith 2 0) ∷ []; wanted = 0 ∷ [] })
+    ∷ onNumbers (record { given = upd546 .imageNumber (imageWith 3 0) ∷ []; wanted = 0 ∷ [] })
+    ∷ onNumbers (record { given = upd546 .imageNumber (imageWith 4 0) ∷ []; wanted = 0 ∷ [] })
+    ∷ onNumbers (record { given = upd546 .imageNumber (imageWith 5 0) ∷ []; wanted = 34 ∷ [] })
+    ∷ onNumbers (record { given = upd546 .stateNumber (from (setMark 4)) ∷ []; wanted = 0 ∷ [] })
+    ∷ onNumbers (record { given = upd546 .stateNumber (from (setMark 5)) ∷ []; wanted = 34 ∷ [] })
     ∷ []
 
 -- R-8, "The reset line." The count.
@@ -873,20 +875,21 @@ versionCases =
     onNumbers (record { given = imageOf Two (withCount 3 fresh); wanted = imageTwoWith 3 })
     ∷ onState (record { given = ofImage (imageTwoWith 3); wanted = withCount 3 (zerosWith 0 0) })
     -- "Version 1 is still restored, with count 0, and can be written for old boards"
-    ∷ onNumbers (record { given = imageNumber (imageWith 0 0) ∷ []; wanted = 0 ∷ [] })
+    ∷ onNumbers (record { given = upd546 .imageNumber (imageWith 0 0) ∷ []; wanted = 0 ∷ [] })
     ∷ onState (record { given = ofImage (imageWith 0 0); wanted = zerosWith 0 0 })
     ∷ onNumbers (record { given = imageOf One fresh; wanted = imageWith 0 0 })
     -- a count up to 4 is taken, and 5 is 34, in byte 81 and in a state given as a value
-    ∷ onNumbers (record { given = imageNumber (imageTwoWith 4) ∷ imageNumber (imageTwoWith 5) ∷ []; wanted = 0 ∷ 34 ∷ [] })
-    ∷ onNumbers (record { given = stateNumber (withCount 4 fresh) ∷ stateNumber (withCount 5 fresh) ∷ []; wanted = 0 ∷ 34 ∷ [] })
+    ∷ onNumbers (record { given = upd546 .imageNumber (imageTwoWith 4) ∷ upd546 .imageNumber (imageTwoWith 5) ∷ []; wanted = 0 ∷ 34 ∷ [] })
+    ∷ onNumbers (record { given = upd546 .stateNumber (withCount 4 fresh) ∷ []; wanted = 0 ∷ [] })
+    ∷ onNumbers (record { given = upd546 .stateNumber (withCount 5 fresh) ∷ []; wanted = 34 ∷ [] })
     -- "31 is now a length of neither 81 nor 82": 80 and 83 bytes
-    ∷ onNumbers (record { given = imageNumber (take 80 (imageWith 0 0)) ∷ []; wanted = 31 ∷ [] })
-    ∷ onNumbers (record { given = imageNumber (imageTwoWith 0 ++ (0 ∷ [])) ∷ []; wanted = 31 ∷ [] })
+    ∷ onNumbers (record { given = upd546 .imageNumber (take 80 (imageWith 0 0)) ∷ []; wanted = 31 ∷ [] })
+    ∷ onNumbers (record { given = upd546 .imageNumber (imageTwoWith 0 ++ (0 ∷ [])) ∷ []; wanted = 31 ∷ [] })
     -- "33 a version that doesn't go with the length": version 1 with 82 bytes, version 2 with 81
-    ∷ onNumbers (record { given = imageNumber (imageWith 0 0 ++ (0 ∷ [])) ∷ []; wanted = 33 ∷ [] })
-    ∷ onNumbers (record { given = imageNumber (take 81 (imageTwoWith 0)) ∷ []; wanted = 33 ∷ [] })
+    ∷ onNumbers (record { given = upd546 .imageNumber (imageWith 0 0 ++ (0 ∷ [])) ∷ []; wanted = 33 ∷ [] })
+    ∷ onNumbers (record { given = upd546 .imageNumber (take 81 (imageTwoWith 0)) ∷ []; wanted = 33 ∷ [] })
     -- and 32 before it
-    ∷ onNumbers (record { given = imageNumber (0 ∷ drop 1 (take 81 (imageTwoWith 0))) ∷ []; wanted = 32 ∷ [] })
+    ∷ onNumbers (record { given = upd546 .imageNumber (0 ∷ drop 1 (take 81 (imageTwoWith 0))) ∷ []; wanted = 32 ∷ [] })
     -- "54, in a save between 34 and 1, a version 1 image wanted while the count isn't 0"; version 2 takes it
     ∷ onNumbers (record { given = saveNumber upd546 One (withCount 1 fresh) (replicate 82 0) ∷ []; wanted = 54 ∷ [] })
     ∷ onNumbers (record { given = saveNumber upd546 One (withCount 1 fresh) [] ∷ []; wanted = 54 ∷ [] })
@@ -899,8 +902,252 @@ versionCases =
     ∷ onNumbers (record { given = saveNumber upd546 Two fresh (replicate 81 0) ∷ []; wanted = 1 ∷ [] })
     ∷ []
 
+-- R-11, "The smaller relatives." A sheet of ROM bytes, rows and levels; a ROM of so many bytes.
+abbrev pub sheetOf : (rom rows levels : ℕ) → Sheet
+sheetOf rom rows levels = record { rom = rom; rows = rows; levels = levels }
+
+abbrev pub romOf : (size a : ℕ) → List ℕ → List ℕ
+romOf size a bytes = take size (romAt a bytes)
+
+-- 1,000 bytes, rows 0 and 1, two levels; and the least that is legal
+abbrev pub smaller : Sheet
+smaller = sheetOf 1000 3 2
+
+abbrev pub least : Sheet
+least = sheetOf 1 0 1
+
+-- the fresh state with this stack, newest first
+abbrev pub stacked : List ℕ → State
+stacked stack = from (λ c. withFlow c (record { pc = 0; stack = stack }))
+
+-- "Errors: 71 .. a sheet outside these limits", judged at full width
+abbrev pub sheetCases : List Bool
+sheetCases =
+    onNumbers (record { given = sheetNumber (sheetOf 2000 31 3) ∷ sheetNumber smaller ∷ sheetNumber least ∷ []; wanted = 0 ∷ 0 ∷ 0 ∷ [] })
+    -- "ROM bytes (1 to 2,000)"
+    ∷ onNumbers (record { given = sheetNumber (sheetOf 0 31 3) ∷ sheetNumber (sheetOf 2001 31 3) ∷ []; wanted = 71 ∷ 71 ∷ [] })
+    -- "(bit i for row i, at most 31 ..)"
+    ∷ onNumbers (record { given = sheetNumber (sheetOf 2000 32 3) ∷ sheetNumber (sheetOf 2000 256 3) ∷ []; wanted = 71 ∷ 71 ∷ [] })
+    -- "stack levels (1 to 3)"
+    ∷ onNumbers (record {
+      given = sheetNumber (sheetOf 2000 31 0) ∷ sheetNumber (sheetOf 2000 31 4) ∷ sheetNumber (sheetOf 2000 31 257) ∷ [];
+      wanted = 71 ∷ 71 ∷ 71 ∷ [];
+    })
+    ∷ onNumbers (record {
+      given =
+          sheetNumber (sheetOf 18446744073709551615 31 3) ∷ sheetNumber (sheetOf 2000 18446744073709551615 3)
+          ∷ sheetNumber (sheetOf 2000 31 18446744073709551615) ∷ [];
+      wanted = 71 ∷ 71 ∷ 71 ∷ [];
+    })
+    -- "71, before all else": of a run with no ROM, a schedule of one byte, a mark of 5 and n above the limit, which answers the state given
+    ∷ onRunner (record {
+      run = plain (chip (sheetOf 2001 31 3)) [] (0 ∷ []) (from (setMark 5)) (7 ∷ []) 281474976710656;
+      answers = numberIs 71 ∷ cyclesAre 0 ∷ begunAre 0 ∷ stepsAre 0 ∷ writtenAre 0 ∷ logIs (7 ∷ []) ∷ [];
+      shows = markIs 5 ∷ [];
+    })
+    ∷ onRunner (record {
+      run = skipping (chip (sheetOf 2000 32 3)) [] (0 ∷ []) (from (setMark 5)) [] 281474976710656;
+      answers = numberIs 71 ∷ cyclesAre 0 ∷ [];
+      shows = markIs 5 ∷ [];
+    })
+    -- of a save, before 34, 54 and 1; of a restore, before 31, which answers the fresh state; where version 2 is due, before 31
+    ∷ onNumbers (record { given = saveNumber (chip (sheetOf 2000 31 4)) One (withCount 5 fresh) [] ∷ []; wanted = 71 ∷ [] })
+    ∷ onNumbers (record {
+      given = restoreNumber (chip (sheetOf 0 31 3)) [] ∷ currentNumber (chip (sheetOf 0 31 3)) [] ∷ restoreNumber (chip smaller) [] ∷ [];
+      wanted = 71 ∷ 71 ∷ 31 ∷ [];
+    })
+    ∷ onState (record { given = restoreAnswer (chip (sheetOf 0 31 3)) (imageWith 4 0) .state; wanted = zerosWith 0 0 })
+    ∷ []
+
+-- "7CF and 2,000 read as the sheet's last address and length"
+abbrev pub sheetRomCases : List Bool
+sheetRomCases =
+    -- "21": of another length, longer too
+    onNumbers (record {
+      given = runNumber (chip smaller) (romOf 1000 0 []) [] fresh 1 ∷ runNumber (chip smaller) (romOf 999 0 []) [] fresh 1 ∷ [];
+      wanted = 0 ∷ 21 ∷ [];
+    })
+    ∷ onNumbers (record {
+      given = runNumber (chip smaller) (romOf 1001 0 []) [] fresh 1 ∷ runNumber (chip smaller) (romAt 0 []) [] fresh 1 ∷ [];
+      wanted = 21 ∷ 21 ∷ [];
+    })
+    -- NOP at 3E7, the last address: it is begun, and 22 is at 3E8
+    ∷ onRunner (record {
+      run = plain (chip smaller) (romOf 1000 0 []) [] (from (setPc 0x3E7)) [] 2;
+      answers = numberIs 22 ∷ cyclesAre 1 ∷ [];
+      shows = pcIs 0x3E8 ∷ [];
+    })
+    -- 22 for a second byte, here LDI's, and for a byte that is skipped, here TC's with C=1
+    ∷ onRunner (record {
+      run = plain (chip smaller) (romOf 1000 0x3E7 (0x15 ∷ [])) [] (from (setPc 0x3E7)) [] 1;
+      answers = numberIs 22 ∷ cyclesAre 0 ∷ [];
+      shows = [];
+    })
+    ∷ onRunner (record {
+      run = plain (chip smaller) (romOf 1000 0x3E7 (0x04 ∷ [])) [] (from (λ c. setPc 0x3E7 (setCarry 1 c))) [] 1;
+      answers = numberIs 22 ∷ cyclesAre 0 ∷ [];
+      shows = [];
+    })
+    -- "Only the low 8 bits count up", whatever the length: of 256 bytes, 0FF is followed by 000; of 64, 03F by 040, which isn't there
+    ∷ onRunner (record {
+      run = plain (chip (sheetOf 256 31 3)) (romOf 256 0 []) [] (from (setPc 0x0FF)) [] 2;
+      answers = numberIs 0 ∷ [];
+      shows = pcIs 0x001 ∷ [];
+    })
+    ∷ onRunner (record {
+      run = plain (chip (sheetOf 64 31 3)) (romOf 64 0 []) [] (from (setPc 0x03F)) [] 2;
+      answers = numberIs 22 ∷ cyclesAre 1 ∷ [];
+      shows = pcIs 0x040 ∷ [];
+    })
+    -- PC and stack words above the last address aren't absent: they are taken, and 22 is at the fetch; RT leads to 7FF and then 22
+    ∷ onRunner (record {
+      run = plain (chip least) (0x48 ∷ []) [] (stacked (0x7FF ∷ 0 ∷ 0 ∷ [])) [] 3;
+      answers = numberIs 22 ∷ cyclesAre 2 ∷ [];
+      shows = pcIs 0x7FF ∷ stackIs (0x7FF ∷ 0 ∷ 0 ∷ []) ∷ [];
+    })
+    -- 03C may be absent: an acceptance leads to 22 there, and so does CZP 15
+    ∷ onRunner (record {
+      run = plain (chip (sheetOf 60 31 3)) (romOf 60 0 []) [] (from (λ c. setInt 1 (setInte 1 c))) [] 2;
+      answers = numberIs 22 ∷ cyclesAre 1 ∷ begunAre 0 ∷ [];
+      shows = pcIs 0x03C ∷ intIs 0 ∷ inteIs 0 ∷ [];
+    })
+    ∷ onRunner (record {
+      run = plain (chip (sheetOf 60 31 3)) (romOf 60 0 (0xBF ∷ [])) [] fresh [] 2;
+      answers = numberIs 22 ∷ cyclesAre 1 ∷ begunAre 1 ∷ [];
+      shows = pcIs 0x03C ∷ stackIs (1 ∷ 0 ∷ 0 ∷ []) ∷ [];
+    })
+    -- TTM and JCP back to it: one step where JCP stands at the last address; none where the ROM ends with TTM
+    ∷ onRunner (record {
+      run = skipping (chip (sheetOf 2 31 3)) (0x05 ∷ 0xC0 ∷ []) [] waiting [] 40;
+      answers = numberIs 0 ∷ cyclesAre 40 ∷ begunAre 40 ∷ stepsAre 1 ∷ [];
+      shows = pcIs 0 ∷ [];
+    })
+    ∷ onRunner (record {
+      run = skipping (chip (sheetOf 1 31 3)) (0x05 ∷ []) [] waiting [] 40;
+      answers = numberIs 22 ∷ cyclesAre 1 ∷ stepsAre 1 ∷ [];
+      shows = pcIs 1 ∷ [];
+    })
+    ∷ []
+
+-- "stack levels (1 to 3)"
+abbrev pub levelCases : List Bool
+levelCases =
+    -- "A push shifts down and loses the oldest": of two levels the third call, and of one the second. Calls at 000, 004 and 008
+    onRunner (record {
+      run = plain (chip smaller) (romOf 1000 0 (0xB1 ∷ 0 ∷ 0 ∷ 0 ∷ 0xB2 ∷ 0 ∷ 0 ∷ 0 ∷ 0xB3 ∷ [])) [] fresh [] 3;
+      answers = numberIs 0 ∷ [];
+      shows = stackIs (0x009 ∷ 0x005 ∷ 0 ∷ []) ∷ [];
+    })
+    ∷ onRunner (record {
+      run = plain (chip (sheetOf 12 0 1)) (romOf 12 0 (0xB1 ∷ 0 ∷ 0 ∷ 0 ∷ 0xB2 ∷ [])) [] fresh [] 2;
+      answers = numberIs 0 ∷ [];
+      shows = stackIs (0x005 ∷ 0 ∷ 0 ∷ []) ∷ [];
+    })
+    -- "a pop shifts up and the lowest keeps its value": RT with two levels, and with one, where the word stays
+    ∷ onRunner (record {
+      run = plain (chip smaller) (romOf 1000 0 (0x48 ∷ [])) [] (stacked (0x010 ∷ 0x020 ∷ 0 ∷ [])) [] 2;
+      answers = numberIs 0 ∷ [];
+      shows = pcIs 0x010 ∷ stackIs (0x020 ∷ 0x020 ∷ 0 ∷ []) ∷ [];
+    })
+    ∷ onRunner (record {
+      run = plain (chip (sheetOf 32 0 1)) (romOf 32 0 (0x48 ∷ [])) [] (stacked (0x010 ∷ 0 ∷ 0 ∷ [])) [] 2;
+      answers = numberIs 0 ∷ [];
+      shows = pcIs 0x010 ∷ stackIs (0x010 ∷ 0 ∷ 0 ∷ []) ∷ [];
+    })
+    -- an acceptance pushes by the same rule
+    ∷ onRunner (record {
+      run =
+          plain (chip smaller) (romOf 1000 0 []) []
+          (withCore fresh (setPc 0x123 (setInt 1 (setInte 1 (stacked (1 ∷ 2 ∷ 0 ∷ []) .core))))) [] 1;
+      answers = numberIs 0 ∷ [];
+      shows = pcIs 0x03C ∷ stackIs (0x123 ∷ 1 ∷ 0 ∷ []) ∷ [];
+    })
+    ∷ []
+
+-- "absent rows behave like 5 and 6"
+abbrev pub rowCases : List Bool
+rowCases =
+    -- "bit i for row i": LDI, LI 5 and S into row 4, which rows 16 have and rows 15 don't, and into row 0, which rows 1 have
+    onRunner (record {
+      run = plain (chip (sheetOf 8 16 1)) (romOf 8 0 (0x15 ∷ 0x43 ∷ 0x95 ∷ 0x02 ∷ [])) [] fresh [] 4;
+      answers = numberIs 0 ∷ [];
+      shows = ramIs (ramWith 67 5) ∷ [];
+    })
+    ∷ onRunner (record {
+      run = plain (chip (sheetOf 8 15 1)) (romOf 8 0 (0x15 ∷ 0x43 ∷ 0x95 ∷ 0x02 ∷ 0x38 ∷ [])) [] fresh [] 5;
+      answers = numberIs 0 ∷ [];
+      shows = accIs 0 ∷ ramIs (replicate 96 0) ∷ [];
+    })
+    ∷ onRunner (record {
+      run = plain (chip (sheetOf 8 1 1)) (romOf 8 0 (0x95 ∷ 0x02 ∷ [])) [] fresh [] 2;
+      answers = numberIs 0 ∷ [];
+      shows = ramIs (ramWith 0 5) ∷ [];
+    })
+    -- "a skip looks at the computed value": in row 0, which isn't there, INM doesn't skip and DEM does, and neither stores
+    ∷ onRunner (record {
+      run = plain (chip (sheetOf 8 30 3)) (romOf 8 0 (0x1D ∷ [])) [] fresh [] 1;
+      answers = numberIs 0 ∷ [];
+      shows = pcIs 1 ∷ ramIs (replicate 96 0) ∷ [];
+    })
+    ∷ onRunner (record {
+      run = plain (chip (sheetOf 8 30 3)) (romOf 8 0 (0x1F ∷ [])) [] fresh [] 1;
+      answers = numberIs 0 ∷ [];
+      shows = pcIs 2 ∷ ramIs (replicate 96 0) ∷ [];
+    })
+    -- "row 7 always": the flag word and X with no other row, SFB 3, and THX with DPH 5
+    ∷ onRunner (record {
+      run = plain (chip (sheetOf 8 0 3)) (romOf 8 0 (0x7F ∷ [])) [] fresh [] 2;
+      answers = numberIs 0 ∷ [];
+      shows = ramIs (ramWith 89 8) ∷ [];
+    })
+    ∷ onRunner (record {
+      run = plain (chip (sheetOf 8 0 3)) (romOf 8 0 (0x47 ∷ [])) [] (from (setDph 5)) [] 2;
+      answers = numberIs 0 ∷ [];
+      shows = ramIs (ramWith 95 5) ∷ [];
+    })
+    ∷ []
+
+-- "An image, and a state given as a value, holds zeros for what is absent, else 34."
+abbrev pub absentCases : List Bool
+absentCases =
+    -- a word in row 2, which rows 3 lack: its last, and the last of row 1; in row 7
+    onNumbers (record {
+      given = chip smaller .stateNumber (fromWord (setAcc 0) 47 1) ∷ chip smaller .stateNumber (fromWord (setAcc 0) 31 1) ∷ [];
+      wanted = 34 ∷ 0 ∷ [];
+    })
+    ∷ onNumbers (record {
+      given = chip smaller .stateNumber (fromWord (setAcc 0) 79 15) ∷ chip smaller .stateNumber (fromWord (setAcc 0) 80 15) ∷ [];
+      wanted = 34 ∷ 0 ∷ [];
+    })
+    -- the third word of a stack of two levels, and the second of one
+    ∷ onNumbers (record {
+      given =
+          chip smaller .stateNumber (stacked (1 ∷ 2 ∷ 1 ∷ [])) ∷ chip smaller .stateNumber (stacked (1 ∷ 2 ∷ 0 ∷ []))
+          ∷ chip least .stateNumber (stacked (1 ∷ 1 ∷ 0 ∷ [])) ∷ [];
+      wanted = 34 ∷ 0 ∷ 34 ∷ [];
+    })
+    -- of an image too, and in a run and a save; a state of one sheet may be 34 under another
+    ∷ onNumbers (record {
+      given =
+          chip smaller .imageNumber (imageOf Two (fromWord (setAcc 0) 47 1))
+          ∷ upd546 .imageNumber (imageOf Two (fromWord (setAcc 0) 47 1))
+          ∷ chip smaller .imageNumber (imageOf One (stacked (1 ∷ 2 ∷ 1 ∷ [])))
+          ∷ upd546 .imageNumber (imageOf One (stacked (1 ∷ 2 ∷ 1 ∷ [])))
+          ∷ [];
+      wanted = 34 ∷ 0 ∷ 34 ∷ 0 ∷ [];
+    })
+    ∷ onNumbers (record {
+      given =
+          runNumber (chip smaller) (romOf 1000 0 []) [] (fromWord (setAcc 0) 47 1) 1
+          ∷ saveNumber (chip smaller) Two (fromWord (setAcc 0) 47 1) (replicate 82 0) ∷ [];
+      wanted = 34 ∷ 34 ∷ [];
+    })
+    -- the fresh state is legal under every sheet
+    ∷ onNumbers (record { given = chip least .stateNumber fresh ∷ chip smaller .stateNumber fresh ∷ []; wanted = 0 ∷ 0 ∷ [] })
+    ∷ []
+
 -- THE TABLE. Its theorem is `cases-hold`.
 abbrev pub cases : List Bool
 cases =
     pCases ++ otherCases ++ jumpCases ++ readBackCases ++ loadCases ++ edgeCases ++ markCases ++ countCases ++ resetCases
-    ++ resetRecordCases ++ resetJumpCases ++ versionCases
+    ++ resetRecordCases ++ resetJumpCases ++ versionCases ++ sheetCases ++ sheetRomCases ++ levelCases ++ rowCases ++ absentCases

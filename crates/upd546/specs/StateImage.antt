@@ -1,10 +1,10 @@
--- Document 01, "State image, 81 bytes"; with document 02, R-5 and R-8: "Images become version 2, 82 bytes, the count last".
+-- Document 01, "State image, 81 bytes"; with document 02, R-5, R-8 and R-11: "Images become version 2, 82 bytes, the count last".
 -- Assumes nothing: these are definitions.
 use Prim.Native.Nat.{ℕ, _+_, _-_, _*_, _/_, _%_}
 use mathlib.Core.Bool.{Bool, true, false, _&&_, _||_}
 use mathlib.Core.List.{List, [], _∷_, _++_}
 use lib.Dec.{eqb, leb, ltb}
-use lib.ListN.{length, getD}
+use lib.ListN.{length, getD, drop}
 use Rattle.runs.specs.declared.Version.{Version}
 use Rattle.runs.specs.declared.Version.the-variants.{One, Two}
 use Rattle.runs.specs.Refusals.{cycleLimit, firstOf, unless}
@@ -14,7 +14,9 @@ use Rattle.upd546.specs.declared.Interrupt.{Interrupt}
 use Rattle.upd546.specs.declared.Timer.{Timer}
 use Rattle.upd546.specs.declared.Core.{Core}
 use Rattle.upd546.specs.declared.State.{State}
-use Rattle.upd546.specs.TheMachine.{addresses, stackDepth, latches, ramLength, dpOf, lastMark, resetCount}
+use Rattle.upd546.specs.declared.Sheet.{Sheet}
+use Rattle.upd546.specs.TheSheet.{rowExists}
+use Rattle.upd546.specs.TheMachine.{addresses, stackDepth, latches, storedRows, ramLength, placeOf, dpOf, lastMark, resetCount}
 use Rattle.upd546.specs.Sequences.{entries}
 use Rattle.upd546.specs.Bytes.{bitAt, part, numberAt, bytesOf}
 use Rattle.upd546.specs.Sequences.{allOf, allBelow, sameNumbers}
@@ -189,13 +191,29 @@ unfoldable pub ramSound : List ℕ → Bool
 ramSound ram = allOf (eqb (length ram) ramLength ∷ allBelow 16 ram ∷ [])
 
 -- all fields of a state; R-8: "a count .., at most 4"; "Cycle number, at most 2^48 - 1."
-unfoldable pub stateSound : State → Bool
-stateSound s =
+unfoldable pub fieldsSound : State → Bool
+fieldsSound s =
     allOf (coreSound (s .core) ∷ portsSound (s .ports) ∷ ramSound (s .ram) ∷ leb (s .count) resetCount ∷ leb (s .cycle .0) cycleLimit ∷ [])
 
--- "34 a field, also in a state given as a value"
-unfoldable pub stateNumber : State → ℕ
-stateNumber s = unless (stateSound s) 34
+-- R-11: "An image, and a state given as a value, holds zeros for what is absent": of these rows, the words of those that don't exist
+abbrev pub rowsZero : Sheet → List ℕ → List ℕ → Bool
+rowsZero sheet [] ram = true
+rowsZero sheet (r ∷ rs) ram = (rowExists sheet r || allBelow 1 (part ram (placeOf (16 * r)) 16)) && rowsZero sheet rs ram
+
+-- and the stack's words below the levels that exist
+abbrev pub levelsZero : Sheet → List ℕ → Bool
+levelsZero sheet stack = allBelow 1 (drop (sheet .levels) stack)
+
+unfoldable pub absentZero : Sheet → State → Bool
+absentZero sheet s = levelsZero sheet (s .core .flow .stack) && rowsZero sheet storedRows (s .ram)
+
+-- what the chip of a sheet takes
+unfoldable pub stateSound : Sheet → State → Bool
+stateSound sheet s = fieldsSound s && absentZero sheet s
+
+-- "34 a field, also in a state given as a value"; R-11: "zeros for what is absent, else 34"
+unfoldable pub stateNumber : Sheet → State → ℕ
+stateNumber sheet s = unless (stateSound sheet s) 34
 
 -- R-8: "54, in a save between 34 and 1, a version 1 image wanted while the count isn't 0"
 unfoldable pub versionNumber : Version → State → ℕ
@@ -203,8 +221,8 @@ versionNumber One s = unless (eqb (s .count) 0) 54
 versionNumber Two s = 0
 
 -- of an image the flags byte has a width of its own: 6 bits
-unfoldable pub fieldsNumber : List ℕ → ℕ
-fieldsNumber image = unless (ltb (byte image flagsAt) 64 && stateSound (ofImage image)) 34
+unfoldable pub fieldsNumber : Sheet → List ℕ → ℕ
+fieldsNumber sheet image = unless (ltb (byte image flagsAt) 64 && stateSound sheet (ofImage image)) 34
 
 -- the version that goes with an image's length: 82 bytes are version 2's, and of other lengths only version 1's is none of 31
 abbrev pub versionBy : Bool → Version
@@ -216,11 +234,11 @@ versionOf image = versionBy (eqb (length image) (imageLength Two))
 
 -- "31 length not 81; 32 bytes 0 to 2; 33 version; 34 a field"; R-8: "31 is now a length of neither 81 nor 82, 33 a version that
 -- doesn't go with the length"
-unfoldable pub imageNumber : List ℕ → ℕ
-imageNumber image =
+unfoldable pub imageNumber : Sheet → List ℕ → ℕ
+imageNumber sheet image =
     firstOf
     (unless (eqb (length image) (imageLength (versionOf image))) 31
     ∷ unless (sameNumbers (part image imageMarkAt 3) imageMark) 32
     ∷ unless (sameNumbers (part image versionAt 2) (versionBytes (versionOf image))) 33
-    ∷ fieldsNumber image
+    ∷ fieldsNumber sheet image
     ∷ [])

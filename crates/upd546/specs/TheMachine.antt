@@ -1,22 +1,17 @@
--- Document 01, "The machine". Assumes nothing: these are definitions.
+-- Document 01, "The machine"; with document 02, R-5, R-8 and R-11. Assumes nothing: these are definitions.
 use Prim.Native.Nat.{ℕ, zero, suc, _+_, _-_, _*_, _/_, _%_, _^_}
-use mathlib.Core.Bool.{Bool, cond}
+use mathlib.Core.Bool.{cond}
 use mathlib.Core.List.{List, [], _∷_, _++_}
-use lib.Dec.{eqb, leb}
+use lib.Dec.{eqb}
 use lib.ListN.{length, getD, set, take, drop, replicate}
 use Rattle.upd546.specs.declared.Core.{Core}
 use Rattle.upd546.specs.declared.State.{State}
+use Rattle.upd546.specs.declared.Sheet.{Sheet}
+use Rattle.upd546.specs.TheSheet.{rowExists}
 
--- "ROM: 2,000 bytes, 000 to 7CF."
+-- "ROM: 2,000 bytes, 000 to 7CF." R-11 gives each chip a length of its own, and keeps this one for `trace` and R-4.
 abbrev pub romLength : ℕ
 romLength = 2000
-
-abbrev pub lastAddress : ℕ
-lastAddress = romLength - 1
-
--- there is a byte at the address
-abbrev pub inRom : ℕ → Bool
-inRom a = leb a lastAddress
 
 abbrev pub byteAt : List ℕ → ℕ → ℕ
 byteAt rom a = getD rom a 0
@@ -38,17 +33,17 @@ unfoldable pub past : ℕ → ℕ → ℕ
 past zero a = a
 past (suc n) a = past n (follows a)
 
--- "Stack: three PCs."
+-- "Stack: three PCs." So many are stored; how many of them exist, the newest first, the sheet's levels say.
 abbrev pub stackDepth : ℕ
 stackDepth = 3
 
--- "A push shifts down and loses the oldest"
-abbrev pub pushed : ℕ → List ℕ → List ℕ
-pushed a stack = take stackDepth (a ∷ stack)
+-- "A push shifts down and loses the oldest" of those that exist; what doesn't exist stays as it is.
+abbrev pub pushed : (levels : ℕ) → ℕ → List ℕ → List ℕ
+pushed levels a stack = take levels (a ∷ stack) ++ drop levels stack
 
--- "a pop shifts up and the lowest keeps its value (house)"
-abbrev pub popped : List ℕ → List ℕ
-popped stack = drop 1 stack ++ drop (stackDepth - 1) stack
+-- "a pop shifts up and the lowest keeps its value (house)": the lowest that exists, with all behind it
+abbrev pub popped : (levels : ℕ) → List ℕ → List ℕ
+popped levels stack = drop 1 (take levels stack) ++ drop (levels - 1) stack
 
 -- the PC that a pop gives
 abbrev pub newest : List ℕ → ℕ
@@ -58,28 +53,31 @@ newest stack = getD stack 0 0
 abbrev pub dpOf : Core → ℕ
 dpOf c = 16 * c .registers .dph + c .registers .dpl
 
--- "Rows 0 to 4 and 7 exist, 16 words each"
-abbrev pub rows : List ℕ
-rows = 0 ∷ 1 ∷ 2 ∷ 3 ∷ 4 ∷ 7 ∷ []
+-- "Rows 0 to 4 and 7 exist, 16 words each": these are stored; which of them exist, the sheet says (`rowExists`).
+abbrev pub storedRows : List ℕ
+storedRows = 0 ∷ 1 ∷ 2 ∷ 3 ∷ 4 ∷ 7 ∷ []
 
 abbrev pub ramLength : ℕ
-ramLength = 16 * length rows
+ramLength = 16 * length storedRows
 
 -- where a row stands in a list of rows; behind its end where it isn't there
 abbrev pub indexIn : List ℕ → ℕ → ℕ
 indexIn [] r = 0
 indexIn (x ∷ xs) r = cond (eqb x r) 0 (suc (indexIn xs r))
 
--- the place of the word at a RAM address: the rows that exist, one after the other
+-- the place of the word at a RAM address: the rows that are stored, one after the other
 unfoldable pub placeOf : ℕ → ℕ
-placeOf a = 16 * indexIn rows (a / 16) + a % 16
+placeOf a = 16 * indexIn storedRows (a / 16) + a % 16
 
--- "rows 5 and 6 read 0 and lose writes": their places are behind the end
-abbrev pub wordAt : List ℕ → ℕ → ℕ
-wordAt ram a = getD ram (placeOf a) 0
+-- "rows 5 and 6 read 0 and lose writes": their places are behind the end. R-11: "absent rows behave like 5 and 6"
+unfoldable pub placeIn : Sheet → ℕ → ℕ
+placeIn sheet a = cond (rowExists sheet (a / 16)) (placeOf a) (ramLength + a % 16)
 
-abbrev pub withWord : List ℕ → ℕ → ℕ → List ℕ
-withWord ram a v = set ram (placeOf a) v
+abbrev pub wordAt : Sheet → List ℕ → ℕ → ℕ
+wordAt sheet ram a = getD ram (placeIn sheet a) 0
+
+abbrev pub withWord : Sheet → List ℕ → ℕ → ℕ → List ℕ
+withWord sheet ram a v = set ram (placeIn sheet a) v
 
 -- "Word 79 is the flag word; Z, W, S, R, Y, X are 7A to 7F."
 abbrev pub flagWord : ℕ

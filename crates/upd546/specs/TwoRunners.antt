@@ -1,5 +1,5 @@
 -- Document 01, "Two runners": where the timer-skipping one jumps, and the chip as the machine that the runners run; with
--- document 02, R-8. Assumes nothing: these are definitions.
+-- document 02, R-8 and R-11. Assumes nothing: these are definitions.
 use Prim.Native.Nat.{ℕ, zero, suc, _+_, _-_, _%_, min}
 use mathlib.Core.Bool.{Bool, true, false, cond, not, _&&_}
 use mathlib.Core.List.{List, [], _∷_}
@@ -11,35 +11,37 @@ use Rattle.runs.specs.TwoRunners as runners
 use Rattle.runs.specs.Numbers.{endOf, outcomeNumber}
 use Rattle.runs.specs.declared.Outcome.{Outcome}
 use Rattle.upd546.specs.declared.State.{State}
+use Rattle.upd546.specs.declared.Sheet.{Sheet}
 use Rattle.upd546.specs.declared.RunAnswer.{RunAnswer}
 use Rattle.upd546.specs.declared.RestoreAnswer.{RestoreAnswer}
-use Rattle.upd546.specs.TheMachine.{romLength, inRom, byteAt, follows, pageOf, fresh}
+use Rattle.upd546.specs.TheMachine.{byteAt, follows, pageOf, fresh}
 use Rattle.upd546.specs.Sequences.{allOf}
+use Rattle.upd546.specs.TheSheet.{sheetNumber, upd546Sheet, inRom}
 use Rattle.upd546.specs.TheLineSchedule.{scheduleNumber, linesAt, noRecord}
 use Rattle.upd546.specs.Timer.{ticksLeft}
 use Rattle.upd546.specs.OneMachineCycle.{cycle}
 use Rattle.upd546.specs.StateImage.{imageLength, imageOf, ofImage, stateNumber, versionNumber, imageNumber}
 
 -- "the byte at PC is TTM"
-unfoldable pub atTtm : List ℕ → ℕ → Bool
-atTtm rom pc = allOf (inRom pc ∷ eqb (byteAt rom pc) 0x05 ∷ [])
+unfoldable pub atTtm : Sheet → List ℕ → ℕ → Bool
+atTtm sheet rom pc = allOf (inRom sheet pc ∷ eqb (byteAt rom pc) 0x05 ∷ [])
 
 -- "and the next address holds a JCP back to it"
-unfoldable pub atJcpBack : List ℕ → ℕ → Bool
-atJcpBack rom pc =
-    allOf (inRom (follows pc) ∷ leb 0xC0 (byteAt rom (follows pc)) ∷ eqb (pageOf (follows pc) + byteAt rom (follows pc) % 64) pc ∷ [])
+unfoldable pub atJcpBack : Sheet → List ℕ → ℕ → Bool
+atJcpBack sheet rom pc =
+    allOf (inRom sheet (follows pc) ∷ leb 0xC0 (byteAt rom (follows pc)) ∷ eqb (pageOf (follows pc) + byteAt rom (follows pc) % 64) pc ∷ [])
 
 -- "jumps .. where: owed 0; TM 0; timer running; INT and INTE not both 1; the byte at PC is TTM and the next address holds a JCP
 -- back to it; the INT line equals the level seen"
-unfoldable pub mayJump : List ℕ → List ℕ → State → Bool
-mayJump rom sched s =
+unfoldable pub mayJump : Sheet → List ℕ → List ℕ → State → Bool
+mayJump sheet rom sched s =
     allOf
     (eqb (s .core .owed) 0
     ∷ eqb (s .core .timer .tm) 0
     ∷ ltb 0 (s .core .timer .register)
     ∷ not (eqb (s .core .interrupt .int) 1 && eqb (s .core .interrupt .inte) 1)
-    ∷ atTtm rom (s .core .flow .pc)
-    ∷ atJcpBack rom (s .core .flow .pc)
+    ∷ atTtm sheet rom (s .core .flow .pc)
+    ∷ atJcpBack sheet rom (s .core .flow .pc)
     ∷ eqb (linesAt sched (s .cycle .0) .int) (s .core .interrupt .level)
     ∷ [])
 
@@ -59,36 +61,41 @@ onJump true sched s left = largest (jumpable sched (s .cycle .0)) (min (ticksLef
 onJump false sched s left = 0
 
 -- the cycles that it jumps in one step by this rule, or 0
-unfoldable pub waitLength : List ℕ → List ℕ → State → ℕ → ℕ
-waitLength rom sched s left = onJump (mayJump rom sched s) sched s left
+unfoldable pub waitLength : Sheet → List ℕ → List ℕ → State → ℕ → ℕ
+waitLength sheet rom sched s left = onJump (mayJump sheet rom sched s) sched s left
 
 -- Document 02, R-8: "RES low and a count of 0"
 unfoldable pub resetFar : List ℕ → State → Bool
 resetFar sched s = eqb (linesAt sched (s .cycle .0) .res) 0 && eqb (s .count) 0
 
 -- the cycles that the timer-skipping runner jumps in one step, or 0; R-8: "The timer jump needs RES low and a count of 0."
-unfoldable pub jumpLength : List ℕ → List ℕ → State → ℕ → ℕ
-jumpLength rom sched s left = cond (resetFar sched s) (waitLength rom sched s left) 0
+unfoldable pub jumpLength : Sheet → List ℕ → List ℕ → State → ℕ → ℕ
+jumpLength sheet rom sched s left = cond (resetFar sched s) (waitLength sheet rom sched s left) 0
 
--- "21 not 2,000 bytes", before the schedule's numbers
-unfoldable pub panelNumber : List ℕ → List ℕ → ℕ
-panelNumber rom sched = firstOf (unless (eqb (length rom) romLength) 21 ∷ scheduleNumber sched ∷ [])
+-- "21 not 2,000 bytes", before the schedule's numbers; R-11: not the sheet's length
+unfoldable pub panelNumber : Sheet → List ℕ → List ℕ → ℕ
+panelNumber sheet rom sched = firstOf (unless (eqb (length rom) (sheet .rom)) 21 ∷ scheduleNumber sched ∷ [])
 
--- The uPD546 as the runners, save and restore take it.
-abbrev pub upd546 : Machine State
-upd546 = record {
-  cycle = cycle;
+-- The chip of a sheet as the runners, save and restore take it.
+abbrev pub chip : Sheet → Machine State
+chip sheet = record {
+  ownNumber = sheetNumber sheet;
+  cycle = cycle sheet;
   at = λ s. s .cycle .0;
-  jump = jumpLength;
-  panelNumber = panelNumber;
-  stateNumber = stateNumber;
+  jump = jumpLength sheet;
+  panelNumber = panelNumber sheet;
+  stateNumber = stateNumber sheet;
   versionNumber = versionNumber;
-  imageNumber = imageNumber;
+  imageNumber = imageNumber sheet;
   imageLength = imageLength;
   image = imageOf;
   ofImage = ofImage;
   fresh = fresh;
 }
+
+-- "the old figures are one sheet": the uPD546 of document 01
+abbrev pub upd546 : Machine State
+upd546 = chip upd546Sheet
 
 -- What a run answers, with the lent log as it stands when the run returns, in the terms of the definitions.
 abbrev pub answerOf : RunAnswer → List ℕ → runners.RunAnswer State

@@ -9,11 +9,9 @@ use runs::RunEnd;
 ghost use mathlib.Core.Path.{_≡_};
 ghost use Rattle.upd546.specs.TheMachine.{fresh};
 
-// The sizes of the chip. `romLength`, `lastAddress`, `ramLength`, `stackDepth` and `latches` are the same numbers;
-// the image's are in `layout`.
+// The sizes of the chip, which hold what the largest of its family has. `romLength`, `ramLength`, `stackDepth` and `latches` are the
+// same numbers; the image's are in `layout`.
 pub const ROM_LENGTH: usize = 2000;
-
-pub const LAST_ADDRESS: u16 = 1999;
 
 pub const RAM_WORDS: usize = 96;
 
@@ -102,6 +100,13 @@ pub struct State {
     pub ram: [u8; RAM_WORDS],
     pub count: u8,
     pub cycle: MachineCycles,
+}
+
+// How much of it a chip of the family has: bytes of ROM, which of RAM rows 0 to 4 (bit i for row i), and stack levels.
+pub struct Sheet {
+    pub rom: u64,
+    pub rows: u64,
+    pub levels: u64,
 }
 
 // The lines of one cycle: ports A to D, the INT level and RES.

@@ -146,15 +146,17 @@ join-log : {S : Type 0} (as′ : List (RunAnswer S)) → join (logsOf as′) ≡
 join-log [] = refl
 join-log (a ∷ rest) = ap (λ (l : List ℕ). runLog a ++ l) (join-log rest)
 
-module _ {S : Type 0} (M : Machine S) (R : EveryRunWritesRecords M) (rom sched : List ℕ) (p : Panel M rom sched) where
-  logs-whole : (held : S) (cs : List (Call S)) → AllGet M rom sched held cs → Each (λ l. length l % 8 ≡ 0) (logsOf (runs M cs))
+module _ {Sheet S : Type 0} (M : Sheet → Machine S) (R : (sheet : Sheet) → EveryRunWritesRecords (M sheet)) (sheet : Sheet)
+    (rom sched : List ℕ)
+    (p : Panel (M sheet) rom sched) where
+  logs-whole : (held : S) (cs : List (Call Sheet S)) → AllGet M sheet rom sched held cs → Each (λ l. length l % 8 ≡ 0) (logsOf (runs M cs))
   logs-whole held [] g = tt
-  logs-whole held (run kind rom′ sched′ s log n ∷ cs) g = (
-    records-whole (R kind rom′ sched′ s log n (rw (g .0 .same-rom) (p .rom-bytes)) (rw (g .0 .same-sched) (p .sched-bytes))),
-    logs-whole (heldAfter M held (run kind rom′ sched′ s log n)) cs (g .1),
+  logs-whole held (run kind rom′ sched′ s log n i ∷ cs) g = (
+    records-whole (R i kind rom′ sched′ s log n (rw (g .0 .same-rom) (p .rom-bytes)) (rw (g .0 .same-sched) (p .sched-bytes))),
+    logs-whole (heldAfter M held (run kind rom′ sched′ s log n i)) cs (g .1),
   )
-  logs-whole held (save version s buffer ∷ cs) g = logs-whole held cs (g .1)
-  logs-whole held (restore bytes ∷ cs) g = logs-whole (heldAfter M held (restore bytes)) cs (g .1)
+  logs-whole held (save version s buffer i ∷ cs) g = logs-whole held cs (g .1)
+  logs-whole held (restore bytes i ∷ cs) g = logs-whole (heldAfter M held (restore bytes i)) cs (g .1)
 
 module _ {S : Type 0} (M : Machine S) (C : EveryRunCountsWithin M) (R : EveryRunWritesRecords M) (rom sched : List ℕ) (p : Panel M rom sched)
     (s : S) (n : ℕ) (limit : M .at s + n ≤ cycleLimit) (log : List ℕ)
@@ -171,21 +173,25 @@ module _ {S : Type 0} (M : Machine S) (C : EveryRunCountsWithin M) (R : EveryRun
   unbroken-fits = omega (arith, call .written, C plainOne rom sched s log n .written)
 
 -- Of a machine no more is seen than what is promised of its lists, of the counts of its runs and of their log records.
-pub reports-as-one-run : {S : Type 0} (M : Machine S) → EveryListEndsAsOneRun M → EveryRunCountsWithin M → EveryRunWritesRecords M → EveryListReportsAsOneRun M
-reports-as-one-run M E C R rom sched s calls p v meant limit =
+pub reports-as-one-run : {Sheet S : Type 0} (M : Sheet → Machine S) → EveryListEndsAsOneRun M
+    → ((sheet : Sheet) → EveryRunCountsWithin (M sheet))
+    → ((sheet : Sheet) → EveryRunWritesRecords (M sheet)) → EveryListReportsAsOneRun M
+reports-as-one-run M E C R sheet rom sched s calls p v meant limit =
     let cs = notRefused M calls in
     let n = asked M cs in
-    let u = unbroken M rom sched n s in
-    let claim = E rom sched s calls p v meant in
+    let u = unbroken (M sheet) rom sched n s in
+    let claim = E sheet rom sched s calls p v meant in
     let log : List ℕ = replicate (logBound n) 0 in
     let size : length log ≡ logBound n = length-replicate {A = ℕ} (logBound n) 0 in
     let call = claim .call limit plainOne log (omega arith) in
-    let wrote = unbroken-records M C R rom sched p s n limit log call in
+    let wrote = unbroken-records (M sheet) (C sheet) (R sheet) rom sched p s n limit log call in
     let same : join (listLogs M calls) ≡ u .bytes = join-log (runs M cs) ∙ claim .ends .log in
     let small : 2 ^ 48 ≤ figureMost = omega arith in
     let order : InOrder 0 (2 ^ 48) (recordsOf (u .bytes)) = records-order wrote (omega arith) in
-    let bound : 0 + length (join (listLogs M calls)) / 8 ≤ figureMost = omega (arith, ap length same, unbroken-fits M C R rom sched p s n limit log call) in
-    let read = as-joined (2 ^ 48) small (listLogs M calls) startOfDay 0 nothing-grown (omega arith) (logs-whole M R rom sched p s cs meant) (rw same order) bound in
+    let bound : 0 + length (join (listLogs M calls)) / 8 ≤ figureMost
+    = omega (arith, ap length same, unbroken-fits (M sheet) (C sheet) (R sheet) rom sched p s n limit log call) in
+    let read = as-joined (2 ^ 48) small (listLogs M calls) startOfDay 0 nothing-grown (omega arith)
+    (logs-whole M R sheet rom sched p s cs (meant .given)) (rw same order) bound in
     record {
       accepted = read .accepted;
       report =

@@ -12,10 +12,10 @@ stopped-requires : tie.Need-stopped-requires
 stopped-requires c κs = search needs
 
 returns : tie.Need-returns
-returns c =
+returns c sheet same =
     let at-if1 = c .before in
     let at-entry = at-if1 .before .before in
-    stops-past (now (at-entry .args .rom)) (at-entry .args .pc) (c .stopped .result) (at-if1 .if1 .taken) (c .stopped .ensures)
+    stops-past sheet (now (at-entry .args .rom)) same (at-entry .args .pc) (c .stopped .result) (at-if1 .if1 .taken) (c .stopped .ensures)
 
 byte-in-requires : tie.Need-byte-in-requires
 byte-in-requires c κs = search needs
@@ -27,7 +27,7 @@ stopped-requires-2 : tie.Need-stopped-requires-2
 stopped-requires-2 c κs = search needs
 
 returns-2 : tie.Need-returns-2
-returns-2 c =
+returns-2 c sheet same =
     let at-if2 = c .before in
     let at-size-of = at-if2 .before .before in
     let at-byte-in = at-size-of .before in
@@ -35,14 +35,14 @@ returns-2 c =
     let at-entry = at-if1 .before .before in
     let s = size-at (now (at-entry .args .rom)) (at-entry .args .pc) (at-byte-in .byte-in .ensures)
     (at-size-of .size-of .ensures) in
-    stops-none (now (at-entry .args .rom)) (at-entry .args .pc) (c .stopped2 .result) (at-if1 .if1 .left)
+    stops-none sheet (now (at-entry .args .rom)) same (at-entry .args .pc) (c .stopped2 .result) (at-if1 .if1 .left)
     (sym (s .1) ∙ at-if2 .if2 .taken) (c .stopped2 .ensures)
 
 follows-requires : tie.Need-follows-requires
 follows-requires c κs = search needs
 
 returns-3 : tie.Need-returns-3
-returns-3 c =
+returns-3 c sheet same =
     let at-follows = c .before .before in
     let at-if2 = at-follows .before in
     let at-size-of = at-if2 .before .before in
@@ -51,14 +51,17 @@ returns-3 c =
     let at-entry = at-if1 .before .before in
     let s = size-at (now (at-entry .args .rom)) (at-entry .args .pc) (at-byte-in .byte-in .ensures)
     (at-size-of .size-of .ensures) in
-    begins-one (now (at-entry .args .rom)) (at-entry .args .pc) _ (at-if1 .if1 .left) (omega (arith, s .1, at-if2 .if2 .left))
+    begins-one sheet (now (at-entry .args .rom)) same (at-entry .args .pc) _ (at-if1 .if1 .left) (omega (arith, s .1, at-if2 .if2 .left))
     (omega (arith, s .0, bytes-at (now (at-entry .args .rom)) (at-entry .args .pc), c .if3 .taken)) refl (at-byte-in .byte-in .ensures) refl (at-follows .follows .ensures) (s .1)
+
+cast-if4 : tie.Need-cast-if4
+cast-if4 c = search needs
 
 stopped-requires-3 : tie.Need-stopped-requires-3
 stopped-requires-3 c κs = search needs
 
 returns-4 : tie.Need-returns-4
-returns-4 c =
+returns-4 c sheet same =
     let at-if4 = c .before in
     let at-if3 = at-if4 .before in
     let at-follows = at-if3 .before .before in
@@ -69,7 +72,7 @@ returns-4 c =
     let at-entry = at-if1 .before .before in
     let s = size-at (now (at-entry .args .rom)) (at-entry .args .pc) (at-byte-in .byte-in .ensures)
     (at-size-of .size-of .ensures) in
-    stops-second (now (at-entry .args .rom)) (at-entry .args .pc) (c .stopped3 .result) (at-if1 .if1 .left)
+    stops-second sheet (now (at-entry .args .rom)) same (at-entry .args .pc) (c .stopped3 .result) (at-if1 .if1 .left)
     (omega (arith, s .1, at-if2 .if2 .left))
     (omega (arith, s .0, bytes-at (now (at-entry .args .rom)) (at-entry .args .pc), at-if3 .if3 .left))
     (rw (at-follows .follows .ensures) at (at-if4 .if4 .taken)) (c .stopped3 .ensures)
@@ -81,7 +84,7 @@ follows-requires-2 : tie.Need-follows-requires-2
 follows-requires-2 c κs = search needs
 
 returns-5 : tie.Need-returns-5
-returns-5 c =
+returns-5 c sheet same =
     let at-byte-in2 = c .before in
     let at-if4 = at-byte-in2 .before in
     let at-if3 = at-if4 .before in
@@ -94,7 +97,7 @@ returns-5 c =
     let s = size-at (now (at-entry .args .rom)) (at-entry .args .pc) (at-byte-in .byte-in .ensures)
     (at-size-of .size-of .ensures) in
     let f = at-follows .follows .ensures in
-    begins-two (now (at-entry .args .rom)) (at-entry .args .pc) _ (at-if1 .if1 .left) (omega (arith, s .1, at-if2 .if2 .left))
+    begins-two sheet (now (at-entry .args .rom)) same (at-entry .args .pc) _ (at-if1 .if1 .left) (omega (arith, s .1, at-if2 .if2 .left))
     (omega (arith, s .0, bytes-at (now (at-entry .args .rom)) (at-entry .args .pc), at-if3 .if3 .left))
     (rw f at (at-if4 .if4 .left)) refl (at-byte-in .byte-in .ensures)
     (at-byte-in2 .byte-in2 .ensures ∙ ap (byteAt (now (at-entry .args .rom))) f) (c .follows2 .ensures ∙ ap follows f) (s .1)
@@ -111,6 +114,7 @@ fetch-at-spec =
     returns-2
     follows-requires
     returns-3
+    cast-if4
     stopped-requires-3
     returns-4
     byte-in-requires-2

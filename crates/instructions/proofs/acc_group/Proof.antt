@@ -103,37 +103,37 @@ acc-left-requires-11 : tie.Need-acc-left-requires-11
 acc-left-requires-11 c κs = search needs
 
 returns : tie.Need-returns
-returns c word ports = rw (c .before .enum-told .given .1, c .acc-left .ensures)
+returns c sheet word ports = rw (c .before .enum-told .given .1, c .acc-left .ensures)
 
 returns-2 : tie.Need-returns-2
-returns-2 c word ports = rw (c .before .enum-told2 .given .1, c .acc-left2 .ensures)
+returns-2 c sheet word ports = rw (c .before .enum-told2 .given .1, c .acc-left2 .ensures)
 
 returns-3 : tie.Need-returns-3
-returns-3 c word ports = rw (c .before .enum-told3 .given .1, c .acc-left3 .ensures)
+returns-3 c sheet word ports = rw (c .before .enum-told3 .given .1, c .acc-left3 .ensures)
 
 returns-4 : tie.Need-returns-4
-returns-4 c word ports = rw (c .before .enum-told4 .given .1, c .acc-left4 .ensures)
+returns-4 c sheet word ports = rw (c .before .enum-told4 .given .1, c .acc-left4 .ensures)
 
 returns-5 : tie.Need-returns-5
-returns-5 c word ports = rw (c .before .enum-told5 .given .1, c .acc-left5 .ensures)
+returns-5 c sheet word ports = rw (c .before .enum-told5 .given .1, c .acc-left5 .ensures)
 
 returns-6 : tie.Need-returns-6
-returns-6 c word ports = rw (c .before .enum-told6 .given .1, c .acc-left6 .ensures)
+returns-6 c sheet word ports = rw (c .before .enum-told6 .given .1, c .acc-left6 .ensures)
 
 returns-7 : tie.Need-returns-7
-returns-7 c word ports = rw (c .before .enum-told7 .given .1, c .acc-left7 .ensures)
+returns-7 c sheet word ports = rw (c .before .enum-told7 .given .1, c .acc-left7 .ensures)
 
 returns-8 : tie.Need-returns-8
-returns-8 c word ports = rw (c .before .enum-told8 .given .1, c .acc-left8 .ensures)
+returns-8 c sheet word ports = rw (c .before .enum-told8 .given .1, c .acc-left8 .ensures)
 
 returns-9 : tie.Need-returns-9
-returns-9 c word ports = rw (c .before .enum-told9 .given .1, c .acc-left9 .ensures)
+returns-9 c sheet word ports = rw (c .before .enum-told9 .given .1, c .acc-left9 .ensures)
 
 returns-10 : tie.Need-returns-10
-returns-10 c word ports = rw (c .before .before .before .enum-told10 .given .1, c .acc-left10 .ensures, c .before .bit .ensures)
+returns-10 c sheet word ports = rw (c .before .before .before .enum-told10 .given .1, c .acc-left10 .ensures, c .before .bit .ensures)
 
 returns-11 : tie.Need-returns-11
-returns-11 c word ports = rw (c .before .before .enum-told11 .given .1, c .acc-left11 .ensures)
+returns-11 c sheet word ports = rw (c .before .before .enum-told11 .given .1, c .acc-left11 .ensures)
 
 pub acc-group-spec : {M : Type 1} → statement M
 acc-group-spec =

@@ -1,51 +1,33 @@
--- The place of the word at DP, by its row. Assumes nothing.
+-- The place of the word at DP, by its row's entry. Assumes nothing.
+use mathlib.Core.Path.{_≡_, _∙_, sym, ap}
+use mathlib.Core.List.{List}
+use Prim.Native.Nat.{ℕ, _+_, _≤_}
 use native.Mathlib.Omega.{arith}
-use Rattle.instructions.proofs.Places.{place-low, place-absent, place-high}
+use denote.Ref.{now}
+use lib.ListN.{getD}
+use Rattle.tables.proofs.Rows.{row-column, row-entry, entry-within}
 use borrow.Author.Needs.{needs}
 use Rattle.instructions.proofs.dp_place.Statement.{statement}
 use Rattle.instructions.proofs.dp_place.Tie as tie
 
-mul-a : tie.Need-mul-a
-mul-a c = search needs
+-- an entry leaves room for a column
+within : (c : tie.Start) → getD (now (c .args .rows)) (c .args .dph) 0 ≤ 96
+within c = entry-within (now (c .args .rows)) (c .pre .0) (c .args .dph) (c .pre .1)
 
-add-a : tie.Need-add-a
-add-a c = search needs
-
-cast-result : tie.Need-cast-result
-cast-result c = search needs
-
-returns : tie.Need-returns
-returns c = place-low _ (c .if1 .taken) (omega arith)
+element-copy-out-result : tie.Need-element-copy-out-result
+element-copy-out-result c = search needs
 
 add-result : tie.Need-add-result
-add-result c = search needs
+add-result c = omega (arith, within (c .before), c .before .pre .2)
 
-cast-result-2 : tie.Need-cast-result-2
-cast-result-2 c = search needs
+cast-result : tie.Need-cast-result
+cast-result c = omega (arith, within (c .before), c .before .pre .2)
 
-returns-2 : tie.Need-returns-2
-returns-2 c = place-absent _ (c .before .if1 .left) (c .if2 .taken) (omega arith)
-
-sub-result : tie.Need-sub-result
-sub-result c = search needs
-
-cast-result-3 : tie.Need-cast-result-3
-cast-result-3 c = search needs
-
-returns-3 : tie.Need-returns-3
-returns-3 c = place-high _ (c .before .if1 .left) (c .if2 .left) (omega arith)
+returns : tie.Need-returns
+returns c sheet is =
+    let a = c .before .args in
+    let entry : getD (now (a .rows)) (a .dph) 0 ≡ _ = ap (λ (l : List ℕ). getD l (a .dph) 0) is ∙ row-entry sheet (a .dph) (c .before .pre .1) in
+    ap (λ (k : ℕ). k + a .dpl) entry ∙ sym (row-column sheet (a .dph) (a .dpl) (c .before .pre .2))
 
 pub dp-place-spec : {M : Type 1} → statement M
-dp-place-spec =
-    tie.close
-    (tie.spec
-    mul-a
-    add-a
-    cast-result
-    returns
-    add-result
-    cast-result-2
-    returns-2
-    sub-result
-    cast-result-3
-    returns-3)
+dp-place-spec = tie.close (tie.spec element-copy-out-result add-result cast-result returns)

@@ -28,16 +28,16 @@ with-bit-requires-2 : tie.Need-with-bit-requires-2
 with-bit-requires-2 c κs = search needs
 
 returns : tie.Need-returns
-returns c ports = rw (c .before .enum-told .given .1, c .bit .ensures)
+returns c sheet ports = rw (c .before .enum-told .given .1, c .bit .ensures)
 
 returns-2 : tie.Need-returns-2
-returns-2 c ports = rw (c .before .enum-told2 .given .1, c .bit2 .ensures)
+returns-2 c sheet ports = rw (c .before .enum-told2 .given .1, c .bit2 .ensures)
 
 returns-3 : tie.Need-returns-3
-returns-3 c ports = rw (c .before .enum-told3 .given .1, c .with-bit .ensures)
+returns-3 c sheet ports = rw (c .before .enum-told3 .given .1, c .with-bit .ensures)
 
 returns-4 : tie.Need-returns-4
-returns-4 c ports = rw (c .before .enum-told4 .given .1, c .with-bit2 .ensures)
+returns-4 c sheet ports = rw (c .before .enum-told4 .given .1, c .with-bit2 .ensures)
 
 pub flag-group-spec : {M : Type 1} → statement M
 flag-group-spec =

@@ -3,7 +3,7 @@ use mathlib.Core.Path.{_≡_}
 use lib.ListN.{length}
 use borrow.Author.Needs.{needs}
 use Rattle.upd546.specs.TheMachine.{stackDepth}
-use Rattle.upd546.proofs.Computed.{pushed-entries, popped-entries}
+use Rattle.upd546.proofs.Computed.{pushed-three, popped-three}
 use Rattle.instructions.proofs.jump_group.Statement.{statement}
 use Rattle.instructions.proofs.jump_group.Tie as tie
 
@@ -103,33 +103,57 @@ jump-left-requires-7 : tie.Need-jump-left-requires-7
 jump-left-requires-7 c κs = search needs
 
 returns : tie.Need-returns
-returns c word ports = rw (c .before .before .enum-told .given .1, c .jump-left .ensures)
+returns c =
+    record {
+      three-levels = rw (c .before .before .enum-told .given .1, c .jump-left .ensures);
+      effect-is = λ sheet word ports. rw (c .before .before .enum-told .given .1, c .jump-left .ensures);
+    }
 
 returns-2 : tie.Need-returns-2
-returns-2 c word ports =
+returns-2 c =
     let at-stack = read (c .before .before .before) in
-    rw (c .before .enum-told2 .given .1, c .jump-left2 .ensures, popped-entries _ (depth at-stack))
+    record {
+      three-levels = rw (c .before .enum-told2 .given .1, c .jump-left2 .ensures, popped-three _ (depth at-stack));
+      effect-is = λ sheet word ports. rw (c .before .enum-told2 .given .1, c .jump-left2 .ensures);
+    }
 
 returns-3 : tie.Need-returns-3
-returns-3 c word ports =
+returns-3 c =
     let at-stack = read (c .before .before .before) in
-    rw (c .before .enum-told3 .given .1, c .jump-left3 .ensures, popped-entries _ (depth at-stack))
+    record {
+      three-levels = rw (c .before .enum-told3 .given .1, c .jump-left3 .ensures, popped-three _ (depth at-stack));
+      effect-is = λ sheet word ports. rw (c .before .enum-told3 .given .1, c .jump-left3 .ensures);
+    }
 
 returns-4 : tie.Need-returns-4
-returns-4 c word ports = rw (c .before .enum-told4 .given .1, c .jump-left4 .ensures)
+returns-4 c =
+    record {
+      three-levels = rw (c .before .enum-told4 .given .1, c .jump-left4 .ensures);
+      effect-is = λ sheet word ports. rw (c .before .enum-told4 .given .1, c .jump-left4 .ensures);
+    }
 
 returns-5 : tie.Need-returns-5
-returns-5 c word ports =
+returns-5 c =
     let at-stack = read (c .before .before .before) in
-    rw (c .before .enum-told5 .given .1, c .jump-left5 .ensures, pushed-entries _ _ (depth at-stack))
+    record {
+      three-levels = rw (c .before .enum-told5 .given .1, c .jump-left5 .ensures, pushed-three _ _ (depth at-stack));
+      effect-is = λ sheet word ports. rw (c .before .enum-told5 .given .1, c .jump-left5 .ensures);
+    }
 
 returns-6 : tie.Need-returns-6
-returns-6 c word ports =
+returns-6 c =
     let at-stack = read (c .before .before .before .before) in
-    rw (c .before .before .enum-told6 .given .1, c .jump-left6 .ensures, pushed-entries _ _ (depth at-stack))
+    record {
+      three-levels = rw (c .before .before .enum-told6 .given .1, c .jump-left6 .ensures, pushed-three _ _ (depth at-stack));
+      effect-is = λ sheet word ports. rw (c .before .before .enum-told6 .given .1, c .jump-left6 .ensures);
+    }
 
 returns-7 : tie.Need-returns-7
-returns-7 c word ports = rw (c .before .before .enum-told7 .given .1, c .jump-left7 .ensures)
+returns-7 c =
+    record {
+      three-levels = rw (c .before .before .enum-told7 .given .1, c .jump-left7 .ensures);
+      effect-is = λ sheet word ports. rw (c .before .before .enum-told7 .given .1, c .jump-left7 .ensures);
+    }
 
 pub jump-group-spec : {M : Type 1} → statement M
 jump-group-spec =

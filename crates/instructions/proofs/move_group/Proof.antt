@@ -64,28 +64,28 @@ li-requires : tie.Need-li-requires
 li-requires c κs = search needs
 
 returns : tie.Need-returns
-returns c word ports = rw (c .before .enum-told .given .1, c .move-left .ensures)
+returns c sheet word ports = rw (c .before .enum-told .given .1, c .move-left .ensures)
 
 returns-2 : tie.Need-returns-2
-returns-2 c word ports = rw (c .before .enum-told2 .given .1, c .move-left2 .ensures)
+returns-2 c sheet word ports = rw (c .before .enum-told2 .given .1, c .move-left2 .ensures)
 
 returns-3 : tie.Need-returns-3
-returns-3 c word ports = rw (c .before .enum-told3 .given .1, c .move-left3 .ensures)
+returns-3 c sheet word ports = rw (c .before .enum-told3 .given .1, c .move-left3 .ensures)
 
 returns-4 : tie.Need-returns-4
-returns-4 c word ports = rw (c .before .enum-told4 .given .1) (c .ldi .ensures word ports)
+returns-4 c sheet word ports = rw (c .before .enum-told4 .given .1) (c .ldi .ensures sheet word ports)
 
 returns-5 : tie.Need-returns-5
-returns-5 c word ports = rw (c .before .before .enum-told5 .given .1, c .move-left4 .ensures)
+returns-5 c sheet word ports = rw (c .before .before .enum-told5 .given .1, c .move-left4 .ensures)
 
 returns-6 : tie.Need-returns-6
-returns-6 c word ports = rw (c .before .enum-told6 .given .1, c .move-left5 .ensures)
+returns-6 c sheet word ports = rw (c .before .enum-told6 .given .1, c .move-left5 .ensures)
 
 returns-7 : tie.Need-returns-7
-returns-7 c word ports = rw (c .before .before .enum-told7 .given .1, c .move-left6 .ensures)
+returns-7 c sheet word ports = rw (c .before .before .enum-told7 .given .1, c .move-left6 .ensures)
 
 returns-8 : tie.Need-returns-8
-returns-8 c word ports = rw (c .before .enum-told8 .given .1) (c .li .ensures word ports)
+returns-8 c sheet word ports = rw (c .before .enum-told8 .given .1) (c .li .ensures sheet word ports)
 
 pub move-group-spec : {M : Type 1} → statement M
 move-group-spec =

@@ -40,16 +40,16 @@ pointer-left-requires-4 : tie.Need-pointer-left-requires-4
 pointer-left-requires-4 c κs = search needs
 
 returns : tie.Need-returns
-returns c ports = rw (c .before .enum-told .given .1, c .pointer-left .ensures)
+returns c sheet ports = rw (c .before .enum-told .given .1, c .pointer-left .ensures)
 
 returns-2 : tie.Need-returns-2
-returns-2 c ports = rw (c .before .enum-told2 .given .1, c .pointer-left2 .ensures)
+returns-2 c sheet ports = rw (c .before .enum-told2 .given .1, c .pointer-left2 .ensures)
 
 returns-3 : tie.Need-returns-3
-returns-3 c ports = rw (c .before .enum-told3 .given .1, c .pointer-left3 .ensures)
+returns-3 c sheet ports = rw (c .before .enum-told3 .given .1, c .pointer-left3 .ensures)
 
 returns-4 : tie.Need-returns-4
-returns-4 c ports = rw (c .before .enum-told4 .given .1, c .pointer-left4 .ensures)
+returns-4 c sheet ports = rw (c .before .enum-told4 .given .1, c .pointer-left4 .ensures)
 
 pub pointer-group-spec : {M : Type 1} → statement M
 pointer-group-spec =

@@ -105,45 +105,45 @@ port-left-requires-8 : tie.Need-port-left-requires-8
 port-left-requires-8 c κs = search needs
 
 returns : tie.Need-returns
-returns c word = rw (c .before .before .enum-told .given .1, c .written .ensures, c .before .output-port .ensures)
+returns c sheet word = rw (c .before .before .enum-told .given .1, c .written .ensures, c .before .output-port .ensures)
 
 returns-2 : tie.Need-returns-2
 unfolding writesOf
-returns-2 c word = rw (c .before .enum-told2 .given .1, c .port-left .ensures)
+returns-2 c sheet word = rw (c .before .enum-told2 .given .1, c .port-left .ensures)
 
 returns-3 : tie.Need-returns-3
 unfolding writesOf
-returns-3 c word = rw (c .before .enum-told3 .given .1, c .port-left2 .ensures)
+returns-3 c sheet word = rw (c .before .enum-told3 .given .1, c .port-left2 .ensures)
 
 returns-4 : tie.Need-returns-4
-returns-4 c word = rw (c .before .before .enum-told4 .given .1, c .written2 .ensures, c .before .output-bit .ensures)
+returns-4 c sheet word = rw (c .before .before .enum-told4 .given .1, c .written2 .ensures, c .before .output-bit .ensures)
 
 returns-5 : tie.Need-returns-5
 unfolding writesOf
-returns-5 c word = rw (c .before .before .before .enum-told5 .given .1, c .port-left3 .ensures, c .before .with-bit .ensures)
+returns-5 c sheet word = rw (c .before .before .before .enum-told5 .given .1, c .port-left3 .ensures, c .before .with-bit .ensures)
 
 returns-6 : tie.Need-returns-6
-returns-6 c word = rw (c .before .before .enum-told6 .given .1, c .written3 .ensures, c .before .output-bit2 .ensures)
+returns-6 c sheet word = rw (c .before .before .enum-told6 .given .1, c .written3 .ensures, c .before .output-bit2 .ensures)
 
 returns-7 : tie.Need-returns-7
 unfolding writesOf
-returns-7 c word = rw (c .before .before .before .enum-told7 .given .1, c .port-left4 .ensures, c .before .with-bit2 .ensures)
+returns-7 c sheet word = rw (c .before .before .before .enum-told7 .given .1, c .port-left4 .ensures, c .before .with-bit2 .ensures)
 
 returns-8 : tie.Need-returns-8
 unfolding writesOf
-returns-8 c word = rw (c .before .before .enum-told8 .given .1, c .port-left5 .ensures, c .before .read-port .ensures)
+returns-8 c sheet word = rw (c .before .before .enum-told8 .given .1, c .port-left5 .ensures, c .before .read-port .ensures)
 
 returns-9 : tie.Need-returns-9
 unfolding writesOf
-returns-9 c word = rw (c .before .enum-told9 .given .1, c .port-left6 .ensures)
+returns-9 c sheet word = rw (c .before .enum-told9 .given .1, c .port-left6 .ensures)
 
 returns-10 : tie.Need-returns-10
 unfolding writesOf
-returns-10 c word = rw (c .before .before .before .enum-told10 .given .1, c .port-left7 .ensures, c .before .bit .ensures, c .before .before .read-port2 .ensures)
+returns-10 c sheet word = rw (c .before .before .before .enum-told10 .given .1, c .port-left7 .ensures, c .before .bit .ensures, c .before .before .read-port2 .ensures)
 
 returns-11 : tie.Need-returns-11
 unfolding writesOf
-returns-11 c word = rw (c .before .before .enum-told11 .given .1, c .port-left8 .ensures, c .before .bit2 .ensures)
+returns-11 c sheet word = rw (c .before .before .enum-told11 .given .1, c .port-left8 .ensures, c .before .bit2 .ensures)
 
 pub port-group-spec : {M : Type 1} → statement M
 port-group-spec =

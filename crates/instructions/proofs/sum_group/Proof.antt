@@ -139,41 +139,41 @@ sum-left-requires-12 : tie.Need-sum-left-requires-12
 sum-left-requires-12 c κs = search needs
 
 returns : tie.Need-returns
-returns c ports = rw (c .before .enum-told .given .1, c .sum-left .ensures)
+returns c sheet ports = rw (c .before .enum-told .given .1, c .sum-left .ensures)
 
 returns-2 : tie.Need-returns-2
-returns-2 c ports = rw (c .before .enum-told2 .given .1, c .sum-left2 .ensures)
+returns-2 c sheet ports = rw (c .before .enum-told2 .given .1, c .sum-left2 .ensures)
 
 returns-3 : tie.Need-returns-3
-returns-3 c ports = rw (c .before .enum-told3 .given .1, c .sum-left3 .ensures)
+returns-3 c sheet ports = rw (c .before .enum-told3 .given .1, c .sum-left3 .ensures)
 
 returns-4 : tie.Need-returns-4
-returns-4 c ports = rw (c .before .enum-told4 .given .1, c .sum-left4 .ensures)
+returns-4 c sheet ports = rw (c .before .enum-told4 .given .1, c .sum-left4 .ensures)
 
 returns-5 : tie.Need-returns-5
-returns-5 c ports = rw (c .before .enum-told5 .given .1, c .sum-left5 .ensures)
+returns-5 c sheet ports = rw (c .before .enum-told5 .given .1, c .sum-left5 .ensures)
 
 returns-6 : tie.Need-returns-6
-returns-6 c ports = rw (c .before .enum-told6 .given .1, c .sum-left6 .ensures)
+returns-6 c sheet ports = rw (c .before .enum-told6 .given .1, c .sum-left6 .ensures)
 
 returns-7 : tie.Need-returns-7
-returns-7 c ports = rw (c .before .enum-told7 .given .1, c .sum-left7 .ensures)
+returns-7 c sheet ports = rw (c .before .enum-told7 .given .1, c .sum-left7 .ensures)
 
 returns-8 : tie.Need-returns-8
-returns-8 c ports = rw (c .before .enum-told8 .given .1, c .sum-left8 .ensures)
+returns-8 c sheet ports = rw (c .before .enum-told8 .given .1, c .sum-left8 .ensures)
 
 returns-9 : tie.Need-returns-9
-returns-9 c ports =
+returns-9 c sheet ports =
     rw (c .before .before .before .enum-told9 .given .1, c .sum-left9 .ensures, c .before .bit2 .ensures, c .before .before .bit .ensures)
 
 returns-10 : tie.Need-returns-10
-returns-10 c ports = rw (c .before .before .enum-told10 .given .1, c .sum-left10 .ensures, c .before .bit3 .ensures)
+returns-10 c sheet ports = rw (c .before .before .enum-told10 .given .1, c .sum-left10 .ensures, c .before .bit3 .ensures)
 
 returns-11 : tie.Need-returns-11
-returns-11 c ports = rw (c .before .before .enum-told11 .given .1, c .sum-left11 .ensures, c .before .with-bit .ensures)
+returns-11 c sheet ports = rw (c .before .before .enum-told11 .given .1, c .sum-left11 .ensures, c .before .with-bit .ensures)
 
 returns-12 : tie.Need-returns-12
-returns-12 c ports = rw (c .before .before .enum-told12 .given .1, c .sum-left12 .ensures, c .before .with-bit2 .ensures)
+returns-12 c sheet ports = rw (c .before .before .enum-told12 .given .1, c .sum-left12 .ensures, c .before .with-bit2 .ensures)
 
 pub sum-group-spec : {M : Type 1} → statement M
 sum-group-spec =

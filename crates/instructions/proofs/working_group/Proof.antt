@@ -64,34 +64,34 @@ working-left-requires-10 : tie.Need-working-left-requires-10
 working-left-requires-10 c κs = search needs
 
 returns : tie.Need-returns
-returns c ports = rw (c .before .enum-told .given .1, c .working-left .ensures)
+returns c sheet ports = rw (c .before .enum-told .given .1, c .working-left .ensures)
 
 returns-2 : tie.Need-returns-2
-returns-2 c ports = rw (c .before .enum-told2 .given .1, c .working-left2 .ensures)
+returns-2 c sheet ports = rw (c .before .enum-told2 .given .1, c .working-left2 .ensures)
 
 returns-3 : tie.Need-returns-3
-returns-3 c ports = rw (c .before .enum-told3 .given .1, c .working-left3 .ensures)
+returns-3 c sheet ports = rw (c .before .enum-told3 .given .1, c .working-left3 .ensures)
 
 returns-4 : tie.Need-returns-4
-returns-4 c ports = rw (c .before .enum-told4 .given .1, c .working-left4 .ensures)
+returns-4 c sheet ports = rw (c .before .enum-told4 .given .1, c .working-left4 .ensures)
 
 returns-5 : tie.Need-returns-5
-returns-5 c ports = rw (c .before .enum-told5 .given .1, c .working-left5 .ensures)
+returns-5 c sheet ports = rw (c .before .enum-told5 .given .1, c .working-left5 .ensures)
 
 returns-6 : tie.Need-returns-6
-returns-6 c ports = rw (c .before .enum-told6 .given .1, c .working-left6 .ensures)
+returns-6 c sheet ports = rw (c .before .enum-told6 .given .1, c .working-left6 .ensures)
 
 returns-7 : tie.Need-returns-7
-returns-7 c ports = rw (c .before .enum-told7 .given .1, c .working-left7 .ensures)
+returns-7 c sheet ports = rw (c .before .enum-told7 .given .1, c .working-left7 .ensures)
 
 returns-8 : tie.Need-returns-8
-returns-8 c ports = rw (c .before .enum-told8 .given .1, c .working-left8 .ensures)
+returns-8 c sheet ports = rw (c .before .enum-told8 .given .1, c .working-left8 .ensures)
 
 returns-9 : tie.Need-returns-9
-returns-9 c ports = rw (c .before .enum-told9 .given .1, c .working-left9 .ensures)
+returns-9 c sheet ports = rw (c .before .enum-told9 .given .1, c .working-left9 .ensures)
 
 returns-10 : tie.Need-returns-10
-returns-10 c ports = rw (c .before .enum-told10 .given .1, c .working-left10 .ensures)
+returns-10 c sheet ports = rw (c .before .enum-told10 .given .1, c .working-left10 .ensures)
 
 pub working-group-spec : {M : Type 1} → statement M
 working-group-spec =

@@ -1,5 +1,6 @@
 -- The places of Z, W, S, R, Y and X. Assumes nothing.
-use Rattle.upd546.specs.TheMachine.{placeOf}
+use Rattle.upd546.specs.TheSheet.{rowExists}
+use Rattle.upd546.specs.TheMachine.{placeOf, placeIn}
 use borrow.Author.Needs.{needs}
 use Rattle.instructions.proofs.working_place.Statement.{statement}
 use Rattle.instructions.proofs.working_place.Tie as tie
@@ -35,44 +36,44 @@ enum-told-10 : tie.Need-enum-told-10
 enum-told-10 c = search needs
 
 returns : tie.Need-returns
-unfolding placeOf
-returns c s = rw (c .enum-told .given .1)
+unfolding placeIn placeOf rowExists
+returns c sheet s = rw (c .enum-told .given .1)
 
 returns-2 : tie.Need-returns-2
-unfolding placeOf
-returns-2 c s = rw (c .enum-told2 .given .1)
+unfolding placeIn placeOf rowExists
+returns-2 c sheet s = rw (c .enum-told2 .given .1)
 
 returns-3 : tie.Need-returns-3
-unfolding placeOf
-returns-3 c s = rw (c .enum-told3 .given .1)
+unfolding placeIn placeOf rowExists
+returns-3 c sheet s = rw (c .enum-told3 .given .1)
 
 returns-4 : tie.Need-returns-4
-unfolding placeOf
-returns-4 c s = rw (c .enum-told4 .given .1)
+unfolding placeIn placeOf rowExists
+returns-4 c sheet s = rw (c .enum-told4 .given .1)
 
 returns-5 : tie.Need-returns-5
-unfolding placeOf
-returns-5 c s = rw (c .enum-told5 .given .1)
+unfolding placeIn placeOf rowExists
+returns-5 c sheet s = rw (c .enum-told5 .given .1)
 
 returns-6 : tie.Need-returns-6
-unfolding placeOf
-returns-6 c s = rw (c .enum-told6 .given .1)
+unfolding placeIn placeOf rowExists
+returns-6 c sheet s = rw (c .enum-told6 .given .1)
 
 returns-7 : tie.Need-returns-7
-unfolding placeOf
-returns-7 c s = rw (c .enum-told7 .given .1)
+unfolding placeIn placeOf rowExists
+returns-7 c sheet s = rw (c .enum-told7 .given .1)
 
 returns-8 : tie.Need-returns-8
-unfolding placeOf
-returns-8 c s = rw (c .enum-told8 .given .1)
+unfolding placeIn placeOf rowExists
+returns-8 c sheet s = rw (c .enum-told8 .given .1)
 
 returns-9 : tie.Need-returns-9
-unfolding placeOf
-returns-9 c s = rw (c .enum-told9 .given .1)
+unfolding placeIn placeOf rowExists
+returns-9 c sheet s = rw (c .enum-told9 .given .1)
 
 returns-10 : tie.Need-returns-10
-unfolding placeOf
-returns-10 c s = rw (c .enum-told10 .given .1)
+unfolding placeIn placeOf rowExists
+returns-10 c sheet s = rw (c .enum-told10 .given .1)
 
 pub working-place-spec : {M : Type 1} → statement M
 working-place-spec =
