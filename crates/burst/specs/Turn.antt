@@ -13,9 +13,10 @@ use Rattle.runs.specs.Laws.{Panel}
 use Rattle.upd546.specs.declared.Core.{Core}
 use Rattle.upd546.specs.declared.Interrupt.{Interrupt}
 use Rattle.upd546.specs.declared.Lines.{Lines}
+use Rattle.upd546.specs.declared.Sheet.{Sheet}
 use Rattle.upd546.specs.declared.State.{State}
 use Rattle.upd546.specs.declared.Timer.{Timer}
-use Rattle.upd546.specs.TheMachine.{romLength, markStm}
+use Rattle.upd546.specs.TheMachine.{markStm}
 use Rattle.upd546.specs.Parts.{setOwed}
 use Rattle.upd546.specs.TheLineSchedule.{linesAt}
 use Rattle.upd546.specs.Timer.{ticksLeft}
@@ -25,7 +26,7 @@ use Rattle.laws.specs.Ordinary.{ordinary}
 use Rattle.laws.specs.Burst.{forward}
 use Rattle.laws.specs.Stops.{StopNumber}
 use Rattle.laws.specs.Valid.{Valid}
-use Rattle.tables.specs.Tables.{instructionTable, positionTable}
+use Rattle.tables.specs.Tables.{instructionTable, rowTable, positionTable}
 use Rattle.upd546.specs.Parts.{stateOf}
 use Rattle.jump.specs.Boundary.{watchCode}
 use Rattle.burst.specs.declared.Stretch.{Stretch}
@@ -34,23 +35,23 @@ use Rattle.burst.specs.declared.Events.{Events}
 
 -- WHAT IS ASKED
 
--- what a run is lent: a ROM and a schedule that aren't refused, and the tables
-pub record Lent (rom sched table positions : List ℕ) : Type 0 where
-  pub panel : Panel ordinary rom sched
-  pub rom-length : length rom ≡ romLength
+-- what a run is lent: a sheet, a ROM and a schedule that aren't refused, and the tables
+pub record Lent (sheet : Sheet) (rom sched table rows positions : List ℕ) : Type 0 where
+  pub panel : Panel (ordinary sheet) rom sched
   pub instructions : table ≡ instructionTable
+  pub row-table : rows ≡ rowTable sheet
   pub position-table : positions ≡ positionTable
 
 -- at the boundary before the state's cycle: the state is all that is in core, RAM, latches and cycle number, the lines are l up to the limit, and the runner doesn't jump here, were the limit the
 -- end of the run. The log is empty from `at` on, and so many instructions were begun.
-pub record Turn (skips : Bool) (rom sched table positions : List ℕ) (l : Lines) (limit : ℕ) (s : State) (log : List ℕ) (at begun : ℕ) : Type 0 where
-  pub lent : Lent rom sched table positions
+pub record Turn (sheet : Sheet) (skips : Bool) (rom sched table rows positions : List ℕ) (l : Lines) (limit : ℕ) (s : State) (log : List ℕ) (at begun : ℕ) : Type 0 where
+  pub lent : Lent sheet rom sched table rows positions
   pub parts : s ≡ stateOf (s .core) (s .ram) (s .ports) (s .cycle .0)
   pub lines : (n : ℕ) → s .cycle .0 ≤ n → n < limit → linesAt sched n ≡ l
   pub ahead : s .cycle .0 < limit
   pub in-limit : limit ≤ cycleLimit
   pub valid : Valid s
-  pub no-jump : skips ≡ true → waitLength rom sched s (limit - s .cycle .0) ≡ 0
+  pub no-jump : skips ≡ true → waitLength sheet rom sched s (limit - s .cycle .0) ≡ 0
   pub place : at ≤ length log
   pub few : begun ≤ s .cycle .0
 
@@ -92,8 +93,8 @@ pub record Moves (core : Core) (done limit : ℕ) (skips : Bool) (h since watch 
 -- WHAT IT COMES TO
 
 -- no cycle is begun: its number, and nothing has changed
-pub record Held (rom sched : List ℕ) (s : State) (log : List ℕ) (at number : ℕ) (ram ports log′ : List ℕ) : Type 0 where
-  pub stops : within ordinary rom sched (length log - at) 1 s ≡ still s (some number)
+pub record Held (sheet : Sheet) (rom sched : List ℕ) (s : State) (log : List ℕ) (at number : ℕ) (ram ports log′ : List ℕ) : Type 0 where
+  pub stops : within (ordinary sheet) rom sched (length log - at) 1 s ≡ still s (some number)
   pub some-number : number ≡ 0 → ⊥
   pub known : (number ≡ 3 → ⊥) → StopNumber number
   pub ram-is : ram ≡ s .ram
@@ -105,22 +106,22 @@ abbrev pub appended : List ℕ → (at : ℕ) → List ℕ → List ℕ
 appended log at w = take at log ++ w ++ drop (at + length w) log
 
 -- d cycles, one by one, lead to this core, RAM and latches before cycle n, append w to the log and begin b instructions
-pub record Went (skips : Bool) (rom sched : List ℕ) (limit : ℕ) (s : State) (log : List ℕ) (at begun : ℕ)
+pub record Went (sheet : Sheet) (skips : Bool) (rom sched : List ℕ) (limit : ℕ) (s : State) (log : List ℕ) (at begun : ℕ)
     (core : Core) (n begun′ at′ : ℕ) (ram ports log′ : List ℕ) : Type 0 where
   pub d : ℕ
   pub b : ℕ
   pub w : List ℕ
   pub some-cycles : 1 ≤ d
-  pub steps : OneByOne ordinary rom sched skips (length log - at) (limit - s .cycle .0) s (stateOf core ram ports n) w d b
+  pub steps : OneByOne (ordinary sheet) rom sched skips (length log - at) (limit - s .cycle .0) s (stateOf core ram ports n) w d b
   pub cycle-is : n ≡ s .cycle .0 + d
   pub begun-is : begun′ ≡ begun + b
   pub at-is : at′ ≡ at + length w
   pub log-is : log′ ≡ appended log at w
 
 -- what a turn comes to
-pub record Turned (skips : Bool) (rom sched : List ℕ) (limit : ℕ) (s : State) (log : List ℕ) (at begun : ℕ) (r : Stretch) (ram ports log′ : List ℕ) : Type 0 where
-  pub held : (r .stop ≡ 0 → ⊥) → Held rom sched s log at (r .stop) ram ports log′
-  pub went : r .stop ≡ 0 → Went skips rom sched limit s log at begun (r .core) (r .cycle) (r .begun) (r .at) ram ports log′
+pub record Turned (sheet : Sheet) (skips : Bool) (rom sched : List ℕ) (limit : ℕ) (s : State) (log : List ℕ) (at begun : ℕ) (r : Stretch) (ram ports log′ : List ℕ) : Type 0 where
+  pub held : (r .stop ≡ 0 → ⊥) → Held sheet rom sched s log at (r .stop) ram ports log′
+  pub went : r .stop ≡ 0 → Went sheet skips rom sched limit s log at begun (r .core) (r .cycle) (r .begun) (r .at) ram ports log′
 
 -- a timer that may be brought forward by so many cycles
 pub record Forwards (core : Core) (cycles : ℕ) : Type 0 where
@@ -128,10 +129,10 @@ pub record Forwards (core : Core) (cycles : ℕ) : Type 0 where
   pub ticks-left : (core .mark ≡ markStm → ⊥) → 0 < core .timer .register → cycles ≤ ticksLeft (core .timer)
 
 -- what a burst comes to: the same, with the timer behind
-pub record Bursts (skips : Bool) (rom sched : List ℕ) (limit : ℕ) (s : State) (log : List ℕ) (at begun : ℕ) (r : Late) (ram ports log′ : List ℕ) : Type 0 where
-  pub held : r .stretch .cycle ≡ s .cycle .0 → Held rom sched s log at (r .stretch .stop) ram ports log′
+pub record Bursts (sheet : Sheet) (skips : Bool) (rom sched : List ℕ) (limit : ℕ) (s : State) (log : List ℕ) (at begun : ℕ) (r : Late) (ram ports log′ : List ℕ) : Type 0 where
+  pub held : r .stretch .cycle ≡ s .cycle .0 → Held sheet rom sched s log at (r .stretch .stop) ram ports log′
   pub went : (r .stretch .cycle ≡ s .cycle .0 → ⊥)
-      → Went skips rom sched limit s log at begun (forward (r .late) (r .stretch .core)) (r .stretch .cycle) (r .stretch .begun) (r .stretch .at) ram ports log′
+      → Went sheet skips rom sched limit s log at begun (forward (r .late) (r .stretch .core)) (r .stretch .cycle) (r .stretch .begun) (r .stretch .at) ram ports log′
   pub forwards : Forwards (r .stretch .core) (r .late)
 
 abbrev pub stretchOf : Core → (n begun at stop : ℕ) → Stretch

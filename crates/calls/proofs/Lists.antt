@@ -224,8 +224,8 @@ module _ {S : Type 0} (M : Sheet → Machine S) (laws : LegalLaws M) (J : (sheet
       let own : PanelLent (c .sheet) rom sched c
       = record { same-sheet = refl; same-rom = lent .same-rom; same-sched = lent .same-sched; room = lent .room } in
       subst (λ (i : Sheet). Panel (M i) rom sched → M i .stateNumber held ≡ 0 → c .image ≡ M i .image Two held
-          → ((next : S) → M i .stateNumber next ≡ 0 → boardAnswer M c .image ≡ M i .image Two next → RunThrough i next cs)
-          → RunThrough i held (c ∷ cs))
+      → ((next : S) → M i .stateNumber next ≡ 0 → boardAnswer M c .image ≡ M i .image Two next → RunThrough i next cs)
+      → RunThrough i held (c ∷ cs))
       (lent .same-sheet) (λ q w e rest. before c q (t .0) own cs held w e rest) p v (g .0 .same-image)
       (λ next w e. run-through sheet p cs next w (t .1) (subst (λ (i : List ℕ). OnOneImage M sheet rom sched i cs) e (g .1)))
 

@@ -6,13 +6,14 @@ use runs::ClockCycles;
 use runs::MachineCycles;
 use runs::RunEnd;
 use upd546::RunAnswer;
+use upd546::Sheet;
 use upd546::State;
 ghost use mathlib.Core.Path.{_≡_};
 ghost use mathlib.Core.List.{List};
 ghost use Prim.Native.Nat.{ℕ};
 ghost use lib.ListN.{drop};
 ghost use Rattle.runs.specs.Lists.{runAnswer};
-ghost use Rattle.upd546.specs.TwoRunners.{upd546, answerOf};
+ghost use Rattle.upd546.specs.TwoRunners.{chip, answerOf};
 ghost use Rattle.driver.specs.Lending.{runnerKind, broughtTo, keptBefore};
 
 // The machine that the board keeps.
@@ -72,13 +73,14 @@ pub fn advance(
     sched: &[u8],
     log: &mut [u8],
     n: MachineCycles,
+    sheet: Sheet,
 ) -> DriveAnswer
-    ensures { λ r. ⌜ broughtTo (r .report) (r .machine) (now (log .exit)) ≡ runAnswer upd546 (runnerKind kind) (now (rom .entry)) (now (sched .entry)) (machine .state) (now (log .entry)) (n .0) ⌝ }
+    ensures { λ r. ⌜ broughtTo (r .report) (r .machine) (now (log .exit)) ≡ runAnswer (chip sheet) (runnerKind kind) (now (rom .entry)) (now (sched .entry)) (machine .state) (now (log .entry)) (n .0) ⌝ }
 {
     let s = machine.state;
     match kind {
-        Runner::Plain => told(run_plain(rom, sched, s, log, n)),
-        Runner::Skipping => told(run_skipping(rom, sched, s, log, n)),
+        Runner::Plain => told(run_plain(rom, sched, s, log, n, sheet)),
+        Runner::Skipping => told(run_skipping(rom, sched, s, log, n, sheet)),
     }
 }
 
@@ -92,14 +94,15 @@ pub fn advance_from(
     log: &mut [u8],
     at: usize,
     n: MachineCycles,
+    sheet: Sheet,
 ) -> DriveAnswer
-    ensures { λ r. ⌜ broughtTo (r .report) (r .machine) (now (log .exit)) ≡ keptBefore at (now (log .entry)) (runAnswer upd546 (runnerKind kind) (now (rom .entry)) (now (sched .entry)) (machine .state) (drop at (now (log .entry))) (n .0)) ⌝ }
+    ensures { λ r. ⌜ broughtTo (r .report) (r .machine) (now (log .exit)) ≡ keptBefore at (now (log .entry)) (runAnswer (chip sheet) (runnerKind kind) (now (rom .entry)) (now (sched .entry)) (machine .state) (drop at (now (log .entry))) (n .0)) ⌝ }
 {
     let end = log.len();
     if end < at {
-        return advance(machine, kind, rom, sched, &mut log[end..], n);
+        return advance(machine, kind, rom, sched, &mut log[end..], n, sheet);
     }
-    advance(machine, kind, rom, sched, &mut log[at..], n)
+    advance(machine, kind, rom, sched, &mut log[at..], n, sheet)
 }
 
 // A run of n cycles by this runner brings the lent machine forward; a refused one leaves it as it was.
@@ -110,11 +113,12 @@ pub fn drive(
     sched: &[u8],
     log: &mut [u8],
     n: MachineCycles,
+    sheet: Sheet,
 ) -> Report
-    ensures { λ r. ⌜ broughtTo r (now (machine .exit)) (now (log .exit)) ≡ runAnswer upd546 (runnerKind kind) (now (rom .entry)) (now (sched .entry)) (now (machine .entry) .state) (now (log .entry)) (n .0) ⌝ }
+    ensures { λ r. ⌜ broughtTo r (now (machine .exit)) (now (log .exit)) ≡ runAnswer (chip sheet) (runnerKind kind) (now (rom .entry)) (now (sched .entry)) (now (machine .entry) .state) (now (log .entry)) (n .0) ⌝ }
 {
     let m = *machine;
-    let a = advance(m, kind, rom, sched, log, n);
+    let a = advance(m, kind, rom, sched, log, n, sheet);
     *machine = a.machine;
     a.report
 }

@@ -9,15 +9,14 @@ use Rattle.upd546.specs.declared.Core.{Core}
 use Rattle.upd546.specs.declared.Interrupt.{Interrupt}
 use Rattle.upd546.specs.declared.Timer.{Timer}
 use Rattle.upd546.specs.declared.State.{State}
-use Rattle.upd546.specs.TheMachine.{romLength}
+use Rattle.upd546.specs.declared.Sheet.{Sheet}
 use Rattle.upd546.specs.TheLineSchedule.{linesAt, noRecord}
 use Rattle.upd546.specs.Timer.{ticksLeft}
 use Rattle.upd546.specs.TwoRunners.{waitLength}
 use Rattle.tables.specs.Tables.{positionTable, registerTable}
 
 -- what a jump's length asks
-pub record Boundary (rom positions : List ℕ) (timer : Timer) : Type 0 where
-  pub rom-length : length rom ≡ romLength
+pub record Boundary (positions : List ℕ) (timer : Timer) : Type 0 where
   pub table : positions ≡ positionTable
   pub register : timer .register < 64
 
@@ -35,13 +34,13 @@ pub record Steady (sched : List ℕ) (n level left : ℕ) : Type 0 where
 
 -- the cycles that the next step jumps by document 01's conditions: of the timer-skipping runner where `skips` is true, else of the
 -- plain one
-abbrev pub jumpBy : Bool → List ℕ → List ℕ → State → ℕ → ℕ
-jumpBy false rom sched s left = 0
-jumpBy true rom sched s left = waitLength rom sched s left
+abbrev pub jumpBy : Bool → Sheet → List ℕ → List ℕ → State → ℕ → ℕ
+jumpBy false sheet rom sched s left = 0
+jumpBy true sheet rom sched s left = waitLength sheet rom sched s left
 
--- r is that number for every such state and schedule
+-- r is that number for every such state and schedule, and every sheet with a ROM of that length
 pub record JumpsBy (skips : Bool) (rom : List ℕ) (pc owed : ℕ) (interrupt : Interrupt) (timer : Timer) (level left r : ℕ) : Type 0 where
-  pub length-is : (sched : List ℕ) (s : State) → Shows s pc owed interrupt timer → Steady sched (s .cycle .0) level left → r ≡ jumpBy skips rom sched s left
+  pub length-is : (sheet : Sheet) → sheet .rom ≡ length rom → (sched : List ℕ) (s : State) → Shows s pc owed interrupt timer → Steady sched (s .cycle .0) level left → r ≡ jumpBy skips sheet rom sched s left
 
 -- the code of TTM where it is watched for, else what no byte is
 abbrev pub watchCode : Bool → ℕ

@@ -48,7 +48,7 @@ low-one-by-one sheet rom sched skips room m s z low _ _ _ _ (also {t} {u} {y} {d
     let n = steps-leave sheet rom sched t u x e q in
     record {
       one-by-one = also x e (k .one-by-one) (ordinary-cycle sheet rom sched t free ∙ q) f l
-      (λ h. jump-is-wait sheet rom sched t (m - d) free ∙ j h);
+          (λ h. jump-is-wait sheet rom sched t (m - d) free ∙ j h);
       uncounted = n .1 ∙ k .uncounted;
       rises = omega (arith, n .0, k .rises);
     }

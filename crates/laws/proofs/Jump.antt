@@ -294,7 +294,7 @@ module _ (sheet : Sheet) (rom sched : List ℕ) (s : State) (j : ℕ) (small : s
       let z : timerLeft (timer .tm) (ticksLeft timer) ≡ timerLeft 0 (ticksLeft timer) = ap (λ (x : ℕ). timerLeft x (ticksLeft timer)) (m .tm) in
       let t : timer ≡ timerLeft 0 (j + q) = running-left timer (m .runs) small ∙ z ∙ ap (timerLeft 0) a in
       subst (λ (k : ℕ). timer ≡ timerLeft 0 (k + q) → Level sched s k n
-          → unbroken (ordinary sheet) rom sched k s ≡ quietly k (atTtmAgain s q (n + k))) e
+      → unbroken (ordinary sheet) rom sched k s ≡ quietly k (atTtmAgain s q (n + k))) e
       (turns sheet rom sched (j / 2 - 1) q s (m .waits)) t (level-stays sched s j (m .level) between)
       ∙ ap (quietly j) (jumped-is s j (m .waits .owed) (m .tm))
 

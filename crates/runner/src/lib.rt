@@ -4,29 +4,33 @@ use runs::MachineCycles;
 use runs::Outcome;
 use runs::Refusal;
 use runs::RunEnd;
-use upd546::ROM_LENGTH;
 use upd546::RunAnswer;
+use upd546::Sheet;
 use upd546::State;
 ghost use mathlib.Core.Path.{_≡_};
 ghost use mathlib.Core.List.{List};
 ghost use Prim.Native.Nat.{ℕ};
 ghost use Rattle.runs.specs.Numbers.{outcomeNumber, refusalNumber};
 ghost use Rattle.runs.specs.TwoRunners.{refusedRun, runNumber, plain, skipping};
-ghost use Rattle.upd546.specs.TwoRunners.{upd546, answerOf};
+ghost use Rattle.upd546.specs.TwoRunners.{chip, answerOf};
 ghost use Rattle.turns.specs.Either.{runBy};
 
-// What refuses a run: 21, then the schedule, then the state, then 2.
-fn refusal(rom: &[u8], sched: &[u8], s: State, n: MachineCycles) -> Outcome
-    ensures { λ r. ⌜ outcomeNumber r ≡ runNumber upd546 (now (rom .entry)) (now (sched .entry)) s (n .0) ⌝ }
+// What refuses a run: 71, then 21, then the schedule, then the state, then 2.
+fn refusal(rom: &[u8], sched: &[u8], s: State, n: MachineCycles, sheet: Sheet) -> Outcome
+    ensures { λ r. ⌜ outcomeNumber r ≡ runNumber (chip sheet) (now (rom .entry)) (now (sched .entry)) s (n .0) ⌝ }
 {
-    if rom.len() != ROM_LENGTH {
+    let by_sheet = fields::check_sheet(sheet);
+    if runs::outcome_number(by_sheet) != 0 {
+        return by_sheet;
+    }
+    if rom.len() as u64 != sheet.rom {
         return Outcome::Refused(Refusal::RomLength);
     }
     let by_schedule = schedule::check(sched);
     if runs::outcome_number(by_schedule) != 0 {
         return by_schedule;
     }
-    let by_fields = fields::check(s);
+    let by_fields = fields::check(s, sheet);
     if runs::outcome_number(by_fields) != 0 {
         return by_fields;
     }
@@ -45,11 +49,13 @@ fn run_accepted(
     log: &mut [u8],
     n: u64,
     skips: bool,
+    sheet: Sheet,
 ) -> RunAnswer
-    requires { ⌜ runNumber upd546 (now rom) (now sched) s n ≡ 0 ⌝ }
-    ensures { λ r. ⌜ answerOf r (now (log .exit)) ≡ runBy skips (now (rom .entry)) (now (sched .entry)) s (now (log .entry)) n ⌝ }
+    requires { ⌜ runNumber (chip sheet) (now rom) (now sched) s n ≡ 0 ⌝ }
+    ensures { λ r. ⌜ answerOf r (now (log .exit)) ≡ runBy skips sheet (now (rom .entry)) (now (sched .entry)) s (now (log .entry)) n ⌝ }
 {
     let table = tables::instruction_table();
+    let rows = tables::row_table(sheet.rows as u8);
     let positions = tables::position_table();
     let registers = tables::register_table();
     let first = schedule::start(sched, s.cycle);
@@ -57,6 +63,7 @@ fn run_accepted(
         rom,
         sched,
         &table,
+        &rows,
         &positions,
         &registers,
         s,
@@ -64,6 +71,7 @@ fn run_accepted(
         log,
         n,
         skips,
+        sheet,
     )
 }
 
@@ -90,21 +98,29 @@ fn run(
     log: &mut [u8],
     n: MachineCycles,
     skips: bool,
+    sheet: Sheet,
 ) -> RunAnswer
-    ensures { λ r. ⌜ answerOf r (now (log .exit)) ≡ runBy skips (now (rom .entry)) (now (sched .entry)) s (now (log .entry)) (n .0) ⌝ }
+    ensures { λ r. ⌜ answerOf r (now (log .exit)) ≡ runBy skips sheet (now (rom .entry)) (now (sched .entry)) s (now (log .entry)) (n .0) ⌝ }
 {
-    let by = refusal(rom, sched, s, n);
+    let by = refusal(rom, sched, s, n, sheet);
     if let Outcome::Refused(why) = by {
         return refused(why, s);
     }
-    run_accepted(rom, sched, s, log, n.0, skips)
+    run_accepted(rom, sched, s, log, n.0, skips, sheet)
 }
 
 // THE PLAIN RUNNER.
-pub fn run_plain(rom: &[u8], sched: &[u8], s: State, log: &mut [u8], n: MachineCycles) -> RunAnswer
-    ensures { λ r. ⌜ answerOf r (now (log .exit)) ≡ plain upd546 (now (rom .entry)) (now (sched .entry)) s (now (log .entry)) (n .0) ⌝ }
+pub fn run_plain(
+    rom: &[u8],
+    sched: &[u8],
+    s: State,
+    log: &mut [u8],
+    n: MachineCycles,
+    sheet: Sheet,
+) -> RunAnswer
+    ensures { λ r. ⌜ answerOf r (now (log .exit)) ≡ plain (chip sheet) (now (rom .entry)) (now (sched .entry)) s (now (log .entry)) (n .0) ⌝ }
 {
-    run(rom, sched, s, log, n, false)
+    run(rom, sched, s, log, n, false, sheet)
 }
 
 // THE TIMER-SKIPPING RUNNER.
@@ -114,8 +130,9 @@ pub fn run_skipping(
     s: State,
     log: &mut [u8],
     n: MachineCycles,
+    sheet: Sheet,
 ) -> RunAnswer
-    ensures { λ r. ⌜ answerOf r (now (log .exit)) ≡ skipping upd546 (now (rom .entry)) (now (sched .entry)) s (now (log .entry)) (n .0) ⌝ }
+    ensures { λ r. ⌜ answerOf r (now (log .exit)) ≡ skipping (chip sheet) (now (rom .entry)) (now (sched .entry)) s (now (log .entry)) (n .0) ⌝ }
 {
-    run(rom, sched, s, log, n, true)
+    run(rom, sched, s, log, n, true, sheet)
 }

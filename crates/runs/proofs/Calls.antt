@@ -199,7 +199,7 @@ module _ {S : Type 0} (M : Machine S) where
   unfolding currentAnswer restoreAnswer currentNumber restoreNumber
   current-long bytes h =
       let within : (b : Bool) → b ≡ true
-          → firstOf (M .ownNumber ∷ unless b 31 ∷ M .imageNumber bytes ∷ []) ≡ firstOf (M .ownNumber ∷ M .imageNumber bytes ∷ [])
+      → firstOf (M .ownNumber ∷ unless b 31 ∷ M .imageNumber bytes ∷ []) ≡ firstOf (M .ownNumber ∷ M .imageNumber bytes ∷ [])
       = λ b e. first-under (M .ownNumber) _ _ (first-past _ _ (ap (λ (x : Bool). unless x 31) e)) in
       ap (λ (k : ℕ). got M k (M .ofImage bytes))
       (within (eqb (length bytes) (M .imageLength Two)) (eq-eqb (length bytes) (M .imageLength Two) h))

@@ -9,10 +9,12 @@ use schedule::Cursor;
 use tables::InstructionTable;
 use tables::PositionTable;
 use tables::RegisterTable;
+use tables::RowTable;
 use upd546::Core;
 use upd546::LATCHES;
 use upd546::RAM_WORDS;
 use upd546::RunAnswer;
+use upd546::Sheet;
 use upd546::State;
 ghost use mathlib.Core.Path.{_≡_};
 ghost use Prim.Native.Nat.{_-_, _*_, _≤_};
@@ -85,6 +87,7 @@ pub fn run_loop(
     rom: &[u8],
     sched: &[u8],
     table: &InstructionTable,
+    rows: &RowTable,
     positions: &PositionTable,
     registers: &RegisterTable,
     s: State,
@@ -92,9 +95,10 @@ pub fn run_loop(
     log: &mut [u8],
     n: u64,
     skips: bool,
+    sheet: Sheet,
 ) -> RunAnswer
-    requires { ⌜ Set (now rom) (now sched) (now table) (now positions) (now registers) s first n ⌝ }
-    ensures { λ r. ⌜ answerOf r (now (log .exit)) ≡ runBy skips (now (rom .entry)) (now (sched .entry)) s (now (log .entry)) n ⌝ }
+    requires { ⌜ Set sheet (now rom) (now sched) (now table) (now rows) (now positions) (now registers) s first n ⌝ }
+    ensures { λ r. ⌜ answerOf r (now (log .exit)) ≡ runBy skips sheet (now (rom .entry)) (now (sched .entry)) s (now (log .entry)) n ⌝ }
 {
     let start = s.cycle.0;
     let end = start + n;
@@ -146,6 +150,7 @@ pub fn run_loop(
                     rom,
                     sched,
                     table,
+                    rows,
                     positions,
                     registers,
                     core,
@@ -158,6 +163,7 @@ pub fn run_loop(
                     limit,
                     begun,
                     skips,
+                    sheet,
                 );
                 if o.stop != 0 {
                     let stop = RunEnd::Stopped(stop_of(o.stop));

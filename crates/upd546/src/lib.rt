@@ -8,6 +8,7 @@ use runs::Outcome;
 use runs::RunEnd;
 ghost use mathlib.Core.Path.{_≡_};
 ghost use Rattle.upd546.specs.TheMachine.{fresh};
+ghost use Rattle.upd546.specs.TheSheet.{upd546Sheet};
 
 // The sizes of the chip, which hold what the largest of its family has. `romLength`, `ramLength`, `stackDepth` and `latches` are the
 // same numbers; the image's are in `layout`.
@@ -134,6 +135,17 @@ pub struct RunAnswer {
 pub struct RestoreAnswer {
     pub outcome: Outcome,
     pub state: State,
+}
+
+// The old figures: document 01's chip.
+pub fn upd546_sheet() -> Sheet
+    ensures { λ r. ⌜ r ≡ upd546Sheet ⌝ }
+{
+    Sheet {
+        rom: 2000,
+        rows: 31,
+        levels: 3,
+    }
 }
 
 // The fresh state.
