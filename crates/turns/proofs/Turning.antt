@@ -86,7 +86,8 @@ pub record At (sheet : Sheet) (skips : Bool) (rom sched log₀ : List ℕ) (n : 
   pub place : p .at ≡ length w
   pub room : length w ≤ length log₀
   pub log-is : p .log ≡ w ++ drop (length w) log₀
-  pub half : Halfway (chip sheet) rom sched skips (whole sheet skips rom sched log₀ n s) (length log₀) (stateAt p c) w (p .number - s .cycle .0) (p .begun)
+  pub half : Halfway (chip sheet) rom sched skips (whole sheet skips rom sched log₀ n s) (length log₀) (stateAt p c) w
+      (p .number - s .cycle .0) (p .begun)
       (p .number - s .cycle .0 - p .spared) (s .cycle .0 + n - p .number)
 
 -- RES is low, and nothing is counted
@@ -102,7 +103,8 @@ pub record Window (sheet : Sheet) (rom sched : List ℕ) (l : Lines) (from end l
   pub next : counted (l .res) before ≡ after
   pub no-reset : from < limit → after ≡ resetCount → ⊥
   pub single : (Quiet l before → ⊥) → limit ≤ from + 1
-  pub cut : Quiet l before → (t : State) → from ≤ t .cycle .0 → t .cycle .0 < limit → jumpLength sheet rom sched t (end - t .cycle .0) ≡ jumpLength sheet rom sched t (limit - t .cycle .0)
+  pub cut : Quiet l before → (t : State) → from ≤ t .cycle .0 → t .cycle .0 < limit
+      → jumpLength sheet rom sched t (end - t .cycle .0) ≡ jumpLength sheet rom sched t (limit - t .cycle .0)
   pub ahead : from ≤ limit
   pub in-run : limit ≤ end
   pub in-limit : end ≤ cycleLimit
@@ -125,7 +127,8 @@ quiet-or l before {P} f g = go (eqb (l .res) 0) refl (eqb before 0) refl
     go true e false h = g (λ q. eqb-false before 0 h (q .1))
     go false e y h = g (λ q. eqb-false (l .res) 0 e (q .0))
 
-module _ {sheet : Sheet} {rom sched : List ℕ} {l : Lines} {from end limit before after : ℕ} (v : Window sheet rom sched l from end limit before after) where
+module _ {sheet : Sheet} {rom sched : List ℕ} {l : Lines} {from end limit before after : ℕ}
+    (v : Window sheet rom sched l from end limit before after) where
   -- where two cycles are left, nothing is counted
   more-quiet : (number : ℕ) → from ≤ number → number + 1 < limit → Quiet l before
   more-quiet number p q = quiet-or l before (λ z. z) (λ z. absurd (omega (arith, v .single z)))
@@ -145,7 +148,8 @@ module _ {sheet : Sheet} {rom sched : List ℕ} {l : Lines} {from end limit befo
       go false e = refl
 
 -- up to the next record, or to the end of the run
-module _ (sheet : Sheet) (rom sched : List ℕ) (accepted : scheduleNumber sched ≡ 0) (cursor : Cursor) (from end : ℕ) (more : from < end) (small : end ≤ cycleLimit)
+module _ (sheet : Sheet) (rom sched : List ℕ) (accepted : scheduleNumber sched ≡ 0) (cursor : Cursor) (from end : ℕ) (more : from < end)
+    (small : end ≤ cycleLimit)
     (k : Stands sched from cursor) where
   record-ahead : from < cursor .next
   record-ahead =
@@ -174,7 +178,8 @@ module _ (sheet : Sheet) (rom sched : List ℕ) (accepted : scheduleNumber sched
         cut = λ y t p q.
             let c = t .cycle .0 in
             let least : min (end - c) (cursor .next - c) ≡ limit - c = omega (arith, e) in
-            jump-length-cut sheet rom sched t (end - c) (cursor .next - c) (λ j h. no-record sched accepted c (c + j) cursor (there most c p q) (omega (arith, e, h, q)))
+            jump-length-cut sheet rom sched t (end - c) (cursor .next - c)
+            (λ j h. no-record sched accepted c (c + j) cursor (there most c p q) (omega (arith, e, h, q)))
             (λ j h m. some-record sched accepted c (c + j) cursor (there most c p q) (omega (arith, h)) (omega (arith, m)))
             ∙ ap (jumpLength sheet rom sched t) least;
         ahead = omega (arith, limit-ahead e);
@@ -200,7 +205,8 @@ module _ (sheet : Sheet) (rom sched : List ℕ) (accepted : scheduleNumber sched
       }
 
   -- none, where reset cycles were done up to the limit
-  pub none-left : {limit before : ℕ} → limit ≤ end → Window sheet rom sched (cursor .lines) limit end limit before (counted (cursor .lines .res) before)
+  pub none-left : {limit before : ℕ} → limit ≤ end
+      → Window sheet rom sched (cursor .lines) limit end limit before (counted (cursor .lines .res) before)
   none-left m = record {
     lines = λ i p q. absurd (omega arith);
     no-record = λ i p q. absurd (omega arith);
@@ -228,9 +234,11 @@ record Kept (s t : State) (d b m : ℕ) : Type 0 where
   few : b ≤ d
   within-run : d ≤ m
 
-singly-keeps : (sheet : Sheet) (rom sched : List ℕ) (skips : Bool) (room m : ℕ) (s : State) → Panel (chip sheet) rom sched → Valid s → s .cycle .0 + m ≤ cycleLimit
+singly-keeps : (sheet : Sheet) (rom sched : List ℕ) (skips : Bool) (room m : ℕ) (s : State) → Panel (chip sheet) rom sched → Valid s
+    → s .cycle .0 + m ≤ cycleLimit
     → (t : State) (w : List ℕ) (d b : ℕ) → OneByOne (chip sheet) rom sched skips room m s t w d b → Kept s t d b m
-singly-keeps sheet rom sched skips room m s p v h _ _ _ _ no-cycle = record { valid = v; rises = omega arith; few = omega arith; within-run = omega arith }
+singly-keeps sheet rom sched skips room m s p v h _ _ _ _ no-cycle =
+    record { valid = v; rises = omega arith; few = omega arith; within-run = omega arith }
 singly-keeps sheet rom sched skips room m s p v h _ _ _ _ (also {t} {u} {y} {d} {a} x e o q f l z) =
     let k = singly-keeps sheet rom sched skips room m s p v h t y d a o in
     let few = legal-sheet sheet (p .legal) .level-most in
@@ -240,9 +248,12 @@ singly-keeps sheet rom sched skips room m s p v h _ _ _ _ (also {t} {u} {y} {d} 
     record { valid = c .valid; rises = omega (arith, c .rises, k .rises); few = omega (arith, k .few, one); within-run = omega arith }
 
 -- and are cycles of a longer run, where it jumps as the shorter one does
-longer : (sheet : Sheet) (rom sched : List ℕ) (skips : Bool) (room m m′ : ℕ) (s : State) → Panel (chip sheet) rom sched → Valid s → s .cycle .0 + m ≤ cycleLimit → m ≤ m′
-    → ((t : State) (d : ℕ) → t .cycle .0 ≡ s .cycle .0 + d → d < m → jumpLength sheet rom sched t (m - d) ≡ 0 → jumpLength sheet rom sched t (m′ - d) ≡ 0)
-    → (t : State) (w : List ℕ) (d b : ℕ) → OneByOne (chip sheet) rom sched skips room m s t w d b → OneByOne (chip sheet) rom sched skips room m′ s t w d b
+longer : (sheet : Sheet) (rom sched : List ℕ) (skips : Bool) (room m m′ : ℕ) (s : State) → Panel (chip sheet) rom sched → Valid s
+    → s .cycle .0 + m ≤ cycleLimit → m ≤ m′
+    → ((t : State) (d : ℕ) → t .cycle .0 ≡ s .cycle .0 + d → d < m → jumpLength sheet rom sched t (m - d) ≡ 0
+    → jumpLength sheet rom sched t (m′ - d) ≡ 0)
+    → (t : State) (w : List ℕ) (d b : ℕ) → OneByOne (chip sheet) rom sched skips room m s t w d b
+    → OneByOne (chip sheet) rom sched skips room m′ s t w d b
 longer sheet rom sched skips room m m′ s p v h g c _ _ _ _ no-cycle = no-cycle
 longer sheet rom sched skips room m m′ s p v h g c _ _ _ _ (also {t} {u} {y} {d} {a} x e o q f l z) =
     let k = singly-keeps sheet rom sched skips room m s p v h t y d a o in
@@ -250,7 +261,8 @@ longer sheet rom sched skips room m m′ s p v h g c _ _ _ _ (also {t} {u} {y} {
 
 -- what either runner answers, of the whole run
 run-by : (sheet : Sheet) (skips : Bool) (rom sched log : List ℕ) (n : ℕ) (s : State)
-    → runBy skips sheet rom sched s log n ≡ told (chip sheet) (runNumber (chip sheet) rom sched s n) (whole sheet skips rom sched log n s) s log
+    → runBy skips sheet rom sched s log n
+    ≡ told (chip sheet) (runNumber (chip sheet) rom sched s n) (whole sheet skips rom sched log n s) s log
 unfolding plain skipping
 run-by sheet false rom sched log n s = refl
 run-by sheet true rom sched log n s = refl
@@ -282,8 +294,10 @@ left-more : (end number d : ℕ) → end - number - d ≡ end - (number + d)
 left-more end number d = omega arith
 
 -- THE START
-pub starts : (sheet : Sheet) (skips : Bool) (rom sched log : List ℕ) (n : ℕ) (s : State) → runNumber (chip sheet) rom sched s n ≡ 0 → Bytes rom → Bytes sched
-    → At sheet skips rom sched log n s (record { core = s .core; ram = s .ram; ports = s .ports; log = log; at = 0; number = s .cycle .0; begun = 0; spared = 0 }) (s .count)
+pub starts : (sheet : Sheet) (skips : Bool) (rom sched log : List ℕ) (n : ℕ) (s : State) → runNumber (chip sheet) rom sched s n ≡ 0
+    → Bytes rom → Bytes sched
+    → At sheet skips rom sched log n s
+    (record { core = s .core; ram = s .ram; ports = s .ports; log = log; at = 0; number = s .cycle .0; begun = 0; spared = 0 }) (s .count)
 starts sheet skips rom sched log n s e br bs =
     let none-done : s .cycle .0 - s .cycle .0 ≡ 0 = omega arith in
     let no-step : s .cycle .0 - s .cycle .0 - 0 ≡ 0 = omega arith in
@@ -304,10 +318,12 @@ starts sheet skips rom sched log n s e br bs =
       half = half-at (s .cycle .0 - s .cycle .0) (s .cycle .0 - s .cycle .0 - 0) (s .cycle .0 + n - s .cycle .0) none-done no-step all-left;
     }
   where
-    half-at : (c k m : ℕ) → c ≡ 0 → k ≡ 0 → m ≡ n → Halfway (chip sheet) rom sched skips (whole sheet skips rom sched log n s) (length log) s [] c 0 k m
+    half-at : (c k m : ℕ) → c ≡ 0 → k ≡ 0 → m ≡ n
+        → Halfway (chip sheet) rom sched skips (whole sheet skips rom sched log n s) (length log) s [] c 0 k m
     half-at c k m x y z = rw (x, y, z) (loop-starts (chip sheet) rom sched skips (length log) n s)
 
-module _ {sheet : Sheet} {skips : Bool} {rom sched log₀ : List ℕ} {n : ℕ} {s : State} {p : Place} {c : ℕ} (h : At sheet skips rom sched log₀ n s p c) where
+module _ {sheet : Sheet} {skips : Bool} {rom sched log₀ : List ℕ} {n : ℕ} {s : State} {p : Place} {c : ℕ}
+    (h : At sheet skips rom sched log₀ n s p c) where
   taken : Taken sheet rom sched s n
   taken = run-taken sheet rom sched s n (h .not-refused)
 
@@ -333,7 +349,8 @@ module _ {sheet : Sheet} {skips : Bool} {rom sched log₀ : List ℕ} {n : ℕ} 
   done = p .number - s .cycle .0
 
   -- what is answered, where the run came to so much
-  tells : (o : Option ℕ) → whole sheet skips rom sched log₀ n s ≡ record { ran = sofar (stateAt p c) (h .w) done (p .begun) o; steps = done - p .spared }
+  tells : (o : Option ℕ)
+      → whole sheet skips rom sched log₀ n s ≡ record { ran = sofar (stateAt p c) (h .w) done (p .begun) o; steps = done - p .spared }
       → record { end = endWith o; state = stateAt p c; cycles = done; clocks = 4 * done; begun = p .begun; written = p .at; steps = done - p .spared; log = p .log }
       ≡ runBy skips sheet rom sched s log₀ n
   tells o e = rw (run-by sheet skips rom sched log₀ n s, h .not-refused, e, h .place, h .log-is)
@@ -343,22 +360,28 @@ module _ {sheet : Sheet} {skips : Bool} {rom sched log₀ : List ℕ} {n : ℕ} 
       ≡ runBy skips sheet rom sched s log₀ n
   finishes g =
       let z : s .cycle .0 + n - p .number ≡ 0 = omega (arith, h .not-past) in
-      tells none (loop-ends (chip sheet) rom sched skips _ (length log₀) (stateAt p c) (h .w) done (p .begun) (done - p .spared) (rw z at (h .half)))
+      tells none (loop-ends (chip sheet) rom sched skips _ (length log₀) (stateAt p c) (h .w) done (p .begun) (done - p .spared)
+      (rw z at (h .half)))
 
   -- CYCLES ONE BY ONE lead on
   abbrev left : ℕ
   left = s .cycle .0 + n - p .number
 
-  module _ (q : Place) {c′ : ℕ} {x : List ℕ} {d b : ℕ} (steps : OneByOne (chip sheet) rom sched skips (length (p .log) - p .at) left (stateAt p c) (stateAt q c′) x d b) where
+  module _ (q : Place) {c′ : ℕ} {x : List ℕ} {d b : ℕ}
+      (steps : OneByOne (chip sheet) rom sched skips (length (p .log) - p .at) left (stateAt p c) (stateAt q c′) x d b) where
     fits : length x ≤ length (p .log) - p .at
     fits = room-kept steps
       where
-        room-kept : {t : State} {w : List ℕ} {d b : ℕ} → OneByOne (chip sheet) rom sched skips (length (p .log) - p .at) left (stateAt p c) t w d b → length w ≤ length (p .log) - p .at
+        room-kept : {t : State} {w : List ℕ} {d b : ℕ}
+            → OneByOne (chip sheet) rom sched skips (length (p .log) - p .at) left (stateAt p c) t w d b
+            → length w ≤ length (p .log) - p .at
         room-kept no-cycle = omega arith
         room-kept (also x e o q f l z) = f
 
     kept : Kept (stateAt p c) (stateAt q c′) d b left
-    kept = singly-keeps sheet rom sched skips (length (p .log) - p .at) left (stateAt p c) panel (h .valid) (omega (arith, limit-kept, h .not-past)) (stateAt q c′) x d b steps
+    kept =
+        singly-keeps sheet rom sched skips (length (p .log) - p .at) left (stateAt p c) panel (h .valid)
+        (omega (arith, limit-kept, h .not-past)) (stateAt q c′) x d b steps
 
     pub goes-by : q .begun ≡ p .begun + b → q .spared ≡ p .spared → q .at ≡ p .at + length x → q .log ≡ take (p .at) (p .log) ++ x ++ drop (p .at + length x) (p .log)
         → At sheet skips rom sched log₀ n s q c′
@@ -375,7 +398,8 @@ module _ {sheet : Sheet} {skips : Bool} {rom sched log₀ : List ℕ} {n : ℕ} 
         let y = steps-more done (p .spared) d (h .less) ∙ ap₂ (λ (i j : ℕ). i - j) e (sym spared-is) in
         let m = left-more (s .cycle .0 + n) (p .number) d ∙ ap (λ (i : ℕ). s .cycle .0 + n - i) (sym cycle-is) in
         let room-same : length (p .log) - p .at ≡ length log₀ - length (h .w) = omega (arith, log-length, h .place) in
-        let half = loop-goes-singly (chip sheet) rom sched skips _ (length log₀) (stateAt p c) (h .w) done (p .begun) (done - p .spared) left (h .half) (rw room-same at steps) in
+        let half = loop-goes-singly (chip sheet) rom sched skips _ (length log₀) (stateAt p c) (h .w) done (p .begun)
+        (done - p .spared) left (h .half) (rw room-same at steps) in
         record {
           w = h .w ++ x;
           not-refused = h .not-refused;
@@ -405,13 +429,16 @@ module _ {sheet : Sheet} {skips : Bool} {rom sched log₀ : List ℕ} {n : ℕ} 
 
   stops-with : p .number < s .cycle .0 + n → (skips ≡ true → jumpLength sheet rom sched (stateAt p c) left ≡ 0) → (k : ℕ)
       → within (chip sheet) rom sched (length (p .log) - p .at) 1 (stateAt p c) ≡ still (stateAt p c) (some k)
-      → whole sheet skips rom sched log₀ n s ≡ record { ran = sofar (stateAt p c) (h .w) done (p .begun) (some k); steps = done - p .spared }
+      → whole sheet skips rom sched log₀ n s
+      ≡ record { ran = sofar (stateAt p c) (h .w) done (p .begun) (some k); steps = done - p .spared }
   stops-with m z k e =
       let room-same : length (p .log) - p .at ≡ length log₀ - length (h .w) = omega (arith, log-length, h .place) in
-      loop-stops (chip sheet) rom sched skips _ (length log₀) (stateAt p c) (h .w) done (p .begun) (done - p .spared) (left - 1) (rw (one-more m) at (h .half)) k
+      loop-stops (chip sheet) rom sched skips _ (length log₀) (stateAt p c) (h .w) done (p .begun) (done - p .spared) (left - 1)
+      (rw (one-more m) at (h .half)) k
       (ap₂ (λ (room j : ℕ). within (chip sheet) rom sched room j (stateAt p c)) (sym room-same) (span skips z) ∙ e)
     where
-      span : (b : Bool) → (b ≡ true → jumpLength sheet rom sched (stateAt p c) left ≡ 0) → spanOf (chip sheet) rom sched b (stateAt p c) (suc (left - 1)) ≡ 1
+      span : (b : Bool) → (b ≡ true → jumpLength sheet rom sched (stateAt p c) left ≡ 0)
+          → spanOf (chip sheet) rom sched b (stateAt p c) (suc (left - 1)) ≡ 1
       span false y = refl
       span true y = ap strideOf (rw (one-more m) at (y refl))
 
@@ -457,12 +484,14 @@ module _ {sheet : Sheet} {skips : Bool} {rom sched log₀ : List ℕ} {n : ℕ} 
     jump-there : Quiet l c → jumpLength sheet rom sched (stateAt p c) left ≡ waitLength sheet rom sched (bare p) (limit - p .number)
     jump-there q =
         v .cut q (stateAt p c) since more
-        ∙ jump-is-wait sheet rom sched (stateAt p c) (limit - p .number) (record { low = ap (λ (x : Lines). x .res) lines-here ∙ q .0; none = q .1 })
+        ∙ jump-is-wait sheet rom sched (stateAt p c) (limit - p .number)
+        (record { low = ap (λ (x : Lines). x .res) lines-here ∙ q .0; none = q .1 })
         ∙ bare-wait
 
     -- A JUMP of j cycles
     module _ {j : ℕ} (ahead : j ≡ jumpBy skips sheet rom sched (bare p) (limit - p .number)) (some-ahead : j ≡ 0 → ⊥) where
-      wait-is : (b : Bool) → j ≡ jumpBy b sheet rom sched (bare p) (limit - p .number) → waitLength sheet rom sched (bare p) (limit - p .number) ≡ j
+      wait-is : (b : Bool) → j ≡ jumpBy b sheet rom sched (bare p) (limit - p .number)
+          → waitLength sheet rom sched (bare p) (limit - p .number) ≡ j
       wait-is false e = absurd (some-ahead e)
       wait-is true e = sym e
 
@@ -485,7 +514,8 @@ module _ {sheet : Sheet} {skips : Bool} {rom sched log₀ : List ℕ} {n : ℕ} 
       stride-same zero m = absurd (m refl)
       stride-same (suc i) m = refl
 
-      jump-span : (b : Bool) → j ≡ jumpBy b sheet rom sched (bare p) (limit - p .number) → j ≡ spanOf (chip sheet) rom sched b (stateAt p c) (suc (left - 1))
+      jump-span : (b : Bool) → j ≡ jumpBy b sheet rom sched (bare p) (limit - p .number)
+          → j ≡ spanOf (chip sheet) rom sched b (stateAt p c) (suc (left - 1))
       jump-span false e = absurd (some-ahead e)
       jump-span true e = sym (stride-same j some-ahead) ∙ ap strideOf (sym (rw (one-more in-run) at jump-is))
 
@@ -519,8 +549,10 @@ module _ {sheet : Sheet} {skips : Bool} {rom sched log₀ : List ℕ} {n : ℕ} 
           let e : done + j ≡ p .number + j - s .cycle .0 = omega (arith, h .from) in
           let k = steps-after done (p .spared) j (h .less) (z .4) ∙ ap (λ (i : ℕ). i - (p .spared + (j - 1))) e in
           let m = left-after (s .cycle .0 + n) (p .number) j in-run in
-          let half = loop-goes (chip sheet) rom sched skips _ (length log₀) (stateAt p c) (h .w) done (p .begun) (done - p .spared) (left - 1) (rw (one-more in-run) at (h .half)) (stateAfterJump j (stateAt p c)) [] j j
-          (jump-span skips ahead) (z .4) (jump-in-room sheet rom sched (stateAt p c) left j jump-is some-ahead (h .valid) (length log₀ - length (h .w))) in
+          let half = loop-goes (chip sheet) rom sched skips _ (length log₀) (stateAt p c) (h .w) done (p .begun) (done - p .spared)
+          (left - 1) (rw (one-more in-run) at (h .half)) (stateAfterJump j (stateAt p c)) [] j j
+          (jump-span skips ahead) (z .4)
+          (jump-in-room sheet rom sched (stateAt p c) left j jump-is some-ahead (h .valid) (length log₀ - length (h .w))) in
           rw (quiet-after v quiet, q)
           (record {
             w = h .w;
@@ -540,7 +572,8 @@ module _ {sheet : Sheet} {skips : Bool} {rom sched log₀ : List ℕ} {n : ℕ} 
 
     -- A TURN
     module _ (no-jump : 0 ≡ jumpBy skips sheet rom sched (bare p) (limit - p .number)) where
-      none-ahead : (b : Bool) → 0 ≡ jumpBy b sheet rom sched (bare p) (limit - p .number) → b ≡ true → waitLength sheet rom sched (bare p) (limit - p .number) ≡ 0
+      none-ahead : (b : Bool) → 0 ≡ jumpBy b sheet rom sched (bare p) (limit - p .number) → b ≡ true
+          → waitLength sheet rom sched (bare p) (limit - p .number) ≡ 0
       none-ahead false e q = absurd (differ q)
       none-ahead true e q = sym e
 
@@ -570,7 +603,8 @@ module _ {sheet : Sheet} {skips : Bool} {rom sched log₀ : List ℕ} {n : ℕ} 
       jump-none e =
           quiet-or l c (λ q. jump-there q ∙ none-ahead skips no-jump e) (λ q. counted-no-jump sheet rom sched (stateAt p c) left (counts q))
 
-      module _ {r : Stretch} {ram ports log′ : List ℕ} (k : Turned sheet skips rom sched limit (bare p) (p .log) (p .at) (p .begun) r ram ports log′) where
+      module _ {r : Stretch} {ram ports log′ : List ℕ}
+          (k : Turned sheet skips rom sched limit (bare p) (p .log) (p .at) (p .begun) r ram ports log′) where
         -- that is begun not at all
         module _ (g : r .stop ≡ 0 → ⊥) where
           -- the answer of a run that stops here
@@ -579,7 +613,9 @@ module _ {sheet : Sheet} {skips : Bool} {rom sched log₀ : List ℕ} {n : ℕ} 
               ≡ runBy skips sheet rom sched s log₀ n
           stops q =
               let o = k .held g in
-              answer-stopped in-run jump-none (r .stop) (counted-stops sheet rom sched (bare p) c none-due (length (p .log) - p .at) (r .stop) (o .stops)) q (o .ram-is) (o .ports-is) (o .log-is)
+              answer-stopped in-run jump-none (r .stop)
+              (counted-stops sheet rom sched (bare p) c none-due (length (p .log) - p .at) (r .stop) (o .stops)) q (o .ram-is) (o .ports-is)
+              (o .log-is)
 
           -- the log is as long as it was
           pub stop-length : length log′ ≡ length log₀
@@ -593,14 +629,18 @@ module _ {sheet : Sheet} {skips : Bool} {rom sched log₀ : List ℕ} {n : ℕ} 
           here = record { core = r .core; ram = ram; ports = ports; log = log′; at = r .at; number = r .cycle; begun = r .begun; spared = p .spared }
 
           abbrev To : ℕ → ℕ → Type 0
-          To i j = OneByOne (chip sheet) rom sched skips (length (p .log) - p .at) left (stateAt p i) (stateAt here j) (k .went g .w) (k .went g .d) (k .went g .b)
+          To i j =
+              OneByOne (chip sheet) rom sched skips (length (p .log) - p .at) left (stateAt p i) (stateAt here j) (k .went g .w)
+              (k .went g .d) (k .went g .b)
 
           -- nothing is counted
           steps-low : Quiet l c → To c after
           steps-low q =
               let o = k .went g in
-              let y = low-one-by-one sheet rom sched skips (length (p .log) - p .at) (limit - p .number) (bare p) refl low (bare here) (o .w) (o .d) (o .b) (o .steps) in
-              let z = longer sheet rom sched skips (length (p .log) - p .at) (limit - p .number) left (bare p) panel bare-valid (omega (arith, more, v .in-run, v .in-limit))
+              let y = low-one-by-one sheet rom sched skips (length (p .log) - p .at) (limit - p .number) (bare p) refl low (bare here)
+              (o .w) (o .d) (o .b) (o .steps) in
+              let z = longer sheet rom sched skips (length (p .log) - p .at) (limit - p .number) left (bare p) panel bare-valid
+              (omega (arith, more, v .in-run, v .in-limit))
               (omega (arith, v .in-run)) cut-at (bare here) (o .w) (o .d) (o .b) (y .one-by-one) in
               recount (q .1) (quiet-after v q ∙ q .1) z
             where
@@ -610,20 +650,24 @@ module _ {sheet : Sheet} {skips : Bool} {rom sched log₀ : List ℕ} {n : ℕ} 
               low : (i : ℕ) → i < limit - p .number → linesAt sched (p .number + i) .res ≡ 0
               low i e = ap (λ (x : Lines). x .res) (v .lines (p .number + i) (omega (arith, since)) (omega (arith, e, more))) ∙ q .0
 
-              cut-at : (t : State) (d : ℕ) → t .cycle .0 ≡ p .number + d → d < limit - p .number → jumpLength sheet rom sched t (limit - p .number - d) ≡ 0
+              cut-at : (t : State) (d : ℕ) → t .cycle .0 ≡ p .number + d → d < limit - p .number
+                  → jumpLength sheet rom sched t (limit - p .number - d) ≡ 0
                   → jumpLength sheet rom sched t (left - d) ≡ 0
               cut-at t d e y z =
                   let a : left - d ≡ s .cycle .0 + n - t .cycle .0 = omega (arith, e) in
                   let b : limit - t .cycle .0 ≡ limit - p .number - d = omega (arith, e) in
-                  ap (jumpLength sheet rom sched t) a ∙ v .cut q t (omega (arith, e, since)) (omega (arith, e, y)) ∙ ap (jumpLength sheet rom sched t) b ∙ z
+                  ap (jumpLength sheet rom sched t) a ∙ v .cut q t (omega (arith, e, since)) (omega (arith, e, y))
+                  ∙ ap (jumpLength sheet rom sched t) b ∙ z
 
           -- one cycle is
           steps-counted : (Quiet l c → ⊥) → To c after
           steps-counted q =
               let o = k .went g in
               let one : limit - p .number ≡ 1 = omega (arith, v .single q, since, more) in
-              let z = counted-one sheet rom sched (bare p) c none-due skips (length (p .log) - p .at) left (counts q) (omega (arith, in-run)) (bare here) (o .w) (o .d) (o .b) (o .some-cycles)
-              (subst (λ (i : ℕ). OneByOne (ordinary sheet) rom sched skips (length (p .log) - p .at) i (bare p) (bare here) (o .w) (o .d) (o .b)) one (o .steps)) in
+              let z = counted-one sheet rom sched (bare p) c none-due skips (length (p .log) - p .at) left (counts q)
+              (omega (arith, in-run)) (bare here) (o .w) (o .d) (o .b) (o .some-cycles)
+              (subst (λ (i : ℕ). OneByOne (ordinary sheet) rom sched skips (length (p .log) - p .at) i (bare p) (bare here) (o .w) (o .d)
+              (o .b)) one (o .steps)) in
               subst (To c) (ap (λ (x : Lines). counted (x .res) c) lines-here ∙ v .next) (z .1)
 
           -- it leads on, and not past the limit
@@ -632,7 +676,8 @@ module _ {sheet : Sheet} {skips : Bool} {rom sched log₀ : List ℕ} {n : ℕ} 
               let o = k .went g in
               (omega (arith, o .cycle-is, o .some-cycles), omega (arith, o .cycle-is, at-most (o .steps), more))
             where
-              at-most : {t : State} {w : List ℕ} {d b m : ℕ} → OneByOne (ordinary sheet) rom sched skips (length (p .log) - p .at) m (bare p) t w d b → d ≤ m
+              at-most : {t : State} {w : List ℕ} {d b m : ℕ}
+                  → OneByOne (ordinary sheet) rom sched skips (length (p .log) - p .at) m (bare p) t w d b → d ≤ m
               at-most no-cycle = omega arith
               at-most (also x e o q f l z) = omega arith
 
@@ -664,9 +709,11 @@ module _ {sheet : Sheet} {skips : Bool} {rom sched log₀ : List ℕ} {n : ℕ} 
     resets-on f =
         let j = limit - p .number - 1 in
         let e : p .number + suc j ≡ limit = omega arith in
-        let steps = held-resets sheet rom sched l (stateAt p c) reset-due high skips (length (p .log) - p .at) left j f (omega arith) (λ i q. lines (p .number + i) (omega arith) (omega (arith, q))) in
+        let steps = held-resets sheet rom sched l (stateAt p c) reset-due high skips (length (p .log) - p .at) left j f (omega arith)
+        (λ i q. lines (p .number + i) (omega arith) (omega (arith, q))) in
         goes-by reset-to
-        (subst (λ (i : ℕ). OneByOne (chip sheet) rom sched skips (length (p .log) - p .at) left (stateAt p c) (withCount resetCount (stateOf (reset-to .core) (p .ram) (replicate latches 0) i)) (resetBytes (stateAt p c)) (suc j) 0) e steps)
+        (subst (λ (i : ℕ). OneByOne (chip sheet) rom sched skips (length (p .log) - p .at) left (stateAt p c)
+        (withCount resetCount (stateOf (reset-to .core) (p .ram) (replicate latches 0) i)) (resetBytes (stateAt p c)) (suc j) 0) e steps)
         (omega arith) refl refl refl
 
     pub reset-stopped : length (p .log) - p .at < length (records (p .number) c) → {state : State} {ram ports log : List ℕ}
@@ -676,29 +723,38 @@ module _ {sheet : Sheet} {skips : Bool} {rom sched log₀ : List ℕ} {n : ℕ} 
     reset-stopped f =
         let other : c ≡ resetCount → ⊥ = λ z. omega (arith, f, ap length (records-none (p .number) c z)) in
         let room : length (p .log) - p .at < logRecordLength = omega (arith, f, ap length (records-one (p .number) c other)) in
-        answer-stopped (omega (arith, more, in-run)) (λ z. counted-no-jump sheet rom sched (stateAt p c) left (λ u. high (ap (λ (x : Lines). x .res) (sym (lines (p .number) (omega arith) more)) ∙ u .low))) 3
+        answer-stopped (omega (arith, more, in-run))
+        (λ z. counted-no-jump sheet rom sched (stateAt p c) left
+        (λ u. high (ap (λ (x : Lines). x .res) (sym (lines (p .number) (omega arith) more)) ∙ u .low))) 3
         (reset-stops sheet rom sched (stateAt p c) reset-due (length (p .log) - p .at) other room)
 
 -- THE LOOPS' INVARIANTS
 
 -- by records: the loop stands at p with this count, and the cursor at its cycle
-pub record ByRecords (sheet : Sheet) (skips : Bool) (rom sched log₀ : List ℕ) (n : ℕ) (s : State) (cursor : Cursor) (p : Place) (c : ℕ) : Type 0 where
+pub record ByRecords (sheet : Sheet) (skips : Bool) (rom sched log₀ : List ℕ) (n : ℕ) (s : State) (cursor : Cursor) (p : Place)
+    (c : ℕ) : Type 0 where
   pub at : At sheet skips rom sched log₀ n s p c
   pub stands : Stands sched (p .number) cursor
 
 -- once the reset line was looked at: the loop by records stood at cycle `from`, and stands at p
-pub record Entered (sheet : Sheet) (skips : Bool) (rom sched log₀ : List ℕ) (n : ℕ) (s : State) (cursor : Cursor) (from : ℕ) (p : Place) (limit before after : ℕ) : Type 0 where
+pub record Entered (sheet : Sheet) (skips : Bool) (rom sched log₀ : List ℕ) (n : ℕ) (s : State) (cursor : Cursor) (from : ℕ) (p : Place)
+    (limit before after : ℕ) : Type 0 where
   pub window : Window sheet rom sched (cursor .lines) (p .number) (s .cycle .0 + n) limit before after
   pub at : At sheet skips rom sched log₀ n s p (countIn before after limit (p .number))
   pub further : from < limit
   pub most : limit ≤ cursor .next
 
 -- the same values by other names, where two ways meet
-pub entered-as : {sheet : Sheet} {skips : Bool} {rom sched log₀ : List ℕ} {n : ℕ} {s : State} {cursor : Cursor} {from : ℕ} {ram : List ℕ} {begun spared before : ℕ} {core : Core} {ports log : List ℕ} {at number limit after : ℕ}
-    → Entered sheet skips rom sched log₀ n s cursor from (record { core = core; ram = ram; ports = ports; log = log; at = at; number = number; begun = begun; spared = spared }) limit before after
+pub entered-as : {sheet : Sheet} {skips : Bool} {rom sched log₀ : List ℕ} {n : ℕ} {s : State} {cursor : Cursor} {from : ℕ} {ram : List ℕ}
+    {begun spared before : ℕ} {core : Core} {ports log : List ℕ} {at number limit after : ℕ}
+    → Entered sheet skips rom sched log₀ n s cursor from
+    (record { core = core; ram = ram; ports = ports; log = log; at = at; number = number; begun = begun; spared = spared })
+    limit before after
     → {log′ : List ℕ} → log′ ≡ log → {core′ : Core} → core′ ≡ core → {ports′ : List ℕ} → ports′ ≡ ports → {at′ : ℕ} → at′ ≡ at → {number′ : ℕ} → number′ ≡ number
     → {after′ : ℕ} → after′ ≡ after → {limit′ : ℕ} → limit′ ≡ limit
-    → Entered sheet skips rom sched log₀ n s cursor from (record { core = core′; ram = ram; ports = ports′; log = log′; at = at′; number = number′; begun = begun; spared = spared }) limit′ before after′
+    → Entered sheet skips rom sched log₀ n s cursor from
+    (record { core = core′; ram = ram; ports = ports′; log = log′; at = at′; number = number′; begun = begun; spared = spared })
+    limit′ before after′
 entered-as z a b c d e f g = rw (a, b, c, d, e, f, g) z
 
 -- the test of RES and the count, as the code makes it
@@ -713,18 +769,22 @@ is-quiet res c = go (eqb res 0) refl (eqb c 0) refl
 pub not-quiet : (res c : ℕ) → (not (eqb res 0) || not (eqb c 0)) ≡ true → (res ≡ 0) × (c ≡ 0) → ⊥
 not-quiet res c e q = differ (sym (rw (q .0, q .1) refl) ∙ e)
 
-pub look-place : {sheet : Sheet} {skips : Bool} {rom sched log₀ : List ℕ} {n : ℕ} {s : State} {cursor : Cursor} {p : Place} {c : ℕ} → ByRecords sheet skips rom sched log₀ n s cursor p c → p .at ≤ length (p .log)
+pub look-place : {sheet : Sheet} {skips : Bool} {rom sched log₀ : List ℕ} {n : ℕ} {s : State} {cursor : Cursor} {p : Place} {c : ℕ}
+    → ByRecords sheet skips rom sched log₀ n s cursor p c → p .at ≤ length (p .log)
 look-place i = omega (arith, i .at .place, i .at .room, log-length (i .at))
 
-module _ {sheet : Sheet} {skips : Bool} {rom sched log₀ : List ℕ} {n : ℕ} {s : State} {cursor : Cursor} {p : Place} {c limit : ℕ} (i : ByRecords sheet skips rom sched log₀ n s cursor p c)
+module _ {sheet : Sheet} {skips : Bool} {rom sched log₀ : List ℕ} {n : ℕ} {s : State} {cursor : Cursor} {p : Place} {c limit : ℕ}
+    (i : ByRecords sheet skips rom sched log₀ n s cursor p c)
     (more : p .number < s .cycle .0 + n) (e : limit ≡ min (s .cycle .0 + n) (cursor .next)) where
   pub look-ahead : p .number < limit
-  look-ahead = limit-ahead sheet rom sched (schedule-taken (i .at)) cursor (p .number) (s .cycle .0 + n) more (limit-kept (i .at)) (i .stands) e
+  look-ahead =
+      limit-ahead sheet rom sched (schedule-taken (i .at)) cursor (p .number) (s .cycle .0 + n) more (limit-kept (i .at)) (i .stands) e
 
   -- RES is low, and nothing is counted
   pub enters : Quiet (cursor .lines) c → Entered sheet skips rom sched log₀ n s cursor (p .number) p limit c c
   enters z = record {
-    window = up-to-record sheet rom sched (schedule-taken (i .at)) cursor (p .number) (s .cycle .0 + n) more (limit-kept (i .at)) (i .stands) e z;
+    window = up-to-record sheet rom sched (schedule-taken (i .at)) cursor (p .number) (s .cycle .0 + n) more (limit-kept (i .at))
+        (i .stands) e z;
     at = subst (At sheet skips rom sched log₀ n s p) (same (ltb (p .number) limit)) (i .at);
     further = look-ahead;
     most = omega (arith, e);
@@ -750,8 +810,10 @@ module _ {sheet : Sheet} {skips : Bool} {rom sched log₀ : List ℕ} {n : ℕ} 
     -- the count is below 4
     counted-next : (k ≡ resetCount → ⊥) → Leaves (ordinaryNext (p .core) (p .ports) (p .log) (p .at) (cursor .lines) (p .number) limit c k)
     counted-next f = record {
-      window = one-counted sheet rom sched (schedule-taken (i .at)) cursor (p .number) (s .cycle .0 + n) more (limit-kept (i .at)) (i .stands) z f;
-      at = subst (At sheet skips rom sched log₀ n s p) (sym (ap (λ (b : Bool). cond b c k) (lt-ltb (p .number) (p .number + 1) (omega arith)))) (i .at);
+      window = one-counted sheet rom sched (schedule-taken (i .at)) cursor (p .number) (s .cycle .0 + n) more (limit-kept (i .at))
+          (i .stands) z f;
+      at = subst (At sheet skips rom sched log₀ n s p)
+          (sym (ap (λ (b : Bool). cond b c k) (lt-ltb (p .number) (p .number + 1) (omega arith)))) (i .at);
       further = omega arith;
       most = omega (arith, look-ahead, e);
     }
@@ -759,7 +821,8 @@ module _ {sheet : Sheet} {skips : Bool} {rom sched log₀ : List ℕ} {n : ℕ} 
     resets-to-limit : k ≡ resetCount → length (records (p .number) c) ≤ length (p .log) - p .at → Leaves (resetTo (p .core) (p .ports) (p .log) (p .at) (cursor .lines) (p .number) limit c)
     resets-to-limit f h = record {
       window = subst (Window sheet rom sched (cursor .lines) limit (s .cycle .0 + n) limit c) f
-          (none-left sheet rom sched (schedule-taken (i .at)) cursor (p .number) (s .cycle .0 + n) more (limit-kept (i .at)) (i .stands) (omega (arith, e)));
+          (none-left sheet rom sched (schedule-taken (i .at)) cursor (p .number) (s .cycle .0 + n) more (limit-kept (i .at)) (i .stands)
+          (omega (arith, e)));
       at = subst (At sheet skips rom sched log₀ n s (reset-to (i .at) f look-ahead (omega (arith, e)) lines-to))
           (sym (ap (λ (b : Bool). cond b c resetCount) (le-ltb limit limit (omega arith)))) (resets-on (i .at) f look-ahead (omega (arith, e)) lines-to h);
       further = look-ahead;
@@ -819,7 +882,8 @@ module _ {sheet : Sheet} {skips : Bool} {rom sched log₀ : List ℕ} {n : ℕ} 
     full-length f = ap length (full f .log-is) ∙ log-length (i .at)
 
 -- up to the limit: from q, where the loop by records stood, to p
-pub record ToLimit (sheet : Sheet) (skips : Bool) (rom sched : List ℕ) (l : Lines) (n start limit before after : ℕ) (q p : Place) : Type 0 where
+pub record ToLimit (sheet : Sheet) (skips : Bool) (rom sched : List ℕ) (l : Lines) (n start limit before after : ℕ)
+    (q p : Place) : Type 0 where
   pub window : Window sheet rom sched l (q .number) (start + n) limit before after
   pub at : {core : Core} {ram ports log₀ : List ℕ} {count : ℕ}
       → At sheet skips rom sched log₀ n (withCount count (stateOf core ram ports start)) q (countIn before after limit (q .number))
@@ -833,14 +897,18 @@ module _ {sheet : Sheet} {skips : Bool} {rom sched : List ℕ} {l : Lines} {n st
   ahead = record { window = i .window; since = i .later; more = more }
 
   -- the count is that before the first of the cycles
-  pub first : {log₀ : List ℕ} {s : State} → At sheet skips rom sched log₀ n s p (countIn before after limit (p .number)) → At sheet skips rom sched log₀ n s p before
+  pub first : {log₀ : List ℕ} {s : State} → At sheet skips rom sched log₀ n s p (countIn before after limit (p .number))
+      → At sheet skips rom sched log₀ n s p before
   first {log₀} {s} h = subst (At sheet skips rom sched log₀ n s p) (count-first (i .window) (p .number) more) h
 
-  then : {log₀ : List ℕ} {s : State} {o : Place} → p .number < o .number → At sheet skips rom sched log₀ n s o after → At sheet skips rom sched log₀ n s o (countIn before after limit (o .number))
-  then {log₀} {s} {o} e h = subst (At sheet skips rom sched log₀ n s o) (sym (count-later (i .window) (o .number) (omega (arith, e, i .later)))) h
+  then : {log₀ : List ℕ} {s : State} {o : Place} → p .number < o .number → At sheet skips rom sched log₀ n s o after
+      → At sheet skips rom sched log₀ n s o (countIn before after limit (o .number))
+  then {log₀} {s} {o} e h =
+      subst (At sheet skips rom sched log₀ n s o) (sym (count-later (i .window) (o .number) (omega (arith, e, i .later)))) h
 
   -- the length of the jump
-  pub length-is : {r : ℕ} → sheet .rom ≡ length rom → JumpsBy skips rom (p .core .flow .pc) (p .core .owed) (p .core .interrupt) (p .core .timer) (l .int) (limit - p .number) r
+  pub length-is : {r : ℕ} → sheet .rom ≡ length rom
+      → JumpsBy skips rom (p .core .flow .pc) (p .core .owed) (p .core .interrupt) (p .core .timer) (l .int) (limit - p .number) r
       → r ≡ jumpBy skips sheet rom sched (bare p) (limit - p .number)
   length-is e k =
       k .length-is sheet e sched (bare p) (record { pc-is = refl; owed-is = refl; interrupt-is = refl; timer-is = refl })
@@ -850,7 +918,8 @@ module _ {sheet : Sheet} {skips : Bool} {rom sched : List ℕ} {l : Lines} {n st
       })
 
   -- a jump, and a turn
-  pub jumps-to : {j : ℕ} {core : Core} → j ≡ jumpBy skips sheet rom sched (bare p) (limit - p .number) → (j ≡ 0 → ⊥) → core ≡ coreAfterJump j (p .core) → p .number + j ≤ limit
+  pub jumps-to : {j : ℕ} {core : Core} → j ≡ jumpBy skips sheet rom sched (bare p) (limit - p .number) → (j ≡ 0 → ⊥)
+      → core ≡ coreAfterJump j (p .core) → p .number + j ≤ limit
       → ToLimit sheet skips rom sched l n start limit before after q (record {
         core = core;
         ram = p .ram;
@@ -869,7 +938,8 @@ module _ {sheet : Sheet} {skips : Bool} {rom sched : List ℕ} {l : Lines} {n st
   }
 
   pub turns-to : {r : Stretch} {ram ports log : List ℕ} → 0 ≡ jumpBy skips sheet rom sched (bare p) (limit - p .number)
-      → Turned sheet skips rom sched limit (bare p) (p .log) (p .at) (p .begun) r ram ports log → r .stop ≡ 0 → p .number < r .cycle → r .cycle ≤ limit
+      → Turned sheet skips rom sched limit (bare p) (p .log) (p .at) (p .begun) r ram ports log → r .stop ≡ 0 → p .number < r .cycle
+      → r .cycle ≤ limit
       → ToLimit sheet skips rom sched l n start limit before after q (record {
         core = r .core;
         ram = ram;
@@ -888,7 +958,9 @@ module _ {sheet : Sheet} {skips : Bool} {rom sched : List ℕ} {l : Lines} {n st
   }
 
 -- at the limit the count is that after them
-pub last : {sheet : Sheet} {skips : Bool} {rom sched : List ℕ} {l : Lines} {n start limit before after : ℕ} {q p : Place} → ToLimit sheet skips rom sched l n start limit before after q p
-    → p .number ≡ limit → {log₀ : List ℕ} {s : State} → At sheet skips rom sched log₀ n s p (countIn before after limit (p .number)) → At sheet skips rom sched log₀ n s p after
+pub last : {sheet : Sheet} {skips : Bool} {rom sched : List ℕ} {l : Lines} {n start limit before after : ℕ} {q p : Place}
+    → ToLimit sheet skips rom sched l n start limit before after q p
+    → p .number ≡ limit → {log₀ : List ℕ} {s : State} → At sheet skips rom sched log₀ n s p (countIn before after limit (p .number))
+    → At sheet skips rom sched log₀ n s p after
 last {sheet} {skips} {rom} {sched} {l} {n} {start} {limit} {before} {after} {q} {p} i e {log₀} {s} h =
     subst (At sheet skips rom sched log₀ n s p) (ap (λ (b : Bool). cond b before after) (le-ltb (p .number) limit (omega arith))) h

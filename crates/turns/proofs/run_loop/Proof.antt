@@ -9,7 +9,9 @@ use Rattle.runs.specs.Refusals.{cycleLimit}
 use Rattle.jump.specs.Boundary.{jumpBy}
 use Rattle.upd546.specs.Parts.{withCount, stateOf}
 use Rattle.turns.proofs.Taken.{run-taken}
-use Rattle.turns.proofs.Turning.{Place, At, bare, Window, Ahead, ByRecords, Entered, ToLimit, countIn, stands-last, stands-on, starts, limit-kept, log-length, schedule-taken, rom-taken, finishes, boundary, jumpable, jump-small, turn-asks, stops, stop-length, stop-known, turn-small, enters, entered-as, is-quiet, not-quiet, look-ahead, look-place, looks, look-full, full-length, ahead, first, last, length-is, jumps-to, turns-to}
+use Rattle.turns.proofs.Turning.{Place, At, bare, Window, Ahead, ByRecords, Entered, ToLimit, countIn, stands-last, stands-on, starts, limit-kept, log-length, schedule-taken, rom-taken}
+use Rattle.turns.proofs.Turning.{finishes, boundary, jumpable, jump-small, turn-asks, stops, stop-length, stop-known, turn-small}
+use Rattle.turns.proofs.Turning.{enters, entered-as, is-quiet, not-quiet, look-ahead, look-place, looks, look-full, full-length, ahead, first, last, length-is, jumps-to, turns-to}
 use Rattle.turns.proofs.run_loop.Statement.{statement}
 use Rattle.turns.proofs.run_loop.Tie as tie
 
@@ -179,7 +181,8 @@ place c =
 -- where it stands, with the count before the cycles up to the limit
 standing : (c : Measured)
     → let a = began-in (inner c) .args in
-    At (a .sheet) (a .skips) (now (a .rom)) (now (a .sched)) (now (a .log)) (a .n) (a .s) (place (inner c)) (outer (limited (inner c .before)) .loop .count)
+    At (a .sheet) (a .skips) (now (a .rom)) (now (a .sched)) (now (a .log)) (a .n) (a .s) (place (inner c))
+    (outer (limited (inner c .before)) .loop .count)
 standing c =
     let l = inner c in
     first (l .loop2 .inv) (tested c .loop2-test .taken) (l .loop2 .inv .at (entered (l .before) .at))
@@ -188,20 +191,24 @@ standing c =
 ahead-of : (c : Measured)
     → let a = began-in (inner c) .args in
     let d = inner c .before in
-    Ahead (a .sheet) (now (a .rom)) (now (a .sched)) (outer (limited d) .loop .cursor .lines) (d .if1 .number) (a .s .cycle .0 + a .n) (d .if1 .limit) (outer (limited d) .loop .count) (d .if1 .count)
+    Ahead (a .sheet) (now (a .rom)) (now (a .sched)) (outer (limited d) .loop .cursor .lines) (d .if1 .number) (a .s .cycle .0 + a .n)
+    (d .if1 .limit) (outer (limited d) .loop .count) (d .if1 .count)
     (inner c .loop2 .number)
 ahead-of c = ahead (inner c .loop2 .inv) (tested c .loop2-test .taken)
 
 -- the length of the jump
 length-known : (c : Measured)
     → let a = began-in (inner c) .args in
-    c .jump-length .result ≡ jumpBy (a .skips) (a .sheet) (now (a .rom)) (now (a .sched)) (bare (place (inner c))) (inner c .before .if1 .limit - inner c .loop2 .number)
+    c .jump-length .result
+    ≡ jumpBy (a .skips) (a .sheet) (now (a .rom)) (now (a .sched)) (bare (place (inner c)))
+    (inner c .before .if1 .limit - inner c .loop2 .number)
 length-known c = length-is (inner c .loop2 .inv) (tested c .loop2-test .taken) (rom-taken (standing c)) (c .jump-length .ensures)
 
 -- none is taken
 no-jump : (c : Turning)
     → let a = began-in (inner (c .before)) .args in
-    0 ≡ jumpBy (a .skips) (a .sheet) (now (a .rom)) (now (a .sched)) (bare (place (inner (c .before)))) (inner (c .before) .before .if1 .limit - inner (c .before) .loop2 .number)
+    0 ≡ jumpBy (a .skips) (a .sheet) (now (a .rom)) (now (a .sched)) (bare (place (inner (c .before))))
+    (inner (c .before) .before .if1 .limit - inner (c .before) .loop2 .number)
 no-jump c = sym (c .if3 .left) ∙ length-known (c .before)
 
 -- the counts after a jump
@@ -222,7 +229,8 @@ loop-holds c =
     let at-rom = at-sched .before in
     let v = entry c .pre in
     record {
-      at = starts _ _ _ _ _ _ _ (v .not-refused) (λ i. omega (arith, at-rom .shared-slice-known .given i)) (λ i. omega (arith, at-sched .shared-slice-known2 .given i));
+      at = starts _ _ _ _ _ _ _ (v .not-refused) (λ i. omega (arith, at-rom .shared-slice-known .given i))
+          (λ i. omega (arith, at-sched .shared-slice-known2 .given i));
       stands = v .stands;
     }
 
@@ -314,7 +322,8 @@ turn-requires : tie.Need-turn-requires Inv-loop2 μ-loop2 Inv-loop μ-loop
 turn-requires c κs =
     let at-turning = c .before .before .before in
     let v = began-in (inner (at-turning .before)) .pre in (
-      turn-asks (standing (at-turning .before)) (ahead-of (at-turning .before)) (no-jump at-turning) _ _ _ (v .instructions) (v .row-table) (v .position-table),
+      turn-asks (standing (at-turning .before)) (ahead-of (at-turning .before)) (no-jump at-turning) _ _ _ (v .instructions) (v .row-table)
+          (v .position-table),
       v .register-table,
     )
 
