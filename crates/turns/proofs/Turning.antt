@@ -420,8 +420,12 @@ module _ {sheet : Sheet} {skips : Bool} {rom sched log₀ : List ℕ} {n : ℕ} 
   bare-valid = record { core = h .valid .core; ports = h .valid .ports; ram = h .valid .ram; count = omega arith; cycle = h .valid .cycle }
 
   -- what a jump's length is asked for
-  pub boundary : (positions : List ℕ) → positions ≡ positionTable → Boundary positions (p .core .timer)
-  boundary positions e = record { table = e; register = h .valid .core .scalars .register }
+  pub boundary : (positions : List ℕ) → positions ≡ positionTable → Boundary rom positions (p .core .timer)
+  boundary positions e = record {
+    rom-length = omega (arith, rom-taken, legal-sheet sheet (taken .legal) .rom-most);
+    table = e;
+    register = h .valid .core .scalars .register;
+  }
 
   -- a cycle that isn't begun, where the runner doesn't jump
   one-more : p .number < s .cycle .0 + n → left ≡ suc (left - 1)
