@@ -69,14 +69,14 @@ blocked-accepts c b = rw b (last-false (eqb (c .owed) 0) (eqb (c .interrupt .int
     last-false x y z = simp (and-false)
 
 -- C0 to FF
-is-jcp : (code : ℕ) → 0xC0 ≤ code → instruction code ≡ jcp
+pub is-jcp : (code : ℕ) → 0xC0 ≤ code → instruction code ≡ jcp
 unfolding instruction
 is-jcp code h =
     let p : 12 ≤ code / 16 = omega arith in
     rw (List·getD-eq-default codes (replicate 16 jcp) p) (getD-replicate 16 (code % 16) jcp noInstruction (omega arith))
 
 -- the state in the loop at an address, with this timer and cycle number; nothing else changes there
-abbrev inLoop : State → ℕ → Timer → ℕ → State
+abbrev pub inLoop : State → ℕ → Timer → ℕ → State
 inLoop s pc t n = withParts s (setPc pc (setMark markOther (setOwed 0 (withTimer (s .core) t)))) (s .ram) (s .ports) n
 
 module _ (sheet : Sheet) (rom sched : List ℕ) (s : State) where
@@ -110,14 +110,14 @@ abbrev atTtmAgain : State → ℕ → ℕ → State
 atTtmAgain s q n = inLoop s (s .core .flow .pc) (timerLeft 0 q) n
 
 -- what stays as it is in the loop `TTM; JCP back`
-record Waits (sheet : Sheet) (rom : List ℕ) (c : Core) : Type 0 where
-  owed : c .owed ≡ 0
-  free : (eqb (c .interrupt .int) 1 && eqb (c .interrupt .inte) 1) ≡ false
-  ttm-in : inRom sheet (c .flow .pc) ≡ true
-  ttm : byteAt rom (c .flow .pc) ≡ 0x05
-  jcp-in : inRom sheet (follows (c .flow .pc)) ≡ true
-  jcp : 0xC0 ≤ byteAt rom (follows (c .flow .pc))
-  back : pageOf (follows (c .flow .pc)) + byteAt rom (follows (c .flow .pc)) % 64 ≡ c .flow .pc
+pub record Waits (sheet : Sheet) (rom : List ℕ) (c : Core) : Type 0 where
+  pub owed : c .owed ≡ 0
+  pub free : (eqb (c .interrupt .int) 1 && eqb (c .interrupt .inte) 1) ≡ false
+  pub ttm-in : inRom sheet (c .flow .pc) ≡ true
+  pub ttm : byteAt rom (c .flow .pc) ≡ 0x05
+  pub jcp-in : inRom sheet (follows (c .flow .pc)) ≡ true
+  pub jcp : 0xC0 ≤ byteAt rom (follows (c .flow .pc))
+  pub back : pageOf (follows (c .flow .pc)) + byteAt rom (follows (c .flow .pc)) % 64 ≡ c .flow .pc
 
 -- the INT line is the level seen at the j cycles from n on
 abbrev Level : List ℕ → State → ℕ → ℕ → Type 0
@@ -143,13 +143,13 @@ unfolding timerLeft
 left-tm tm k = refl
 
 module _ (sheet : Sheet) (rom sched : List ℕ) (s : State) (w : Waits sheet rom (s .core)) where
-  ttm-cycle : s .core .timer .tm ≡ 0 → linesAt sched (s .cycle .0) .int ≡ s .core .interrupt .level
+  pub ttm-cycle : s .core .timer .tm ≡ 0 → linesAt sched (s .cycle .0) .int ≡ s .core .interrupt .level
       → stepsOf sheet rom sched s ≡ went (inLoop s (follows (s .core .flow .pc)) (tick (s .core .timer)) (s .cycle .0 + 1)) [] 1
   ttm-cycle z l =
       cycle-executes sheet rom sched s (w .owed) (w .free) l
       ∙ execute-ttm sheet rom sched s (linesAt sched (s .cycle .0)) z (w .ttm-in) (w .ttm)
 
-  jcp-cycle : (t : Timer) (n : ℕ) → linesAt sched n .int ≡ s .core .interrupt .level
+  pub jcp-cycle : (t : Timer) (n : ℕ) → linesAt sched n .int ≡ s .core .interrupt .level
       → stepsOf sheet rom sched (inLoop s (follows (s .core .flow .pc)) t n) ≡ went (inLoop s (s .core .flow .pc) (tick t) (n + 1)) [] 1
   jcp-cycle t n l =
       let u = inLoop s (follows (s .core .flow .pc)) t n in
@@ -213,7 +213,7 @@ turns sheet rom sched (suc h) q s w t l =
 -- LINES
 
 -- no record below a bound is none below a lesser one
-none-fewer : (sched : List ℕ) (a b d k : ℕ) → d ≤ b → noneAmong sched a b k ≡ true → noneAmong sched a d k ≡ true
+pub none-fewer : (sched : List ℕ) (a b d k : ℕ) → d ≤ b → noneAmong sched a b k ≡ true → noneAmong sched a d k ≡ true
 unfolding noneAmong
 none-fewer sched a b d zero h e = refl
 none-fewer sched a b d (suc k) h e = go (leb a r && ltb r b) refl (leb a r && ltb r d) refl (none-fewer sched a b d k h)
@@ -232,7 +232,7 @@ none-fewer sched a b d (suc k) h e = go (leb a r && ltb r b) refl (leb a r && lt
     go false p false q ih = rw (q, noneAmong) (ih (rw (p, noneAmong) at e))
 
 -- where no record comes in the j - 1 cycles after cycle n, the lines stay what they were
-lines-stay : (sched : List ℕ) (n j : ℕ) → noRecord sched (n + 1) (n + j) ≡ true → (i : ℕ) → i < j → linesAt sched (n + i) ≡ linesAt sched n
+pub lines-stay : (sched : List ℕ) (n j : ℕ) → noRecord sched (n + 1) (n + j) ≡ true → (i : ℕ) → i < j → linesAt sched (n + i) ≡ linesAt sched n
 unfolding noRecord
 lines-stay sched n j q i h =
     let f : noRecord sched (n + 1) (n + i + 1) ≡ true = none-fewer sched (n + 1) (n + j) (n + i + 1) (recordCount sched) (omega arith) q in
@@ -245,13 +245,13 @@ level-stays sched s j e q i h = ap (λ (l : Lines). l .int) (lines-stay sched (s
 -- AN EVEN NUMBER OF CYCLES
 
 -- what the test of a jump says
-record MayJump (sheet : Sheet) (rom sched : List ℕ) (s : State) : Type 0 where
-  waits : Waits sheet rom (s .core)
-  tm : s .core .timer .tm ≡ 0
-  runs : 0 < s .core .timer .register
-  level : linesAt sched (s .cycle .0) .int ≡ s .core .interrupt .level
+pub record MayJump (sheet : Sheet) (rom sched : List ℕ) (s : State) : Type 0 where
+  pub waits : Waits sheet rom (s .core)
+  pub tm : s .core .timer .tm ≡ 0
+  pub runs : 0 < s .core .timer .register
+  pub level : linesAt sched (s .cycle .0) .int ≡ s .core .interrupt .level
 
-may-jump : (sheet : Sheet) (rom sched : List ℕ) (s : State) → mayJump sheet rom sched s ≡ true → MayJump sheet rom sched s
+pub may-jump : (sheet : Sheet) (rom sched : List ℕ) (s : State) → mayJump sheet rom sched s ≡ true → MayJump sheet rom sched s
 unfolding mayJump atTtm atJcpBack
 may-jump sheet rom sched s e =
     let t = all-at _ e in
