@@ -26,7 +26,7 @@ use Rattle.upd546.specs.Timer.{stepRegister, tick, registerAfter, stepsTo, posi
 use Rattle.upd546.specs.Instructions.{instruction}
 use Rattle.upd546.specs.OneMachineCycle.{taken, ticked, given, instructionStop, passedOver, begun, execute, ordinaryCycle, counted, cycle}
 use Rattle.upd546.specs.StateImage.{stateNumber}
-use Rattle.upd546.specs.TwoRunners.{mayJump, jumpable, largest, onJump, waitLength}
+use Rattle.upd546.specs.TwoRunners.{mayJump, jumpable, largest, onJump, waitLength, jumpLength}
 use Rattle.laws.specs.Timer.{timerLeft}
 use Rattle.laws.specs.Jump.{coreAfterJump, stateAfterJump}
 use Rattle.laws.specs.Reset.{Unreset}
@@ -92,10 +92,9 @@ module _ (sheet : Sheet) (rom sched : List ℕ) (s : State) (r span room n : ℕ
   no-record j h =
       none-fewer sched (s .cycle .0 + 1) (s .cycle .0 + span) (s .cycle .0 + j) (recordCount sched) (omega (arith, enough, h)) (w .quiet)
 
-  -- it is all of r, or all but one
-  jump-is : theChip sheet .jump rom sched s n ≡ r - r % 2
+  largest-is : jumpLength sheet rom sched s n ≡ r - r % 2
   unfolding waitLength
-  jump-is =
+  largest-is =
       let b = min (ticksLeft (s .core .timer)) n in
       let e : b ≡ r = omega (arith, w .ticks, w .budget, enough) in
       let f : min r r - min r r % 2 ≡ r - r % 2 = omega arith in
@@ -105,6 +104,10 @@ module _ (sheet : Sheet) (rom sched : List ℕ) (s : State) (r span room n : ℕ
       ∙ ap (largest (jumpable sched (s .cycle .0))) e
       ∙ largest-even sched (s .cycle .0) r r (λ j h. no-record j (omega arith)) (λ j h i. absurd (omega arith))
       ∙ f
+
+  -- the jump is all of r, or all but one
+  jump-is : theChip sheet .jump rom sched s n ≡ r - r % 2
+  jump-is = omega (arith, largest-is)
 
   stride-is : (j : ℕ) → 0 < j → r - r % 2 ≡ j → strideOf (theChip sheet .jump rom sched s n) ≡ j
   stride-is zero p e = absurd (omega arith)
