@@ -1,5 +1,5 @@
-// The value of a state, and the bytes of a sheet. A value is the bytes of its fields, each as it stands there. PC, stack, Acc, C, C', DPH, DPL, INT, INTE, TM, level, mark,
-// owed, register, counter, ports, RAM, cycle number, count of cycles with RES high.
+// The value of a state: the bytes of its fields, each as it stands there. PC, stack, Acc, C, C', DPH, DPL, INT, INTE, TM, level, mark,
+// owed, register, counter, ports, RAM, cycle number, count of cycles with RES high. And the bytes of a sheet.
 use runs::MachineCycles;
 use test_stream::byte;
 use test_stream::copy;
