@@ -31,7 +31,6 @@ use Rattle.laws.specs.Ordinary.{stepsOf, ordinary}
 use Rattle.laws.specs.Burst.{Free, unticked, forward, broughtForward}
 use Rattle.laws.specs.Stops.{StopNumber}
 use Rattle.laws.specs.Valid.{Scalars, ValidStack, ValidPorts, ValidRam, Valid, ValidLines}
-use Rattle.laws.proofs.Lists.{and-left, and-right}
 use Rattle.laws.proofs.Lines.{lines-valid, panel-schedule}
 use Rattle.laws.proofs.Cycle.{taken-keeps, unticked-valid}
 use Rattle.laws.proofs.Stops.{steps-stop}
@@ -44,7 +43,7 @@ use Rattle.effect.specs.declared.Started.{Started}
 use Rattle.effect.specs.Answer.{Answer, startOf, answerOn}
 use Rattle.effect.specs.Endings.{Fits}
 use Rattle.cycle.specs.Ready.{Ready}
-use Rattle.burst.specs.Turn.{Turn, Due, Horizon, Moved, Bursts, mayBeDue, nearestOf, keptBack, stretchOf, endedAt, appended}
+use Rattle.burst.specs.Turn.{Turn, Due, Horizon, Moved, Bursts, mayBeDue, nearestOf, stretchOf, endedAt, appended}
 use Rattle.burst.proofs.Lending.{lent-legal, lent-rom, lent-fits}
 use Rattle.burst.proofs.Moving.{Next, next}
 
@@ -132,15 +131,25 @@ standsAfter p r ram ports log h since watch = record {
 pub record Near (near h : ℕ) (i : Interrupt) : Type 0 where
   pub event : 0 < near → near ≡ h
   pub free : 0 < near → Free i
+  pub due : near ≡ 0 → 0 < h → mayBeDue i ≡ true
 
 pub near-is : {near h : ℕ} {i : Interrupt} → near ≡ nearestOf i h → Near near h i
 near-is {near} {h} {i} e = go (mayBeDue i) refl e
   where
     go : (x : Bool) → mayBeDue i ≡ x → near ≡ cond x 0 h → Near near h i
-    go true q z = record { event = λ v. absurd (omega (arith, v, z)); free = λ v. absurd (omega (arith, v, z)) }
-    go false q z = record { event = λ v. z; free = λ v. q }
+    go true q z = record { event = λ v. absurd (omega (arith, v, z)); free = λ v. absurd (omega (arith, v, z)); due = λ v w. q }
+    go false q z = record { event = λ v. z; free = λ v. q; due = λ v w. absurd (omega (arith, v, w, z)) }
 
-pub near-to : {near near′ h h′ : ℕ} {i : Interrupt} → near′ ≡ near → h′ ≡ h → Near near h i → Near near′ h′ i
+-- and once an instruction has left this mark: where the mark doesn't block, an interrupt needn't be due any more
+pub record Left (near h : ℕ) (i : Interrupt) (mark : ℕ) : Type 0 where
+  pub event : 0 < near → near ≡ h
+  pub free : 0 < near → Free i
+  pub due : near ≡ 0 → 0 < h → blocks mark ≡ true → mayBeDue i ≡ true
+
+pub left-near : {near h mark : ℕ} {i : Interrupt} → Near near h i → Left near h i mark
+left-near n = record { event = n .event; free = n .free; due = λ v w b. n .due v w }
+
+pub near-to : {near near′ h h′ mark : ℕ} {i : Interrupt} → near′ ≡ near → h′ ≡ h → Left near h i mark → Left near′ h′ i mark
 near-to e f n = rw (e, f) n
 
 -- a runner that jumps and whose timer runs watches for TTM
@@ -441,6 +450,13 @@ module _ {sheet : Sheet} {skips : Bool} {rom sched table rows positions : List �
             let v = gone g .core-is in
             subst (λ (y : Core). 0 < y .timer .register) (sym v) (begun-here .runs (sym (ap (λ (y : Core). y .mark) v) ∙ m))
 
+        -- no instruction but EI that leaves a blocking mark changes the interrupts
+        interrupt-still : (r .core .mark ≡ markEi → ⊥) → blocks (r .core .mark) ≡ true → r .core .interrupt ≡ p .core .interrupt
+        interrupt-still n b =
+            let v = gone g .core-is in
+            let m = ap (λ (y : Core). y .mark) v in
+            ap (λ (y : Core). y .interrupt) v ∙ begun-here .blocked (sym (ap blocks m) ∙ b) (λ z. n (m ∙ z))
+
         -- no instruction but EI makes INT and INTE both 1
         free-still : (r .core .mark ≡ markEi → ⊥) → Free (p .core .interrupt) → Free (r .core .interrupt)
         free-still n f =
@@ -631,13 +647,19 @@ module _ {sheet : Sheet} {skips : Bool} {rom sched table rows positions : List �
                 (λ q left. wait-length-none sheet rom sched there left (no-loop sheet rom sched there (rw z (and-false (atTtm sheet rom (r .core .flow .pc))))))
 
             -- the mark keeps an interrupt back
-            pub rides-kept : keptBack (r .core .interrupt) (r .core .mark) ≡ true → Riding sheet skips rom sched l limit s log₀ at₀ begun₀ after
-            rides-kept z =
-                rides-on (blocked-accepts on (and-right (mayBeDue (r .core .interrupt)) (blocks (r .core .mark)) z))
-                (λ q left. wait-length-none sheet rom sched there left (both-one sheet rom sched there (and-left (mayBeDue (r .core .interrupt)) (blocks (r .core .mark)) z)))
+            pub rides-kept : mayBeDue (r .core .interrupt) ≡ true → blocks (r .core .mark) ≡ true
+                → Riding sheet skips rom sched l limit s log₀ at₀ begun₀ after
+            rides-kept due z =
+                rides-on (blocked-accepts on z)
+                (λ q left. wait-length-none sheet rom sched there left (both-one sheet rom sched there due))
 
-        pub near-still : {near : ℕ} → Near near (p .horizon) (p .core .interrupt) → (r .core .mark ≡ markEi → ⊥) → Near near (p .horizon) (r .core .interrupt)
-        near-still v n = record { event = v .event; free = λ q. free-still n (v .free q) }
+        pub near-still : {near : ℕ} → Near near (p .horizon) (p .core .interrupt) → (r .core .mark ≡ markEi → ⊥)
+            → Left near (p .horizon) (r .core .interrupt) (r .core .mark)
+        near-still v n = record {
+          event = v .event;
+          free = λ q. free-still n (v .free q);
+          due = λ z h b. ap mayBeDue (interrupt-still n b) ∙ v .due z h;
+        }
 
 -- THE LOOPS' INVARIANTS
 
@@ -672,12 +694,15 @@ module _ {skips : Bool} {rom sched table rows positions : List ℕ} {levels : �
   next-place = standsAfter p r ram′ ports′ log′ h′ since′ watch′
 
   -- neither an interrupt may be due nor has the event come
-  module _ {near′ : ℕ} (v : Near near′ h′ (r .core .interrupt)) (ahead : p .done + 1 + r .core .owed < near′) where
+  module _ {near′ : ℕ} (v : Left near′ h′ (r .core .interrupt) (r .core .mark)) (ahead : p .done + 1 + r .core .owed < near′) where
     event-ahead : p .done + 1 + r .core .owed < h′
     event-ahead = omega (arith, ahead, v .event (omega (arith, ahead)))
 
     still-free : Free (r .core .interrupt)
     still-free = v .free (omega (arith, ahead))
+
+    still-near : Near near′ h′ (r .core .interrupt)
+    still-near = record { event = v .event; free = v .free; due = λ z. absurd (omega (arith, z, ahead)) }
 
     abbrev Follows-on : Type 0
     Follows-on = Follows skips rom sched table rows positions levels l limit at₀ begun₀ q next-place near′
@@ -686,19 +711,21 @@ module _ {skips : Bool} {rom sched table rows positions : List ℕ} {levels : �
     follows-past z = record {
       riding = λ {sheet} k y. rides-past k (f .riding k y) a g moved event-ahead still-free (z sheet (lent-rom (k .turn .lent)));
       later = omega (arith, f .later);
-      near-event = v;
+      near-event = still-near;
     }
 
     pub follows-freely : (byteAt rom (r .core .flow .pc) ≡ watch′ → ⊥) → Follows-on
     follows-freely n = record {
       riding = λ k y. rides-freely k (f .riding k y) a g moved event-ahead still-free n;
       later = omega (arith, f .later);
-      near-event = v;
+      near-event = still-near;
     }
 
   -- the mark keeps an interrupt back, and the event is ahead
   pub rides-again : {n : ℕ} {ram₀ ports₀ log₀ : List ℕ} {first : Core}
       → Rides skips rom sched table rows positions levels l limit n ram₀ ports₀ log₀ at₀ begun₀ first q
-      → (keptBack (r .core .interrupt) (r .core .mark) ≡ true) × (p .done + 1 + r .core .owed < h′)
+      → {near′ : ℕ} → Left near′ h′ (r .core .interrupt) (r .core .mark) → near′ ≡ 0
+      → (blocks (r .core .mark) ≡ true) × (p .done + 1 + r .core .owed < h′)
       → Rides skips rom sched table rows positions levels l limit n ram₀ ports₀ log₀ at₀ begun₀ first next-place
-  rides-again o v = record { riding = λ sheet b k. rides-kept k (f .riding k (o .riding sheet b k)) a g moved (v .1) (v .0) }
+  rides-again o near zeroed v =
+      record { riding = λ sheet b k. rides-kept k (f .riding k (o .riding sheet b k)) a g moved (v .1) (near .due zeroed (omega (arith, v .1)) (v .0)) (v .0) }
