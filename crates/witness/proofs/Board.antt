@@ -85,11 +85,12 @@ unfolding called
 on-one-image = every-accepted-image upd546Sheet rom sched start onOne (below-all 256 start (lit< tt) refl) panel refl (kept .0)
 
 -- a call that was refused, as a whole
-whole : (k : ℕ) (c : BoardCall) → Refuses upd546 k c → callAnswer upd546 c ≡ left k c (refusedReport (longEnough c) (c .report))
-whole k c r = λ i. record { number = r .number i; image = r .image i; log = r .log i; report = r .report i }
+pub whole : (sheet : Sheet) (k : ℕ) (c : BoardCall) → Refuses (chip sheet) k c
+    → callAnswer (chip sheet) c ≡ left k c (refusedReport (longEnough c) (c .report))
+whole sheet k c r = λ i. record { number = r .number i; image = r .image i; log = r .log i; report = r .report i }
 
 -- the numbers of a list are the documents'
-by-numbers : (l : List BoardCall) → Each (λ c. callRefusal (chip (c .sheet)) c ≡ callNumber (chip (c .sheet)) c) l
+pub by-numbers : (l : List BoardCall) → Each (λ c. callRefusal (chip (c .sheet)) c ≡ callNumber (chip (c .sheet)) c) l
     → map (λ (c : BoardCall). callRefusal (chip (c .sheet)) c) l ≡ map (λ (c : BoardCall). callNumber (chip (c .sheet)) c) l
 by-numbers [] h = refl
 by-numbers (c ∷ l) h = ap₂ (λ (k : ℕ) (ks : List ℕ). k ∷ ks) (h .0) (by-numbers l (h .1))
@@ -127,10 +128,10 @@ figures =
       all-cycles = nothing .cycles ∙ with-reports .ends .cycles;
       all-begun = nothing .begun ∙ with-reports .ends .begun;
       numbers = by-numbers calls (one-run .refusals);
-      by-31 = whole 31 onOther (one-run .unchanged .1 .0);
-      by-31-old = whole 31 onOld (one-run .unchanged .1 .1 .0);
-      by-1 = whole 1 (shortReport between) (one-run .unchanged .1 .1 .1 .0);
-      by-21 = whole 21 (badRom between) (one-run .unchanged .1 .1 .1 .1 .0);
+      by-31 = whole upd546Sheet 31 onOther (one-run .unchanged .1 .0);
+      by-31-old = whole upd546Sheet 31 onOld (one-run .unchanged .1 .1 .0);
+      by-1 = whole upd546Sheet 1 (shortReport between) (one-run .unchanged .1 .1 .1 .0);
+      by-21 = whole upd546Sheet 21 (badRom between) (one-run .unchanged .1 .1 .1 .1 .0);
       next =
           one-run .goes-on (last wantedImage) (sym (one-run .ends .image)) (on-panel (last wantedImage) refl refl refl (lit≤ tt))
           (lit≤ tt) (lit≤ tt);

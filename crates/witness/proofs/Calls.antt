@@ -63,7 +63,7 @@ all-23 [] h = tt
 all-23 (a ∷ l) h = (λ k e. let same = h .0 k e in cc, all-23 l (h .1))
 
 -- the numbers of a list are the documents'
-by-numbers : (l : List (Call Sheet State)) → RefusedByNumbers chip l → map (refusal chip) l ≡ map (documentNumber chip) l
+pub by-numbers : (l : List (Call Sheet State)) → RefusedByNumbers chip l → map (refusal chip) l ≡ map (documentNumber chip) l
 by-numbers [] h = refl
 by-numbers (c ∷ l) h = ap₂ (λ (k : ℕ) (ks : List ℕ). k ∷ ks) (h .0) (by-numbers l (h .1))
 

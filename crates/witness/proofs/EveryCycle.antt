@@ -234,8 +234,16 @@ edge-falls = (refl, refl)
 -- NOP isn't TIT: it leaves an INT that is set
 nop-other : codes.nop ≡ codes.tit → ⊥
 nop-other e =
-    let g : Given
-    = record { core = from (setInt 1) .core; after = 0; code = 0; second = 0; word = 0; lines = linesAt [] 0; ports = []; sheet = upd546Sheet } in
+    let g : Given = record {
+      core = from (setInt 1) .core;
+      after = 0;
+      code = 0;
+      second = 0;
+      word = 0;
+      lines = linesAt [] 0;
+      ports = [];
+      sheet = upd546Sheet;
+    } in
     let z : _≡_ {A = ℕ} 1 0 = ap (λ (i : Instruction). i .effect g .core .interrupt .int) e in
     absurd (omega arith)
 

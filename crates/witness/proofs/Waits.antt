@@ -10,7 +10,6 @@ use Rattle.runs.specs.TwoRunners.{logBound}
 use Rattle.runs.specs.Laws.{Panel}
 use Rattle.runs.specs.Lists.{WrittenBy, Lent, Meant}
 use Rattle.upd546.specs.declared.State.{State}
-use Rattle.upd546.specs.declared.Sheet.{Sheet}
 use Rattle.upd546.specs.TheMachine.{fresh}
 use Rattle.upd546.specs.TheSheet.{upd546Sheet}
 use Rattle.upd546.specs.StateImage.{imageOf}

@@ -10,7 +10,7 @@ use Rattle.upd546.specs.declared.Sheet.{Sheet}
 use Rattle.upd546.specs.TheMachine.{fresh}
 use Rattle.upd546.specs.TheSheet.{upd546Sheet}
 use Rattle.upd546.specs.BenchCases.{romAt}
-use Rattle.upd546.specs.TwoRunners.{chip, upd546}
+use Rattle.upd546.specs.TwoRunners.{chip}
 
 -- STM 80, TTM and a JCP back to it, IA, OE
 abbrev pub rom : List ℕ

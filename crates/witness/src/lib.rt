@@ -1,6 +1,7 @@
-// Uses the theorems, so that no clause of theirs can be lost unseen: in specs/ a list of calls, a list of slices, an image and a log
-// with what the theorems have to say of them, a figure or a plain fact for each clause; the theorems a second time, at variables, so
-// that none can hold of fewer arguments; and a function that makes the calls of two slices, and ends as one unbroken run.
+// Uses the theorems, so that no clause of theirs can be lost unseen: in specs/ lists of calls, one of them with sheets that differ, a
+// list of slices, an image and a log with what the theorems have to say of them, a figure or a plain fact for each clause; the theorems
+// a second time, at variables, so that none can hold of fewer arguments or sheets; and a function that makes the calls of two slices,
+// and ends as one unbroken run.
 // It may not know how a run, a save or a restore goes, nor how a theorem is proved: only definitions, contracts and theorems.
 use driver::KeptMachine;
 use driver::Report;
