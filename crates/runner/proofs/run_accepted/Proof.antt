@@ -3,16 +3,14 @@ use mathlib.Core.Path.{refl}
 use Prim.Native.Nat.{_≤_}
 use native.Mathlib.Omega.{arith}
 use denote.Ref.{now}
-use Rattle.runs.proofs.Calls.{Fit, run-fit}
-use Rattle.upd546.specs.TwoRunners.{chip}
-use Rattle.laws.proofs.Lines.{panel-schedule}
 use Rattle.laws.proofs.Sheets.{legal-sheet}
+use Rattle.turns.proofs.Taken.{Taken, run-taken}
 use borrow.Author.Needs.{needs}
 use Rattle.runner.proofs.run_accepted.Statement.{statement}
 use Rattle.runner.proofs.run_accepted.Tie as tie
 
-fit : (c : tie.Start) → Fit (chip (c .args .sheet)) (now (c .args .rom)) (now (c .args .sched)) (c .args .s) (c .args .n)
-fit c = run-fit (chip (c .args .sheet)) (now (c .args .rom)) (now (c .args .sched)) (c .args .s) (c .args .n) (c .pre)
+taken : (c : tie.Start) → Taken (c .args .sheet) (now (c .args .rom)) (now (c .args .sched)) (c .args .s) (c .args .n)
+taken c = run-taken (c .args .sheet) (now (c .args .rom)) (now (c .args .sched)) (c .args .s) (c .args .n) (c .pre)
 
 instruction-table-requires : tie.Need-instruction-table-requires
 instruction-table-requires c κs = search needs
@@ -20,7 +18,7 @@ instruction-table-requires c κs = search needs
 cast-row-table : tie.Need-cast-row-table
 cast-row-table c =
     let at-entry = c .before .before .before .before .before in
-    let few : at-entry .args .sheet .rows ≤ 31 = legal-sheet (at-entry .args .sheet) (fit at-entry .legal) .rows in
+    let few : at-entry .args .sheet .rows ≤ 31 = legal-sheet (at-entry .args .sheet) (taken at-entry .legal) .rows in
     omega arith
 
 row-table-requires : tie.Need-row-table-requires
@@ -33,9 +31,7 @@ register-table-requires : tie.Need-register-table-requires
 register-table-requires c κs = search needs
 
 start-requires : tie.Need-start-requires
-start-requires c κs =
-    let at-entry = c .before .before .before .before .before .before .before .before in
-    panel-schedule (at-entry .args .sheet) (now (at-entry .args .rom)) (now (at-entry .args .sched)) (fit at-entry .panel)
+start-requires c κs = taken (c .before .before .before .before .before .before .before .before) .schedule
 
 run-loop-requires : tie.Need-run-loop-requires
 run-loop-requires c κs =
