@@ -76,9 +76,10 @@ pub fn counts() -> Vec<Count> {
     counts
 }
 
-/// The bench cases of few bytes.
+/// The bench cases of few bytes, and some of smaller chips.
 pub fn small() -> Vec<Case> {
     let mut cases = on_both(bench::cases());
+    cases.extend(on_both(sheets::few()));
     let few = |bytes: Vec<u8>| bytes.iter().skip(0x40).all(|&byte| byte == 0);
     cases.retain(|case| few(case.made_rom_bytes()) && few(case.made_schedule_bytes()));
     cases

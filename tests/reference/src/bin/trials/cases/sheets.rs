@@ -37,6 +37,15 @@ pub fn cases() -> Vec<Case> {
     cases
 }
 
+/// Some of few bytes: refused sheets close to one, and pushes and pops of two cycles.
+pub fn few() -> Vec<Case> {
+    let mut cases = no_sheets();
+    cases.truncate(2 * wrong(HALF).len());
+    cases.retain(|case| case.cycles() == 3);
+    cases.extend(stacks().into_iter().filter(|case| case.cycles() == 2));
+    cases
+}
+
 fn has_second_byte(code: u8) -> bool {
     matches!(code, 0x14..=0x17 | 0x1E | 0xA0..=0xAF)
 }

@@ -35,7 +35,7 @@ fn shortest() -> Vec<Case> {
             .ram(80, &[1, 2, 3, 4])
             .made_schedule(300, 12, 9, 0)
             .resets(5)
-            .n(150)
+            .n(300)
             .ends(0),
         // TTM and JCP 000: behind the wait the skip passes the end.
         Case::new("two bytes that wait")
@@ -74,7 +74,7 @@ fn pages() -> Vec<Case> {
             .sheet(sheet(65, 0b00100, 1))
             .rom(0, &[0x15, 0x27, 0xA8, 0x40, 0x1D, 0xC2, 0x44, 0xA0, 0x41])
             .rom(0x40, &[0x48])
-            .n(150)
+            .n(250)
             .ends(22),
         // The acceptance leads to 03C, which isn't there.
         Case::new("60 bytes without an answer")

@@ -442,6 +442,60 @@ fn lists_are_of_every_kind() {
     }
 }
 
+/// Under a smaller sheet lists have the refused calls that look at it, under every sheet that is none.
+#[test]
+fn lists_of_smaller_chips_have_calls_under_other_sheets() {
+    for panel in all().into_iter().filter(Panel::is_smaller) {
+        let name = &panel.case.name;
+        let lists = [panel.cut_lists(), panel.drawn_lists()].concat();
+        let refused = list::refused(&lists);
+        assert!(refused.contains(&Refused::OtherSheet), "{name}");
+        assert!(refused.contains(&Refused::Absent), "{name}");
+        let wrong: BTreeSet<usize> = refused
+            .iter()
+            .filter_map(|call| match call {
+                Refused::Sheet(place) => Some(*place),
+                _ => None,
+            })
+            .collect();
+        assert!(wrong.len() > 8, "{name}: {wrong:?}");
+    }
+    // And the other panels have none of them.
+    for panel in all().into_iter().filter(|panel| !panel.is_smaller()) {
+        let refused = list::refused(&panel.cut_lists());
+        assert!(refused.iter().all(|call| list::ALL.contains(call)));
+    }
+}
+
+/// A level or a row that is lost at a cut shows in the log, and so does one more level than there is.
+#[test]
+fn a_level_that_is_lost_or_brought_in_shows() {
+    for levels in 2..=3 {
+        let panel = named(&format!("calls in calls, levels: {levels}"));
+        let lent = Lent::of(&panel);
+        let n = panel.case.cycles();
+        let log_from = |state: &State, k: u64| lent.run(Runner::Plain, state, n - k).1;
+        let mut seen = 0;
+        for (state, k) in states(&panel).iter().zip(0..=n).take(300) {
+            let mut forgotten = state.clone();
+            forgotten.stack[levels - 1] = 0;
+            seen += u64::from(log_from(state, k) != log_from(&forgotten, k));
+        }
+        assert!(seen > 20, "{levels} levels: {seen} cuts");
+    }
+    // The same program on chips of one, two and three levels goes three ways.
+    let ends: Vec<End> = (1..=3)
+        .map(|levels| named(&format!("calls in calls, levels: {levels}")))
+        .map(|panel| panel.unbroken(Runner::Plain).0)
+        .collect();
+    assert!(ends[0].log != ends[1].log && ends[1].log != ends[2].log);
+    let rows: BTreeSet<Vec<u8>> = ["00000", "10101", "01010", "11110"]
+        .map(|rows| named(&format!("every row, of which there are {rows}")))
+        .map(|panel| panel.unbroken(Runner::Plain).0.log)
+        .into();
+    assert_eq!(rows.len(), 4);
+}
+
 #[test]
 fn a_latch_that_is_lost_shows_in_what_is_read() {
     let panels = all();

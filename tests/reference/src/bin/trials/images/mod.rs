@@ -546,7 +546,12 @@ pub fn counts() -> Vec<Count> {
 
 /// A few groups.
 pub fn small() -> Vec<Group> {
-    let wanted = ["fresh: byte 15", "fresh as a value: 1 from 20 on"];
+    let wanted = [
+        "fresh: byte 15",
+        "fresh as a value: 1 from 20 on",
+        "half a chip: byte 11",
+        "half a chip as a value: 1 from 7 on",
+    ];
     let mut groups = all();
     groups.retain(|group| wanted.contains(&group.name.as_str()));
     groups
