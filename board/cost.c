@@ -24,13 +24,21 @@ static const uint8_t blink[] = {0x85, 0x14, 0xBF, 0x05, 0xC3, 0x10, 0x0E, 0xC1};
 static uint8_t image[WHARFNETTLE_IMAGE], rom[WHARFNETTLE_ROM], schedule[10 * RECORDS], log_bytes[WHARFNETTLE_LOG(SLICE)];
 static uint8_t report[WHARFNETTLE_REPORT];
 static size_t schedule_length;
-static uint64_t n, runner;
+static uint64_t n, runner, rom_bytes, rows, levels;
 static uint8_t number;
 
 static void call(void)
 {
-    number = wharfnettle_call(image, sizeof image, rom, sizeof rom, schedule, schedule_length, log_bytes, sizeof log_bytes, n, runner,
-                              report, sizeof report);
+    number = wharfnettle_call(image, sizeof image, rom, rom_bytes, schedule, schedule_length, log_bytes, sizeof log_bytes, n, runner,
+                              report, sizeof report, rom_bytes, rows, levels);
+}
+
+/* The sheet of what follows. */
+static void use_sheet(uint64_t its_rom, uint64_t its_rows, uint64_t its_levels)
+{
+    rom_bytes = its_rom;
+    rows = its_rows;
+    levels = its_levels;
 }
 
 /* A fresh panel with this ROM, and so many records from a cycle on, each a cycle after the last. */
@@ -107,8 +115,8 @@ static void nothing(void) {}
 static void convert(void)
 {
     static uint8_t old[WHARFNETTLE_OLD_IMAGE], again[WHARFNETTLE_IMAGE];
-    wharfnettle_convert(image, sizeof image, old, sizeof old, 1);
-    wharfnettle_convert(old, sizeof old, again, sizeof again, 2);
+    wharfnettle_convert(image, sizeof image, old, sizeof old, 1, rom_bytes, rows, levels);
+    wharfnettle_convert(old, sizeof old, again, sizeof again, 2, rom_bytes, rows, levels);
 }
 
 /* The bytes of a stack of its own that a function touches. */
@@ -133,6 +141,10 @@ static int print_stack(void)
     uint64_t drawn = 1;
     for (int round = 0; round < 2000; round++) {
         begin(blink, sizeof blink, (size_t)(round % 50), (uint64_t)round);
+        if (round % 5)
+            use_sheet(WHARFNETTLE_UPD546);
+        else
+            use_sheet(1 + (uint64_t)round, (uint64_t)round % 32, 1 + (uint64_t)round % 3);
         for (size_t k = 9; round % 4 == 1 && k < schedule_length; k += 10)
             schedule[k] = k % 60 < 50; /* RES is high for five cycles of six */
         if (round % 3)
@@ -162,6 +174,7 @@ static int make_calls(unsigned long count, size_t records, uint64_t cycles)
 
 int main(int count, char **words)
 {
+    use_sheet(WHARFNETTLE_UPD546);
     if (count == 5 && !strcmp(words[1], "calls"))
         return make_calls(strtoul(words[2], NULL, 10), strtoul(words[3], NULL, 10), strtoull(words[4], NULL, 10));
     if (count == 2 && !strcmp(words[1], "stack"))

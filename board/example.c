@@ -1,6 +1,6 @@
 /* A board's program in small: the call lamp of samples/lamp.panel in slices of 50 machine cycles, with the building switched off after each
    of them; the same lamp, reset from the machine room; a panel that stops; what a damaged image answers; and an image from before there was
-   a reset, taken forward and back. example.out has what it prints. */
+   a reset, taken forward and back; and a panel with a smaller chip. example.out has what it prints. */
 #include <inttypes.h>
 #include <stdio.h>
 #include <string.h>
@@ -60,7 +60,7 @@ static void slices(void)
         memcpy(image, kept, sizeof image);
         /* the plain runner and the timer-skipping one in turn: it makes no difference */
         uint8_t number = wharfnettle_call(image, sizeof image, lamp_rom, sizeof lamp_rom, lamp_schedule, sizeof lamp_schedule,
-                                          log, sizeof log, SLICE, done / SLICE % 2, report, sizeof report);
+                                          log, sizeof log, SLICE, done / SLICE % 2, report, sizeof report, WHARFNETTLE_UPD546);
         printf("slice from cycle %u\n", done);
         print_call(log, report, number);
         instructions += wharfnettle_count(report, WHARFNETTLE_INSTRUCTIONS);
@@ -72,7 +72,7 @@ static void slices(void)
     uint8_t image[WHARFNETTLE_IMAGE], log[WHARFNETTLE_LOG(CYCLES)], report[WHARFNETTLE_REPORT];
     wharfnettle_fresh(image, sizeof image);
     uint8_t number = wharfnettle_call(image, sizeof image, lamp_rom, sizeof lamp_rom, lamp_schedule, sizeof lamp_schedule,
-                                      log, sizeof log, CYCLES, 0, report, sizeof report);
+                                      log, sizeof log, CYCLES, 0, report, sizeof report, WHARFNETTLE_UPD546);
     printf("unbroken\n");
     print_call(log, report, number);
     printf("the images are %s\n", memcmp(image, kept, sizeof image) ? "NOT the same" : "the same");
@@ -85,7 +85,7 @@ static void resets(void)
     wharfnettle_fresh(image, sizeof image);
     for (int k = 0; k < 2; k++) {
         uint8_t number = wharfnettle_call(image, sizeof image, lamp_rom, sizeof lamp_rom, reset_schedule, sizeof reset_schedule,
-                                          log, sizeof log, 52, 1, report, sizeof report);
+                                          log, sizeof log, 52, 1, report, sizeof report, WHARFNETTLE_UPD546);
         printf("52 cycles\n");
         print_call(log, report, number);
         printf("  RES was high for %d cycles on end\n", image[WHARFNETTLE_IMAGE - 1]);
@@ -99,7 +99,7 @@ static void stops(void)
     wharfnettle_fresh(image, sizeof image);
     for (int k = 0; k < 3; k++) {
         uint8_t number = wharfnettle_call(image, sizeof image, stopping_rom, sizeof stopping_rom, NULL, 0, log, sizeof log, 10, 0,
-                                          report, sizeof report);
+                                          report, sizeof report, WHARFNETTLE_UPD546);
         printf("a log of 20 bytes\n");
         print_call(log, report, number);
     }
@@ -112,9 +112,15 @@ static void damaged(const char *what, size_t length, size_t at, uint8_t byte)
     wharfnettle_fresh(image, sizeof image);
     image[at] = byte;
     memcpy(before, image, sizeof image);
-    uint8_t number = wharfnettle_call(image, length, lamp_rom, sizeof lamp_rom, NULL, 0, NULL, 0, 10, 0, report, sizeof report);
+    uint8_t number = wharfnettle_call(image, length, lamp_rom, sizeof lamp_rom, NULL, 0, NULL, 0, 10, 0, report, sizeof report,
+                                      WHARFNETTLE_UPD546);
     printf("%s: %s %d, image %s, cycles %" PRIu64 "\n", what, wharfnettle_is_refusal(number) ? "refused" : "taken", number,
            memcmp(before, image, sizeof image) ? "changed" : "as it was", wharfnettle_count(report, WHARFNETTLE_CYCLES));
+}
+
+static uint8_t convert(const uint8_t *from, size_t from_length, uint8_t *to, size_t to_length, uint64_t version)
+{
+    return wharfnettle_convert(from, from_length, to, to_length, version, WHARFNETTLE_UPD546);
 }
 
 /* A board from before there was a reset has images of version 1. One is taken forward, runs, and goes back. */
@@ -123,16 +129,50 @@ static void converted(void)
     uint8_t old[WHARFNETTLE_OLD_IMAGE], back[WHARFNETTLE_OLD_IMAGE], image[WHARFNETTLE_IMAGE], log[WHARFNETTLE_LOG(10)];
     uint8_t report[WHARFNETTLE_REPORT];
     wharfnettle_fresh(image, sizeof image);
-    printf("back to version 1: %d\n", wharfnettle_convert(image, sizeof image, old, sizeof old, 1));
-    uint8_t number = wharfnettle_call(old, sizeof old, lamp_rom, sizeof lamp_rom, NULL, 0, log, sizeof log, 10, 0, report, sizeof report);
+    printf("back to version 1: %d\n", convert(image, sizeof image, old, sizeof old, 1));
+    uint8_t number = wharfnettle_call(old, sizeof old, lamp_rom, sizeof lamp_rom, NULL, 0, log, sizeof log, 10, 0, report, sizeof report,
+                                      WHARFNETTLE_UPD546);
     printf("a call on version 1: %d\n", number);
-    printf("forward to version 2: %d\n", wharfnettle_convert(old, sizeof old, image, sizeof image, 2));
-    number = wharfnettle_convert(image, sizeof image, back, sizeof back, 1);
+    printf("forward to version 2: %d\n", convert(old, sizeof old, image, sizeof image, 2));
+    number = convert(image, sizeof image, back, sizeof back, 1);
     printf("and back: %d, the images are %s\n", number, memcmp(old, back, sizeof old) ? "NOT the same" : "the same");
     image[WHARFNETTLE_IMAGE - 1] = 2;
-    printf("back with a count of 2: %d\n", wharfnettle_convert(image, sizeof image, back, sizeof back, 1));
-    printf("forward to 81 bytes: %d\n", wharfnettle_convert(old, sizeof old, image, sizeof image - 1, 2));
-    printf("to version 3: %d\n", wharfnettle_convert(old, sizeof old, image, sizeof image, 3));
+    printf("back with a count of 2: %d\n", convert(image, sizeof image, back, sizeof back, 1));
+    printf("forward to 81 bytes: %d\n", convert(old, sizeof old, image, sizeof image - 1, 2));
+    printf("to version 3: %d\n", convert(old, sizeof old, image, sizeof image, 3));
+}
+
+/* A chip of 1,000 bytes with rows 0 and 1 and two levels. Its panel goes two calls deep and writes 7 to port E there; it counts in row 1
+   and in row 2, which isn't there, and shows both counts; then it jumps behind its last address, 3E7. */
+enum { SMALL_ROM = 1000, SMALL_ROWS = 1 << 0 | 1 << 1, SMALL_LEVELS = 2 };
+static const uint8_t start[] = {
+    0xA9, 0x00,                         /* CAL 100 */
+    0x15, 0x10, 0x1D, 0x00, 0x38, 0x44, /* LDI 10, INM, NOP, LM, OE */
+    0x15, 0x20, 0x1D, 0x00, 0x38, 0x44, /* LDI 20, INM, NOP, LM, OE */
+    0xA3, 0xE8,                         /* JMP 3E8 */
+};
+static const uint8_t at_100[] = {0xAB, 0xE0, 0x48}; /* CAL 3E0, RT */
+static const uint8_t at_3E0[] = {0x97, 0x44, 0x48}; /* LI 7, OE, RT */
+
+static void smaller(void)
+{
+    uint8_t rom[SMALL_ROM] = {0}, image[WHARFNETTLE_IMAGE], log[WHARFNETTLE_LOG(40)], report[WHARFNETTLE_REPORT];
+    memcpy(rom, start, sizeof start);
+    memcpy(rom + 0x100, at_100, sizeof at_100);
+    memcpy(rom + 0x3E0, at_3E0, sizeof at_3E0);
+    wharfnettle_fresh(image, sizeof image);
+    uint8_t number = wharfnettle_call(image, sizeof image, rom, sizeof rom, NULL, 0, log, sizeof log, 40, 0, report, sizeof report,
+                                      SMALL_ROM, SMALL_ROWS, SMALL_LEVELS);
+    printf("a chip of 1,000 bytes, two rows and two levels\n");
+    print_call(log, report, number);
+    number = wharfnettle_call(image, sizeof image, rom, sizeof rom, NULL, 0, NULL, 0, 1, 0, report, sizeof report, WHARFNETTLE_UPD546);
+    printf("the uPD546 with this ROM: %d\n", number);
+    number = wharfnettle_convert(image, sizeof image, NULL, 0, 1, SMALL_ROM, 32, SMALL_LEVELS);
+    printf("a sheet with 32 for the rows: %d\n", number);
+    image[27 + 2 * 8] = 0x10; /* word 0 of row 2 */
+    number = wharfnettle_call(image, sizeof image, rom, sizeof rom, NULL, 0, NULL, 0, 1, 0, report, sizeof report, SMALL_ROM, SMALL_ROWS,
+                              SMALL_LEVELS);
+    printf("an image with a word in row 2: %d\n", number);
 }
 
 int main(void)
@@ -151,5 +191,6 @@ int main(void)
     damaged("an image with a count of 4", 82, 81, 4);
     damaged("an image with a count of 5", 82, 81, 5);
     converted();
+    smaller();
     return 0;
 }

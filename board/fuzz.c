@@ -16,7 +16,7 @@ enum { FRESH = 1, NEW_ROM = 2, NEW_SCHEDULE = 4, NULLS = 8, CONVERT = 16 };
 enum { IMAGE, ROM, SCHEDULE, LOG, REPORT, PARTS };
 
 static const char *const names[PARTS] = {"image", "ROM", "schedule", "log", "report"};
-static const uint8_t numbers[] = {0, 1, 2, 3, 11, 12, 13, 14, 21, 22, 23, 31, 32, 33, 34, 54};
+static const uint8_t numbers[] = {0, 1, 2, 3, 11, 12, 13, 14, 21, 22, 23, 31, 32, 33, 34, 54, 71};
 
 /* A part of a call. */
 struct part {
@@ -105,6 +105,7 @@ static unsigned one_call(void)
             get(NULL, SIZE_MAX);
     }
     uint64_t n = get_number(), runner = get_number(), fill = get_number(), due = get_number(), written = get_number();
+    uint64_t rom_bytes = get_number(), rows = get_number(), levels = get_number();
     get(image->before, image->length);
     if (flags & NEW_ROM)
         get(rom->before, rom->length);
@@ -130,10 +131,10 @@ static unsigned one_call(void)
         number = wharfnettle_fresh(image->bytes, image->length);
     } else if (flags & CONVERT) {
         name = "wharfnettle_convert";
-        number = wharfnettle_convert(image->bytes, image->length, report->bytes, report->length, n);
+        number = wharfnettle_convert(image->bytes, image->length, report->bytes, report->length, n, rom_bytes, rows, levels);
     } else {
         number = wharfnettle_call(image->bytes, image->length, rom->bytes, rom->length, schedule->bytes, schedule->length, log->bytes,
-                                  log->length, n, runner, report->bytes, report->length);
+                                  log->length, n, runner, report->bytes, report->length, rom_bytes, rows, levels);
     }
     if (number != due)
         fail("%s, an image of %zu bytes: the number is %u, due %u", name, image->length, number, (unsigned)due);

@@ -20,6 +20,8 @@ MUST(2 * WHARFNETTLE_LOG(1 + 2) == 96);
 MUST(WHARFNETTLE_IMAGE == WHARFNETTLE_OLD_IMAGE + 1);
 MUST(sizeof WHARFNETTLE_LOG(1) == sizeof(size_t));
 MUST(WHARFNETTLE_SCHEDULE % 10 == 0);
+static const uint64_t upd546[] = {WHARFNETTLE_UPD546};
+MUST(sizeof upd546 == 3 * sizeof(uint64_t));
 MUST(WHARFNETTLE_STEPS == 3 && WHARFNETTLE_REPORT == 8 * (WHARFNETTLE_STEPS + 1));
 
 /* Functions, and no macros: they have addresses. */
@@ -38,7 +40,8 @@ static uint8_t counted(int number)
 
 static uint8_t call(uint64_t n)
 {
-    return wharfnettle_call(image, sizeof image, rom, sizeof rom, NULL, 0, records, sizeof records, n, 0, report, sizeof report);
+    return wharfnettle_call(image, sizeof image, rom, sizeof rom, NULL, 0, records, sizeof records, n, 0, report, sizeof report,
+                            WHARFNETTLE_UPD546);
 }
 
 /* The cycle number of the image, which tells how many calls were made. */
@@ -80,7 +83,12 @@ int main(void)
     image[0] = 'u';
     hold(wharfnettle_is_refusal(call(10)) && cycle() == 5, "a call that is refused");
     image[0] = 'U';
-    hold(wharfnettle_convert(image, sizeof image, old, sizeof old, 1) == 0 && old[4] == 1, "an image goes back to version 1");
-    hold(wharfnettle_convert(old, sizeof old, again, sizeof again, 2) == 0 && !memcmp(again, image, sizeof image), "and forward again");
+    hold(wharfnettle_convert(image, sizeof image, old, sizeof old, 1, WHARFNETTLE_UPD546) == 0 && old[4] == 1,
+         "an image goes back to version 1");
+    hold(wharfnettle_convert(old, sizeof old, again, sizeof again, 2, WHARFNETTLE_UPD546) == 0 && !memcmp(again, image, sizeof image),
+         "and forward again");
+    hold(upd546[0] == WHARFNETTLE_ROM && upd546[1] == 31 && upd546[2] == 3, "the uPD546 has 2,000 bytes, rows 0 to 4 and three levels");
+    hold(wharfnettle_convert(image, sizeof image, again, sizeof again, 2, upd546[0], upd546[1], upd546[2]) == 0, "a sheet as three numbers");
+    hold(wharfnettle_convert(image, sizeof image, again, sizeof again, 2, WHARFNETTLE_ROM, 31, 4) == 71, "a sheet outside its limits");
     return wrong;
 }

@@ -1,15 +1,17 @@
 /* Runs a panel from files in slices, and may be killed at any moment: started again, it goes on with nothing lost and nothing twice.
 
-       keeper PANEL DIR CYCLES SLICE
+       keeper [--sheet ROM,ROWS,LEVELS] PANEL DIR CYCLES SLICE
 
-   PANEL is what `trace` reads: n (4 bytes, not looked at here), ROM and line schedule. DIR/log has the port log. DIR/state has 130 bytes,
-   with numbers big-endian:
+   PANEL is what `trace` reads: n (4 bytes, not looked at here), ROM and line schedule. Without --sheet the chip is the uPD546; a smaller
+   one is told by three decimal numbers with commas between: its ROM bytes, which of RAM rows 0 to 4 it has (1 for row 0, 2 for row 1, 4 for
+   row 2, 8 for row 3, 16 for row 4, added up) and its stack levels. The ROM of PANEL then has that many bytes. It is the same with every
+   start. DIR/log has the port log. DIR/state has 130 bytes, with numbers big-endian:
 
        0    KEEPER, and the version of this layout, 2 (2 bytes)
        8    the log bytes of all slices so far
        16   the instructions of all slices so far
        24   the digest of those log bytes
-       32   the digest of ROM and schedule
+       32   the digest of ROM and schedule; of another chip than the uPD546 the three numbers come before them, 8 bytes each
        40   the image; its cycle number is the cycles of all slices so far
        122  the digest of the 122 bytes before it
 
@@ -28,7 +30,7 @@
 
    A start changes nothing before it has held all that it finds to what it must be. It says what is wrong and ends with status 1 where a
    bit of DIR/state is flipped, or of the log bytes that it speaks of; where one of the two files was lost; and where DIR/state is of
-   another ROM or another schedule. A state file from before this layout doesn't begin with KEEPER, and is refused for it. */
+   another ROM, another schedule or another chip. A state file from before this layout doesn't begin with KEEPER, and is refused for it. */
 #define _POSIX_C_SOURCE 200809L
 #include <errno.h>
 #include <fcntl.h>
@@ -57,8 +59,14 @@ enum { OLD_DIGEST = IMAGE + WHARFNETTLE_OLD_IMAGE, OLD_STATE = OLD_DIGEST + 8 };
 /* What a folder has of a state. */
 enum kept { NONE, OLD, WHOLE };
 
+struct sheet {
+    uint64_t rom_bytes, rows, levels;
+};
+static const struct sheet upd546 = {WHARFNETTLE_UPD546};
+
 struct panel {
     const char *name;
+    struct sheet sheet;
     uint8_t bytes[COUNT + WHARFNETTLE_ROM + WHARFNETTLE_SCHEDULE + 1];
     size_t rom_length, schedule_length;
     uint64_t digest;
@@ -245,7 +253,21 @@ static size_t read_all(int file, const char *name, uint8_t *bytes, size_t length
     return got;
 }
 
-static void read_panel(const char *name, struct panel *panel)
+/* The digest of the sheet, ROM and schedule; for the uPD546 as it was before there were sheets. */
+static uint64_t panel_digest(const struct panel *panel)
+{
+    const struct sheet *sheet = &panel->sheet;
+    const uint64_t numbers[] = {sheet->rom_bytes, sheet->rows, sheet->levels};
+    uint8_t bytes[sizeof numbers];
+    uint64_t before = 0;
+    for (int k = 0; k < 3; k++)
+        put_number(bytes + 8 * k, numbers[k]);
+    if (memcmp(sheet, &upd546, sizeof upd546))
+        before = digest(0, bytes, sizeof bytes);
+    return digest(before, panel->bytes + COUNT, panel->rom_length + panel->schedule_length);
+}
+
+static void read_panel(const char *name, struct sheet sheet, struct panel *panel)
 {
     int file = open(name, O_RDONLY);
     if (file < 0)
@@ -254,15 +276,16 @@ static void read_panel(const char *name, struct panel *panel)
     close(file);
     length = length < COUNT ? 0 : length - COUNT;
     panel->name = name;
-    panel->rom_length = length < WHARFNETTLE_ROM ? length : WHARFNETTLE_ROM;
+    panel->sheet = sheet;
+    panel->rom_length = length < sheet.rom_bytes ? length : (size_t)sheet.rom_bytes;
     panel->schedule_length = length - panel->rom_length;
-    panel->digest = digest(0, panel->bytes + COUNT, length);
+    panel->digest = panel_digest(panel);
 }
 
 static const char *meaning(uint8_t number);
 
 /* Whether there is a state file, which then has the bytes that a keeper wrote; an old one's image is taken forward. */
-static enum kept read_state(int dir, struct state *state)
+static enum kept read_state(int dir, struct sheet sheet, struct state *state)
 {
     uint8_t bytes[STATE + 1] = {0}; /* a byte more, so that a long one shows */
     int file = openat(dir, "state", O_RDONLY);
@@ -286,7 +309,8 @@ static enum kept read_state(int dir, struct state *state)
     uint64_t *numbers[] = {&state->log_bytes, &state->instructions, &state->log_digest, &state->panel_digest};
     for (int k = 0; k < 4; k++)
         *numbers[k] = number_at(bytes + NUMBERS + 8 * k, 8);
-    uint8_t number = wharfnettle_convert(bytes + IMAGE, to_digest - IMAGE, state->image, sizeof state->image, 2);
+    uint8_t number = wharfnettle_convert(bytes + IMAGE, to_digest - IMAGE, state->image, sizeof state->image, 2, sheet.rom_bytes, sheet.rows,
+                                         sheet.levels);
     if (number)
         refuse("the state file is refused with %d: %s", number, meaning(number));
     return kept;
@@ -325,10 +349,11 @@ static const char *meaning(uint8_t number)
     case 12: return "the schedule has over 40,960 bytes";
     case 13: return "a record's INT level or its RES isn't 0 or 1";
     case 14: return "a record's cycle isn't above the last one's";
-    case 21: return "the panel's file has under 2,004 bytes";
+    case 21: return "the panel's file has under 2,004 bytes, or under 4 more than its sheet says";
     case 32: return "the image doesn't begin with U43";
     case 33: return "the image's version doesn't go with its length";
-    case 34: return "a field of the image is above its width or against its rule";
+    case 34: return "a field of the image is above its width or against its rule, or holds something that this chip doesn't have";
+    case 71: return "the sheet is outside its limits: ROM bytes 1 to 2,000, rows 0 to 31, levels 1 to 3";
     default: return "no number of this call";
     }
 }
@@ -336,17 +361,19 @@ static const char *meaning(uint8_t number)
 /* A call on the timer-skipping runner. For no cycles there needs to be no log. */
 static uint8_t run(const struct panel *panel, uint8_t *image, uint8_t *log, uint64_t n, uint8_t *report)
 {
-    const uint8_t *rom = panel->bytes + COUNT;
-    return wharfnettle_call(image, WHARFNETTLE_IMAGE, rom, panel->rom_length, rom + WHARFNETTLE_ROM, panel->schedule_length, log,
-                            WHARFNETTLE_LOG(n), n, 1, report, WHARFNETTLE_REPORT);
+    const uint8_t *rom = panel->bytes + COUNT, *schedule = rom + panel->rom_length;
+    const struct sheet *sheet = &panel->sheet;
+    return wharfnettle_call(image, WHARFNETTLE_IMAGE, rom, panel->rom_length, schedule, panel->schedule_length, log, WHARFNETTLE_LOG(n), n,
+                            1, report, WHARFNETTLE_REPORT, sheet->rom_bytes, sheet->rows, sheet->levels);
 }
 
 /* Refuses what a call for no cycles refuses. */
 static void check_call(const struct panel *panel, uint8_t *image)
 {
     uint8_t report[WHARFNETTLE_REPORT], number = run(panel, image, NULL, 0, report);
+    const char *what = number > 70 ? "--sheet" : number > 30 ? "the state file" : panel->name;
     if (wharfnettle_is_refusal(number))
-        refuse("%s is refused with %d: %s", number > 30 ? "the state file" : panel->name, number, meaning(number));
+        refuse("%s is refused with %d: %s", what, number, meaning(number));
 }
 
 /* Refuses a log whose first bytes, as many as the state has, aren't those that its slices wrote. */
@@ -382,7 +409,7 @@ static void check_state(const struct panel *panel, struct state *state, int log)
     check_call(panel, state->image);
     uint64_t cycles = cycles_of(state);
     if (state->panel_digest != panel->digest)
-        refuse("the state file is of another panel: the ROM or the schedule of %s isn't that of its slices", panel->name);
+        refuse("the state file is of another panel: the ROM or the schedule of %s, or the sheet, isn't that of its slices", panel->name);
     if (state->instructions > cycles || state->log_bytes % RECORD || state->log_bytes > WHARFNETTLE_LOG(cycles))
         refuse("the state file has %" PRIu64 " instructions and %" PRIu64 " log bytes, which no panel has after %" PRIu64 " cycles",
                state->instructions, state->log_bytes, cycles);
@@ -412,7 +439,7 @@ static void open_log(struct folder *folder)
    whose state was lost, and stays. */
 static void begin(const struct panel *panel, const struct folder *folder, struct state *state)
 {
-    enum kept kept = read_state(folder->dir, state);
+    enum kept kept = read_state(folder->dir, panel->sheet, state);
     if (kept != NONE) {
         check_state(panel, state, folder->log);
         if (kept == OLD)
@@ -459,13 +486,35 @@ static uint64_t number_of(const char *word, uint64_t most)
     return number;
 }
 
+/* Three decimal numbers, of any value that 64 bits hold: what is wrong with them the call says. */
+static struct sheet sheet_of(const char *word)
+{
+    uint64_t numbers[3];
+    const char *at = word;
+    for (int k = 0; k < 3; k++) {
+        char *end;
+        errno = 0;
+        numbers[k] = strtoull(at, &end, 10);
+        if (*at < '0' || *at > '9' || errno || *end != (k < 2 ? ',' : 0))
+            refuse("%s is no sheet: ROM bytes, rows and levels are wanted with commas between, as 2000,31,3 for the uPD546", word);
+        at = end + 1;
+    }
+    return (struct sheet){numbers[0], numbers[1], numbers[2]};
+}
+
 int main(int count, char **words)
 {
     static struct panel panel;
     struct state state;
+    struct sheet sheet = upd546;
     uint8_t image[WHARFNETTLE_IMAGE], number = 0;
+    if (count > 2 && !strcmp(words[1], "--sheet")) {
+        sheet = sheet_of(words[2]);
+        count -= 2;
+        words += 2;
+    }
     if (count != 5) {
-        fputs("usage: keeper PANEL DIR CYCLES SLICE\n", stderr);
+        fputs("usage: keeper [--sheet ROM,ROWS,LEVELS] PANEL DIR CYCLES SLICE\n", stderr);
         return 2;
     }
     uint64_t cycles = number_of(words[3], ((uint64_t)1 << 48) - 1);
@@ -474,7 +523,7 @@ int main(int count, char **words)
     if (!records)
         die("no memory for a slice of %" PRIu64 " cycles", slice);
     make_digests();
-    read_panel(words[1], &panel);
+    read_panel(words[1], sheet, &panel);
     wharfnettle_fresh(image, sizeof image);
     check_call(&panel, image); /* so that no log is made for a panel that is refused */
 

@@ -8,7 +8,10 @@
  *     uint8_t image[WHARFNETTLE_IMAGE], log[WHARFNETTLE_LOG(1000)], report[WHARFNETTLE_REPORT];
  *     wharfnettle_fresh(image, sizeof image);
  *     uint8_t number = wharfnettle_call(image, sizeof image, rom, WHARFNETTLE_ROM, schedule, schedule_length,
- *                                       log, sizeof log, 1000, 1, report, sizeof report);
+ *                                       log, sizeof log, 1000, 1, report, sizeof report, WHARFNETTLE_UPD546);
+ *
+ * The last three arguments are the sheet, which says how much of the machine the panel's chip has; WHARFNETTLE_UPD546 stands for those
+ * of the uPD546 itself.
  *
  * Link with libwharfnettle.a, which board/build makes (x86-64 Linux). It needs no other library, not even the C library.
  */
@@ -25,9 +28,25 @@ extern "C" {
 /* Lengths in bytes. */
 #define WHARFNETTLE_IMAGE 82          /* exactly, else 31 */
 #define WHARFNETTLE_OLD_IMAGE 81      /* an image of version 1, which boards have that know no reset; wharfnettle_convert takes it on */
-#define WHARFNETTLE_ROM 2000          /* exactly, else 21 */
+#define WHARFNETTLE_ROM 2000          /* of the uPD546; exactly as many as the sheet says, else 21 */
 #define WHARFNETTLE_SCHEDULE 40960    /* at most, 4,096 records of 10 bytes, else 12; none is fine */
 #define WHARFNETTLE_REPORT 32         /* at least, else 1 */
+
+/*
+ * The sheet of a chip, three numbers that are given last. It isn't kept in the image: the board knows its chip, and gives the same sheet
+ * with every call for a panel.
+ *
+ *   rom_bytes   1 to 2,000; the last address is one less, and a PC beyond it stops with 22
+ *   rows        which of RAM rows 0 to 4 there are, bit i for row i, so 0 to 31. Row 7 is always there, 5 and 6 never. A row that isn't
+ *               there reads 0 and loses what is written to it
+ *   levels      of the stack, 1 to 3; one call more than that loses the oldest return
+ *
+ * A sheet outside these limits is refused with 71. A panel holds zeros in the rows and levels that its chip hasn't: another image is
+ * refused with 34. So a panel of a smaller chip may go on under a larger one's sheet, but for its ROM, and not always the other way round.
+ *
+ * A chip of 1,000 bytes with rows 0 and 1 and two levels is 1000, 3, 2. The uPD546 itself:
+ */
+#define WHARFNETTLE_UPD546 2000, 31, 3
 
 /* A log of so many bytes is never too short for n cycles, so 3 isn't answered. */
 #define WHARFNETTLE_LOG(n) (16 * (size_t)(n))
@@ -44,20 +63,21 @@ extern "C" {
  *   12       whoever wrote the schedule  the schedule has over 40,960 bytes
  *   13       whoever wrote the schedule  a record's INT level or its RES isn't 0 or 1
  *   14       whoever wrote the schedule  a record's cycle isn't above the last one's
- *   21       whoever read the ROM        the ROM hasn't 2,000 bytes
- *   22       whoever read the ROM        a stop: a byte above address 7CF is needed
+ *   21       whoever read the ROM        the ROM hasn't 2,000 bytes, or as many as its sheet says
+ *   22       whoever read the ROM        a stop: a byte above address 7CF is needed, or above the sheet's last one
  *   23       whoever read the ROM        a stop: code 1C or 45 is due, which is no instruction
  *   31       whoever kept the image      the image hasn't 82 bytes
  *   32       whoever kept the image      the image doesn't begin with U43
  *   33       whoever kept the image      the image's version doesn't go with its length
- *   34       whoever kept the image      a field of the image is above its width or against its rule
+ *   34       whoever kept the image      a field of the image is above its width or against its rule, or holds something that this chip doesn't have
  *   54       the caller                  an image of version 1 is wanted while the count of cycles with RES high isn't 0
+ *   71       whoever wrote the sheet     the sheet is outside its limits: ROM bytes 1 to 2,000, rows 0 to 31, levels 1 to 3
  *
  * A stop (3, 22, 23) leaves the panel before the instruction that wasn't begun. Image, log and report are those of the cycles up to
  * there, and a call may go on: after 3 with a new log, after 22 and 23 it stops at once again.
  *
  * The others above 0 are refusals. Image and log stay as they were, and the report has 32 zeros; with 1 it stays as it was. With several
- * faults the first of this order is answered: 1, 31, 32, 33, 34, 21, 12, 11, then by record 13 and 14, then 2.
+ * faults the first of this order is answered: 1, 71, 31, 32, 33, 34, 21, 12, 11, then by record 13 and 14, then 2.
  */
 static inline int wharfnettle_is_stop(int number)
 {
@@ -78,6 +98,7 @@ static inline int wharfnettle_is_refusal(int number)
  * runner     0 the plain one; any other number the timer-skipping one, which jumps over timer waits and does the same
  * report     written: cycles, instructions, log bytes and steps of this call, 8 bytes each, big-endian; bytes past the 32 stay.
  *            Steps tell how much work it was; the other three don't depend on the runner.
+ * rom_bytes, rows, levels   the sheet
  *
  * Whatever the bytes and the numbers are, the call returns and does what is written here: that is proved. What it can't see is the
  * caller's to see to:
@@ -95,10 +116,11 @@ uint8_t wharfnettle_call(uint8_t *image, size_t image_length,
                          const uint8_t *schedule, size_t schedule_length,
                          uint8_t *log, size_t log_length,
                          uint64_t n, uint64_t runner,
-                         uint8_t *report, size_t report_length);
+                         uint8_t *report, size_t report_length,
+                         uint64_t rom_bytes, uint64_t rows, uint64_t levels);
 
 /*
- * Writes the image of a panel that was never run: cycle 0, all zero, INT high. Answers 0; or 1 where the buffer has under 82 bytes, which
+ * Writes the image of a panel that was never run: cycle 0, all zero, INT high. It is one of every chip. Answers 0; or 1 where the buffer has under 82 bytes, which
  * then stay as they were. Bytes past the 82 stay.
  */
 uint8_t wharfnettle_fresh(uint8_t *image, size_t image_length);
@@ -110,13 +132,15 @@ uint8_t wharfnettle_fresh(uint8_t *image, size_t image_length);
  * from       read; an image of 81 bytes, version 1, or of 82, version 2
  * to         written: 80 + version bytes; bytes past them stay
  * version    1 or 2
+ * rom_bytes, rows, levels   the sheet
  *
- * Answers 0; or, in this order, 31 where `from` has neither length, 32, 33 where its version doesn't go with its length, 34; 33 where the
+ * Answers 0; or, in this order, 71; 31 where `from` has neither length, 32, 33 where its version doesn't go with its length, 34; 33 where the
  * version wanted is neither 1 nor 2; 54 where version 1 is wanted and the last byte of `from`, its count of cycles with RES high, isn't 0:
  * that panel is about to be reset, or is, and version 1 can't say so; 1 where `to` is shorter than the image wanted. Then `to` stays as it
  * was. The parts must not overlap, and what holds of wharfnettle_call's pointers holds of these.
  */
-uint8_t wharfnettle_convert(const uint8_t *from, size_t from_length, uint8_t *to, size_t to_length, uint64_t version);
+uint8_t wharfnettle_convert(const uint8_t *from, size_t from_length, uint8_t *to, size_t to_length, uint64_t version,
+                            uint64_t rom_bytes, uint64_t rows, uint64_t levels);
 
 /* The counts of a report. */
 enum wharfnettle_count {

@@ -2,14 +2,14 @@
 //! slice has its length, and slices that are written overlap nothing.
 //!
 //! ```
-//! use wharfnettle::{call, fresh_image, log_bytes, End, Runner};
+//! use wharfnettle::{call, fresh_image, log_bytes, End, Runner, Sheet};
 //!
 //! // OCD A5, LI 3, OE, and code 1C, which is no instruction.
 //! let mut rom = [0; wharfnettle::ROM];
 //! rom[..5].copy_from_slice(&[0x1E, 0xA5, 0x93, 0x44, 0x1C]);
 //! let mut image = fresh_image();
 //! let mut log = vec![0; log_bytes(10)];
-//! let answer = call(&mut image, &rom, &[], &mut log, 10, Runner::Skipping);
+//! let answer = call(&mut image, &rom, &[], &mut log, 10, Runner::Skipping, Sheet::UPD546);
 //! assert_eq!(answer.end, End::Stopped(23));
 //! assert_eq!(answer.counts.cycles, 5);
 //! assert_eq!(log[..8], [0, 0, 0, 0, 0, 0, 2, 5]);
@@ -21,7 +21,7 @@
 pub const IMAGE: usize = 82;
 /// The bytes of an image of version 1, which boards have that know no reset.
 pub const OLD_IMAGE: usize = 81;
-/// The bytes of a ROM.
+/// The bytes of the uPD546's ROM.
 pub const ROM: usize = 2_000;
 const REPORT: usize = 32;
 
@@ -34,6 +34,27 @@ pub type OldImage = [u8; OLD_IMAGE];
 /// The bytes of log with which a call for n cycles never stops with 3.
 pub const fn log_bytes(n: usize) -> usize {
     16 * n
+}
+
+/// How much of the machine a chip of the family has. It is given last, the same one with every call for a panel; one outside its limits is
+/// refused with 71.
+#[derive(Clone, Copy, PartialEq, Eq, Debug)]
+pub struct Sheet {
+    /// ROM bytes, 1 to 2,000.
+    pub rom_bytes: u64,
+    /// Which of RAM rows 0 to 4 there are: bit i for row i, so 0 to 31. Row 7 is always there.
+    pub rows: u64,
+    /// Levels of the stack, 1 to 3.
+    pub levels: u64,
+}
+
+impl Sheet {
+    /// The uPD546 itself.
+    pub const UPD546: Sheet = Sheet {
+        rom_bytes: ROM as u64,
+        rows: 31,
+        levels: 3,
+    };
 }
 
 /// Which runner. They do the same; the timer-skipping one takes fewer steps.
@@ -103,6 +124,9 @@ mod c {
             runner: u64,
             report: *mut u8,
             report_length: usize,
+            rom_bytes: u64,
+            rows: u64,
+            levels: u64,
         ) -> u8;
         pub fn wharfnettle_fresh(image: *mut u8, image_length: usize) -> u8;
         pub fn wharfnettle_convert(
@@ -111,6 +135,9 @@ mod c {
             to: *mut u8,
             to_length: usize,
             version: u64,
+            rom_bytes: u64,
+            rows: u64,
+            levels: u64,
         ) -> u8;
     }
 }
@@ -125,6 +152,7 @@ pub fn call(
     log: &mut [u8],
     n: u64,
     runner: Runner,
+    sheet: Sheet,
 ) -> Answer {
     let mut report = [0; REPORT];
     // SAFETY: each pointer leads to as many bytes as the length behind it says. `image`, `log` and
@@ -143,6 +171,9 @@ pub fn call(
             u64::from(runner == Runner::Skipping),
             report.as_mut_ptr(),
             report.len(),
+            sheet.rom_bytes,
+            sheet.rows,
+            sheet.levels,
         )
     };
     let end = match number {
@@ -163,7 +194,7 @@ pub fn call(
     Answer { end, counts }
 }
 
-/// The image of a panel that was never run.
+/// The image of a panel that was never run; it is one of every chip.
 pub fn fresh_image() -> Image {
     let mut image = [0; IMAGE];
     // SAFETY: the pointer leads to as many bytes as the length says, and nobody else uses them.
@@ -174,19 +205,19 @@ pub fn fresh_image() -> Image {
 
 /// Takes an image of either version forward to version 2: one that was kept before there was a reset gets
 /// a count of 0. Bytes of any length and content may be given; what is wrong with them is answered.
-pub fn forward(image: &[u8]) -> Result<Image, u8> {
+pub fn forward(image: &[u8], sheet: Sheet) -> Result<Image, u8> {
     let mut to = [0; IMAGE];
-    convert(image, &mut to, 2).map(|()| to)
+    convert(image, &mut to, 2, sheet).map(|()| to)
 }
 
 /// Takes an image of either version back to version 1, for a board that knows no reset; 54 where its count
 /// isn't 0.
-pub fn back(image: &[u8]) -> Result<OldImage, u8> {
+pub fn back(image: &[u8], sheet: Sheet) -> Result<OldImage, u8> {
     let mut to = [0; OLD_IMAGE];
-    convert(image, &mut to, 1).map(|()| to)
+    convert(image, &mut to, 1, sheet).map(|()| to)
 }
 
-fn convert(from: &[u8], to: &mut [u8], version: u64) -> Result<(), u8> {
+fn convert(from: &[u8], to: &mut [u8], version: u64, sheet: Sheet) -> Result<(), u8> {
     // SAFETY: each pointer leads to as many bytes as the length behind it says. `to` is borrowed to be
     // written, so it overlaps nothing and nobody else uses it.
     let number = unsafe {
@@ -196,6 +227,9 @@ fn convert(from: &[u8], to: &mut [u8], version: u64) -> Result<(), u8> {
             to.as_mut_ptr(),
             to.len(),
             version,
+            sheet.rom_bytes,
+            sheet.rows,
+            sheet.levels,
         )
     };
     match number {

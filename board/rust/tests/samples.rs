@@ -5,8 +5,10 @@ use std::fs;
 use std::path::{Path, PathBuf};
 
 use wharfnettle::{
-    back, call, forward, fresh_image, log_bytes, Answer, Counts, End, Image, Runner, ROM,
+    back, call, forward, fresh_image, log_bytes, Answer, Counts, End, Image, Runner, Sheet, ROM,
 };
+
+const UPD546: Sheet = Sheet::UPD546;
 
 fn sample(name: &str) -> PathBuf {
     Path::new(env!("CARGO_MANIFEST_DIR"))
@@ -19,6 +21,7 @@ struct Panel {
     n: u64,
     rom: Vec<u8>,
     schedule: Vec<u8>,
+    sheet: Sheet,
 }
 
 fn panel(name: &str) -> Panel {
@@ -29,6 +32,7 @@ fn panel(name: &str) -> Panel {
         n: n.iter().fold(0, |n, &byte| n << 8 | u64::from(byte)),
         rom: rom.to_vec(),
         schedule: schedule.to_vec(),
+        sheet: UPD546,
     }
 }
 
@@ -44,6 +48,7 @@ impl Panel {
             &mut log,
             self.n,
             runner,
+            self.sheet,
         );
         log.truncate(answer.counts.log_bytes as usize);
         (answer, image, log)
@@ -57,7 +62,8 @@ impl Panel {
             let n = length.min(self.n - done);
             let runner = [Runner::Plain, Runner::Skipping][(done / length % 2) as usize];
             let mut part = vec![0; log_bytes(n as usize)];
-            let answer = call(&mut image, &self.rom, &self.schedule, &mut part, n, runner);
+            let (rom, schedule, sheet) = (&self.rom, &self.schedule, self.sheet);
+            let answer = call(&mut image, rom, schedule, &mut part, n, runner, sheet);
             log.extend_from_slice(&part[..answer.counts.log_bytes as usize]);
             counts.cycles += answer.counts.cycles;
             counts.instructions += answer.counts.instructions;
@@ -146,6 +152,7 @@ fn a_log_that_is_too_short_stops_and_may_go_on() {
             &mut part,
             left,
             Runner::Skipping,
+            UPD546,
         );
         joined.extend_from_slice(&part[..answer.counts.log_bytes as usize]);
         done += answer.counts.cycles;
@@ -171,6 +178,7 @@ fn a_damaged_image_is_refused_and_left() {
             &mut [],
             10,
             Runner::Plain,
+            UPD546,
         );
         assert_eq!(image, before);
         assert_eq!(answer.counts, Counts::default());
@@ -185,7 +193,7 @@ fn a_damaged_image_is_refused_and_left() {
     assert_eq!(refusal(&mut fresh_image()[..81]), End::Refused(31));
     assert_eq!(refusal(&mut [0; 83]), End::Refused(31));
     // Also a whole image of version 1.
-    let mut old = back(&fresh_image()).unwrap();
+    let mut old = back(&fresh_image(), UPD546).unwrap();
     assert_eq!(refusal(&mut old), End::Refused(31));
     assert_eq!(refusal(&mut changed(2, b'4')), End::Refused(32));
     assert_eq!(refusal(&mut changed(4, 1)), End::Refused(33));
@@ -201,8 +209,8 @@ fn an_image_from_before_the_reset_goes_on_and_back() {
     let panel = panel("lobby");
     let (_, whole, log) = panel.whole(Runner::Plain);
     let old = fs::read(sample("lobby.image")).unwrap();
-    let mut image = forward(&old).unwrap();
-    assert_eq!(back(&image).unwrap()[..], old);
+    let mut image = forward(&old, UPD546).unwrap();
+    assert_eq!(back(&image, UPD546).unwrap()[..], old);
     // It was saved after 450 of the 1,200 cycles.
     let mut rest = vec![0; log_bytes(750)];
     let answer = call(
@@ -212,17 +220,18 @@ fn an_image_from_before_the_reset_goes_on_and_back() {
         &mut rest,
         750,
         Runner::Plain,
+        UPD546,
     );
     assert_eq!((answer.end, image), (End::Finished, whole));
     assert!(log.ends_with(&rest[..answer.counts.log_bytes as usize]));
     // With a count it doesn't go back.
     image[81] = 2;
-    assert_eq!(back(&image), Err(54));
-    assert_eq!(forward(&image), Ok(image));
+    assert_eq!(back(&image, UPD546), Err(54));
+    assert_eq!(forward(&image, UPD546), Ok(image));
     image[81] = 5;
-    assert_eq!(forward(&image), Err(34));
-    assert_eq!(forward(&old[..80]), Err(31));
-    assert_eq!(forward(&whole[..81]), Err(33));
+    assert_eq!(forward(&image, UPD546), Err(34));
+    assert_eq!(forward(&old[..80], UPD546), Err(31));
+    assert_eq!(forward(&whole[..81], UPD546), Err(33));
 }
 
 #[test]
@@ -230,8 +239,93 @@ fn the_cycle_number_has_an_end() {
     let panel = panel("lamp");
     let mut image = fresh_image();
     for n in [1 << 48, u64::MAX] {
-        let answer = call(&mut image, &panel.rom, &[], &mut [], n, Runner::Plain);
+        let (rom, runner) = (&panel.rom, Runner::Plain);
+        let answer = call(&mut image, rom, &[], &mut [], n, runner, UPD546);
         assert_eq!(answer.end, End::Refused(2));
     }
     assert_eq!(image, fresh_image());
+}
+
+/// 1,000 bytes, rows 0 and 1, two levels.
+const HALF: Sheet = Sheet {
+    rom_bytes: 1_000,
+    rows: 0b00011,
+    levels: 2,
+};
+
+/// A panel of that chip: INM in row 1 and in row 2, which isn't there, with a subroutine that writes Acc to E; in a loop.
+fn half() -> Panel {
+    let mut rom = vec![0; 1_000];
+    rom[..16].copy_from_slice(&[
+        0x15, 0x10, 0x1D, 0x00, 0x38, 0xA9, 0x00, 0x15, 0x20, 0x1D, 0x00, 0x38, 0xA9, 0x00, 0xC0,
+        0x00,
+    ]);
+    rom[0x100..0x103].copy_from_slice(&[0xAB, 0xE0, 0x48]);
+    rom[0x3E0..0x3E2].copy_from_slice(&[0x44, 0x48]);
+    Panel {
+        n: 500,
+        rom,
+        schedule: Vec::new(),
+        sheet: HALF,
+    }
+}
+
+#[test]
+fn a_smaller_chip_runs_in_slices() {
+    let panel = half();
+    let (mut whole, image, log) = panel.whole(Runner::Plain);
+    assert_eq!((whole.end, whole.counts.cycles), (End::Finished, 500));
+    // Row 1 counts, and row 2 reads 0.
+    let values: Vec<u8> = log.chunks_exact(8).map(|record| record[7]).collect();
+    assert_eq!(values[..8], [1, 0, 2, 0, 3, 0, 4, 0]);
+    whole.counts.steps = 0;
+    for length in (1..60).chain([333]) {
+        assert_eq!(panel.slices(length), (whole, image, log.clone()));
+    }
+    // Nothing is kept of what isn't there: rows 2 to 4, and the third level.
+    assert_eq!(
+        (&image[11..13], &image[43..67]),
+        (&[0; 2][..], &[0; 24][..])
+    );
+}
+
+#[test]
+fn a_sheet_is_held_to_its_limits_and_an_image_to_the_sheet() {
+    let panel = half();
+    let end = |image: &mut [u8], sheet: Sheet| {
+        let before = image.to_vec();
+        let answer = call(image, &panel.rom, &[], &mut [], 0, Runner::Plain, sheet);
+        assert_eq!(image, before);
+        answer.end
+    };
+    let of = |rom_bytes: u64, rows: u64, levels: u64| Sheet {
+        rom_bytes,
+        rows,
+        levels,
+    };
+    assert_eq!(end(&mut fresh_image(), HALF), End::Finished);
+    for wrong in [
+        of(0, 3, 2),
+        of(2_001, 3, 2),
+        of(u64::MAX, 3, 2),
+        of(1_000, 32, 2),
+        of(1_000, 256, 2),
+        of(1_000, 3, 0),
+        of(1_000, 3, 4),
+        of(1_000, 3, 257),
+    ] {
+        assert_eq!(end(&mut [], wrong), End::Refused(71), "{wrong:?}");
+        assert_eq!(forward(&[], wrong), Err(71), "{wrong:?}");
+    }
+    // The ROM is of one length, also where it is longer.
+    assert_eq!(end(&mut fresh_image(), of(999, 3, 2)), End::Refused(21));
+    assert_eq!(end(&mut fresh_image(), UPD546), End::Refused(21));
+    // A word of row 2, and a third level.
+    for place in [43, 12] {
+        let mut image = fresh_image();
+        image[place] = 1;
+        assert_eq!(end(&mut image, HALF), End::Refused(34), "{place}");
+        assert_eq!(back(&image, HALF), Err(34));
+        assert!(back(&image, UPD546).is_ok());
+    }
 }

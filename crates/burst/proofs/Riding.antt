@@ -166,7 +166,7 @@ module _ {sheet : Sheet} {skips : Bool} {rom sched table rows positions : List �
   fits-here = lent-fits (k .turn .lent) (k .levels-is)
 
   -- as many levels as a legal sheet has
-  pub levels-small : (1 ≤ levels) × (levels ≤ stackDepth)
+  levels-small : (1 ≤ levels) × (levels ≤ stackDepth)
   levels-small =
       let v = lent-legal (k .turn .lent) in
       (omega (arith, v .level-some, k .levels-is), omega (arith, v .level-most, k .levels-is))
@@ -629,7 +629,7 @@ module _ {sheet : Sheet} {skips : Bool} {rom sched table rows positions : List �
                 }
 
             -- INT and INTE aren't both 1, and no loop waits on the timer: the code at PC isn't the one that is watched for
-            pub rides-freely : Free (r .core .interrupt) → (byteAt rom (r .core .flow .pc) ≡ watch′ → ⊥) → Riding sheet skips rom sched l limit s log₀ at₀ begun₀ after
+            rides-freely : Free (r .core .interrupt) → (byteAt rom (r .core .flow .pc) ≡ watch′ → ⊥) → Riding sheet skips rom sched l limit s log₀ at₀ begun₀ after
             rides-freely f n = rides-on (free-accepts on f) (λ q left. wait-length-none sheet rom sched there left (go q (eqb (r .core .timer .register) 0) refl))
               where
                 go : skips ≡ true → (x : Bool) → eqb (r .core .timer .register) 0 ≡ x → mayJump sheet rom sched there ≡ false
@@ -641,13 +641,13 @@ module _ {sheet : Sheet} {skips : Bool} {rom sched table rows positions : List �
                     no-loop sheet rom sched there (rw (no-ttm sheet rom (lent-rom (k .turn .lent)) (r .core .flow .pc) (λ z. n (z ∙ sym watched))))
 
             -- or the address after PC holds no JCP back
-            pub rides-past : Free (r .core .interrupt) → atJcpBack sheet rom (r .core .flow .pc) ≡ false → Riding sheet skips rom sched l limit s log₀ at₀ begun₀ after
+            rides-past : Free (r .core .interrupt) → atJcpBack sheet rom (r .core .flow .pc) ≡ false → Riding sheet skips rom sched l limit s log₀ at₀ begun₀ after
             rides-past f z =
                 rides-on (free-accepts on f)
                 (λ q left. wait-length-none sheet rom sched there left (no-loop sheet rom sched there (rw z (and-false (atTtm sheet rom (r .core .flow .pc))))))
 
             -- the mark keeps an interrupt back
-            pub rides-kept : mayBeDue (r .core .interrupt) ≡ true → blocks (r .core .mark) ≡ true
+            rides-kept : mayBeDue (r .core .interrupt) ≡ true → blocks (r .core .mark) ≡ true
                 → Riding sheet skips rom sched l limit s log₀ at₀ begun₀ after
             rides-kept due z =
                 rides-on (blocked-accepts on z)
@@ -679,7 +679,7 @@ pub record Follows (skips : Bool) (rom sched table rows positions : List ℕ) (l
   pub later : q .done ≤ p .done
   pub near-event : Near near (p .horizon) (p .core .interrupt)
 
--- where the loops begin
+-- before the first of them
 pub follows-none : {skips : Bool} {rom sched table rows positions : List ℕ} {levels : ℕ} {l : Lines} {limit at₀ begun₀ : ℕ} {p : Standing} {near : ℕ}
     → near ≡ nearestOf (p .core .interrupt) (p .horizon) → Follows skips rom sched table rows positions levels l limit at₀ begun₀ p p near
 follows-none e = record { riding = λ k y. y; later = omega arith; near-event = near-is e }

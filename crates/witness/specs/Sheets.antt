@@ -41,7 +41,7 @@ pub record OfEverySheet (sheet : Sheet) : Type 0 where
   pub before-the-image : (c : BoardCall) → 32 ≤ length (c .report) → (sheetNumber sheet ≡ 0 → ⊥) → callRefusal (chip sheet) c ≡ 71
   -- `EverySheetTakesTheFreshState`
   pub takes-fresh : stateNumber sheet fresh ≡ 0
-  -- `accepted-absent`; with `EveryRunKeepsTheStateSound`, "A run keeps them zero"
+  -- `accepted-absent`; with `EveryRunKeepsTheStateSound`: a run keeps them zero
   pub zeros : (s : State) → stateNumber sheet s ≡ 0 → Zeros sheet s
   pub keeps-zeros : (kind : Kind) (rom sched : List ℕ) (s : State) (log : List ℕ) (n : ℕ) → Bytes rom → Bytes sched
       → stateNumber sheet s ≡ 0 → Zeros sheet (runAnswer (chip sheet) kind rom sched s log n .state)

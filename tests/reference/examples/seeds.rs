@@ -8,7 +8,7 @@
 use std::env;
 
 use reference::load::{rom, schedule, MOST};
-use reference::{run_observed, Observer, Runner, State};
+use reference::{run_observed, Observer, Runner, Sheet, State};
 
 const CYCLES: u64 = 10_000_000;
 
@@ -47,17 +47,22 @@ fn measure(seed: u32, log: &mut [u8]) -> Measured {
     let last = last.iter().fold(0, |n, &byte| n << 8 | u64::from(byte));
     let (mut all, mut later) = (Addresses::none(), Addresses::none());
     let start = State::fresh();
-    let first = run_observed(Runner::Plain, &rom, &schedule, &start, log, last, &mut all);
+    let mut measured = |from: &State, n: u64, addresses: &mut Addresses| {
+        let sheet = Sheet::UPD546;
+        run_observed(
+            Runner::Plain,
+            &rom,
+            &schedule,
+            from,
+            log,
+            n,
+            sheet,
+            addresses,
+        )
+    };
+    let first = measured(&start, last, &mut all);
     let left = if first.number == 0 { CYCLES - last } else { 0 };
-    let second = run_observed(
-        Runner::Plain,
-        &rom,
-        &schedule,
-        &first.state,
-        log,
-        left,
-        &mut later,
-    );
+    let second = measured(&first.state, left, &mut later);
     for (begun, also) in all.0.iter_mut().zip(later.0) {
         *begun |= also;
     }

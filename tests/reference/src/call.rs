@@ -3,15 +3,18 @@
 
 use crate::image::{restore, save, Version};
 use crate::machine::State;
-use crate::numbers::{FINISHED, IMAGE_LENGTH, IMAGE_VERSION, SHORT_BUFFER};
+use crate::numbers::{FINISHED, IMAGE_LENGTH, IMAGE_VERSION, SHEET, SHORT_BUFFER};
 use crate::runners::{run, Runner};
+use crate::sheet::Sheet;
 
 /// "8 bytes each, big-endian, to the first 32 bytes of a lent report".
 const COUNT: usize = 8;
 pub const REPORT: usize = 32;
 
 /// The call. "It answers the run's number"; "image refusals come first, then the run's. A refusal
-/// leaves the image; a finish or a stop rewrites it." R-8: it "takes 82 bytes only, else 31".
+/// leaves the image; a finish or a stop rewrites it." R-8: it "takes 82 bytes only, else 31". R-11: "71, before all else
+/// but R-3's report under 32 bytes".
+#[allow(clippy::too_many_arguments)]
 pub fn call(
     image: &mut [u8],
     rom: &[u8],
@@ -20,6 +23,7 @@ pub fn call(
     n: u64,
     runner: u64,
     report: &mut [u8],
+    sheet: Sheet,
 ) -> u8 {
     // "A report under 32 bytes is 1, before all else, and is not written."
     let Some(report) = report.get_mut(..REPORT) else {
@@ -27,14 +31,17 @@ pub fn call(
     };
     // "zeros on a refusal"
     report.fill(0);
+    if !sheet.is_legal() {
+        return SHEET;
+    }
     if image.len() != Version::Two.length() {
         return IMAGE_LENGTH;
     }
-    let (number, state) = restore(image);
+    let (number, state) = restore(image, sheet);
     if number != FINISHED {
         return number;
     }
-    let answer = run(runner_of(runner), rom, schedule, &state, log, n);
+    let answer = run(runner_of(runner), rom, schedule, &state, log, n, sheet);
     if answer.refused {
         return answer.number;
     }
@@ -43,7 +50,7 @@ pub fn call(
     for (place, count) in report.chunks_exact_mut(COUNT).zip(counts) {
         place.copy_from_slice(&count.to_be_bytes());
     }
-    let saved = save(Version::Two, &answer.state, image);
+    let saved = save(Version::Two, &answer.state, image, sheet);
     assert_eq!(saved, FINISHED, "the state that a run answers is saved");
     answer.number
 }
@@ -56,22 +63,22 @@ fn runner_of(number: u64) -> Runner {
     }
 }
 
-/// The fresh state's image, for a panel that has none yet. As with a save, a buffer under 82 bytes is 1
-/// and is left, and bytes past the image are kept.
+/// The fresh state's image, for a panel that has none yet; it is one under every sheet. As with a save, a buffer
+/// under 82 bytes is 1 and is left, and bytes past the image are kept.
 pub fn fresh(image: &mut [u8]) -> u8 {
-    save(Version::Two, &State::fresh(), image)
+    save(Version::Two, &State::fresh(), image, Sheet::UPD546)
 }
 
 /// The image of the same state in the version wanted, for boards that hold version 1 images: restore's
 /// numbers, 33 for a version that is neither 1 nor 2, then those of a save.
-pub fn convert(from: &[u8], to: &mut [u8], version: u64) -> u8 {
-    let (number, state) = restore(from);
+pub fn convert(from: &[u8], to: &mut [u8], version: u64, sheet: Sheet) -> u8 {
+    let (number, state) = restore(from, sheet);
     if number != FINISHED {
         return number;
     }
     match version {
-        1 => save(Version::One, &state, to),
-        2 => save(Version::Two, &state, to),
+        1 => save(Version::One, &state, to, sheet),
+        2 => save(Version::Two, &state, to, sheet),
         _ => IMAGE_VERSION,
     }
 }
@@ -101,6 +108,7 @@ mod tests {
         n: u64,
         runner: u64,
         report: Vec<u8>,
+        sheet: Sheet,
     }
 
     impl Given {
@@ -115,6 +123,7 @@ mod tests {
                 n: 10,
                 runner: 0,
                 report: vec![9; 40],
+                sheet: Sheet::UPD546,
             }
         }
 
@@ -132,6 +141,7 @@ mod tests {
                 self.n,
                 self.runner,
                 &mut self.report,
+                self.sheet,
             )
         }
 
@@ -157,7 +167,7 @@ mod tests {
 
     fn image_in(version: Version, state: &State) -> Vec<u8> {
         let mut image = vec![0; version.length()];
-        assert_eq!(save(version, state, &mut image), FINISHED);
+        assert_eq!(save(version, state, &mut image, Sheet::UPD546), FINISHED);
         image
     }
 
@@ -368,7 +378,7 @@ mod tests {
             });
             let mut log = given.log.clone();
             let runner = [Runner::Plain, Runner::Skipping][given.runner as usize];
-            let (number, restored) = restore(&given.image);
+            let (number, restored) = restore(&given.image, given.sheet);
             assert_eq!((number, &restored), (FINISHED, &state));
             let answer = run(
                 runner,
@@ -377,6 +387,7 @@ mod tests {
                 &restored,
                 &mut log,
                 given.n,
+                given.sheet,
             );
             assert_eq!(given.call(), answer.number);
             ended[usize::from(answer.number)] += 1;
@@ -456,14 +467,15 @@ mod tests {
             due[15] = 32;
             assert_eq!(image[..82], due);
             assert_eq!(image[82..], vec![5; length - 82]);
-            assert_eq!(restore(&image[..82]), (FINISHED, State::fresh()));
+            let restored = restore(&image[..82], Sheet::UPD546);
+            assert_eq!(restored, (FINISHED, State::fresh()));
         }
     }
 
     /// A convert that writes so many bytes of a buffer of this length, and keeps the rest.
     fn converted(from: &[u8], length: usize, version: u64) -> Vec<u8> {
         let mut to = vec![9; length];
-        assert_eq!(convert(from, &mut to, version), FINISHED);
+        assert_eq!(convert(from, &mut to, version, Sheet::UPD546), FINISHED);
         let written = 80 + version as usize;
         assert_eq!(to[written..], vec![9; length - written]);
         to.truncate(written);
@@ -472,7 +484,7 @@ mod tests {
 
     fn refuses_to_convert(from: &[u8], length: usize, version: u64, number: u8) {
         let mut to = vec![9; length];
-        assert_eq!(convert(from, &mut to, version), number);
+        assert_eq!(convert(from, &mut to, version, Sheet::UPD546), number);
         assert_eq!(to, vec![9; length]);
     }
 

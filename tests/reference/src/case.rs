@@ -10,16 +10,19 @@
 //! - 8: if it is 41, 48, 49 or A0 to BF and y % 8 isn't 0, y % 64;
 //! - 16: if it is 0E, 1E, 44, 60 to 67 or 70 to 77, 80 + y % 32;
 //! - 1: if it is 1C or 45, 0;
-//! - 4: at 7CE A0, elsewhere from 7C0 on 0, and if it is A7 or AF, 0.
+//! - 4: at 7CE A0, elsewhere from 7C0 on 0, and if it is A7 or AF, 0. Under another sheet with its last address in place
+//!   of 7CF: the byte before it, its page from the first address on, and JMP and CAL to its field and those behind.
 //!
 //! A schedule record takes two numbers: x and y of the first are the ports, the top bit of the
 //! second is the INT level. RES is 1 where the seven bits below that are a multiple of what the case
 //! says, 0 where it says 0. The next record is 1 + z cycles later, where z is the top half of the
-//! second number modulo the gap, 0 if the gap is 0. A RAM word is the top four bits of x.
+//! second number modulo the gap, 0 if the gap is 0. A RAM word is the top four bits of x, and 0 in a row that the sheet
+//! hasn't.
 
-use crate::lent::Lent;
+use crate::lent::{self, Lent};
 use crate::machine::State;
 use crate::runners::{Answer, Coverage, Runner};
+use crate::sheet::Sheet;
 
 /// The filters of a ROM.
 pub const NO_STOPS: u8 = 1;
@@ -28,9 +31,9 @@ pub const INSIDE: u8 = 4;
 pub const FEW_JUMPS: u8 = 8;
 pub const NO_PORTS: u8 = 16;
 
-/// ROM bytes and log bytes where a case says nothing else.
-const ROM: u16 = 2_000;
+/// Log bytes where a case says nothing else; and the longest ROM that is made for a sheet.
 const LOG: u32 = 64;
+const LONGEST_ROM: u64 = 4_096;
 
 /// A run of bytes at an address.
 type Patch = (u16, Vec<u8>);
@@ -57,17 +60,18 @@ pub struct Case {
     state: State,
     log_length: u32,
     n: u64,
+    sheet: Sheet,
 }
 
 impl Case {
-    /// A fresh state, a ROM of NOPs, no schedule and no cycles.
+    /// A fresh state, a ROM of NOPs, no schedule and no cycles, on the uPD546.
     pub fn new(name: impl Into<String>) -> Case {
         Case {
             name: name.into(),
             ends: None,
             runner: Runner::Plain,
             filter: 0,
-            rom_length: ROM,
+            rom_length: Sheet::UPD546.rom as u16,
             rom_seed: 0,
             rom_patches: Vec::new(),
             schedule_length: 0,
@@ -81,7 +85,15 @@ impl Case {
             state: State::fresh(),
             log_length: LOG,
             n: 0,
+            sheet: Sheet::UPD546,
         }
+    }
+
+    /// The same under another sheet, with a ROM as long as that says, where it can be.
+    pub fn sheet(mut self, sheet: Sheet) -> Case {
+        self.sheet = sheet;
+        self.rom_length = sheet.rom.min(LONGEST_ROM) as u16;
+        self
     }
 
     /// The same on the timer-skipping runner.
@@ -203,7 +215,13 @@ impl Case {
                 .map(|place| (7 * place + 13) as u8)
                 .collect(),
             n: self.n,
+            sheet: self.sheet,
         }
+    }
+
+    /// The sheet that it is run under.
+    pub fn under(&self) -> Sheet {
+        self.sheet
     }
 
     /// Runs the case, and answers its log too.
@@ -217,7 +235,7 @@ impl Case {
         if s != 0 {
             for (at, byte) in rom.iter_mut().enumerate() {
                 s = next(s);
-                *byte = filtered(s, self.filter, at);
+                *byte = filtered(s, self.filter, at, usize::from(self.rom_length));
             }
         }
         lay(&mut rom, &self.rom_patches);
@@ -256,6 +274,11 @@ impl Case {
                 *word = top(s) >> 4;
             }
         }
+        let made = State {
+            ram,
+            ..State::fresh()
+        };
+        ram = self.sheet.fitted(&made).ram;
         lay(&mut ram, &self.ram_patches);
         ram
     }
@@ -293,7 +316,7 @@ pub fn lines(records: &[LinesFrom]) -> Vec<u8> {
 
 /// A panel as program `trace` reads it: n, code at some addresses of a ROM of NOPs, and a schedule.
 pub fn panel(n: u32, code: &[(usize, &[u8])], schedule: &[u8]) -> Vec<u8> {
-    let mut rom = vec![0; usize::from(ROM)];
+    let mut rom = vec![0; lent::ROM];
     for &(address, bytes) in code {
         rom[address..address + bytes.len()].copy_from_slice(bytes);
     }
@@ -314,7 +337,8 @@ fn below_top(s: u32) -> u8 {
     (s >> 16) as u8
 }
 
-fn filtered(s: u32, filter: u8, at: usize) -> u8 {
+/// The byte at an address of a ROM of so many bytes.
+fn filtered(s: u32, filter: u8, at: usize, length: usize) -> u8 {
     let mut x = top(s);
     let y = below_top(s);
     if filter & FEW_JCP != 0 && x >= 0xC0 && !y.is_multiple_of(8) {
@@ -333,11 +357,12 @@ fn filtered(s: u32, filter: u8, at: usize) -> u8 {
         x = 0;
     }
     if filter & INSIDE != 0 {
-        match at {
-            0x7CE => x = 0xA0,
-            0x7C0.. => x = 0,
-            _ if matches!(x, 0xA7 | 0xAF) => x = 0,
-            _ => {}
+        let last = length - 1;
+        let leaves = matches!(x, 0xA0..=0xAF) && usize::from(x & 7) >= last >> 8;
+        if at + 1 == last {
+            x = 0xA0;
+        } else if at >= last & 0x7C0 || leaves {
+            x = 0;
         }
     }
     x

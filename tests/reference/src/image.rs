@@ -4,6 +4,7 @@ use crate::machine::State;
 use crate::numbers::{
     COUNT_LOST, FIELD, FINISHED, IMAGE_LENGTH, IMAGE_MARK, IMAGE_VERSION, SHORT_BUFFER,
 };
+use crate::sheet::Sheet;
 
 /// "0-2 the mark `U43`; 3-4 version 1".
 const MARK: [u8; 3] = *b"U43";
@@ -37,9 +38,13 @@ impl Version {
 
 /// Writes the image of a state in the version wanted: "save 34, 1 and then writes 81 bytes only", of version 2
 /// one more; "54, in a save between 34 and 1, a version 1 image wanted while the count isn't 0". A refused save
-/// writes nothing.
-pub fn save(version: Version, state: &State, buffer: &mut [u8]) -> u8 {
-    if !state.is_valid() {
+/// writes nothing. R-11: 71 is "before all else".
+pub fn save(version: Version, state: &State, buffer: &mut [u8], sheet: Sheet) -> u8 {
+    let chip = match sheet.chip() {
+        Ok(chip) => chip,
+        Err(number) => return number,
+    };
+    if !state.is_valid(&chip) {
         return FIELD;
     }
     if version == Version::One && state.count != 0 {
@@ -79,15 +84,16 @@ pub fn save(version: Version, state: &State, buffer: &mut [u8]) -> u8 {
 }
 
 /// Reads an image: "restore 31 to 34"; "a refused run answers the state given, a refused restore the
-/// fresh state".
-pub fn restore(bytes: &[u8]) -> (u8, State) {
-    match decode(bytes) {
+/// fresh state". R-11: 71 is "before all else".
+pub fn restore(bytes: &[u8], sheet: Sheet) -> (u8, State) {
+    match decode(bytes, sheet) {
         Ok(state) => (FINISHED, state),
         Err(number) => (number, State::fresh()),
     }
 }
 
-fn decode(bytes: &[u8]) -> Result<State, u8> {
+fn decode(bytes: &[u8], sheet: Sheet) -> Result<State, u8> {
+    let chip = sheet.chip()?;
     // "31 is now a length of neither 81 nor 82, 33 a version that doesn't go with the length"
     let of_length = |version: &Version| version.length() == bytes.len();
     let Some(version) = Version::BOTH.into_iter().find(of_length) else {
@@ -136,7 +142,7 @@ fn decode(bytes: &[u8]) -> Result<State, u8> {
         pair[0] = byte >> 4;
         pair[1] = byte & 15;
     }
-    if state.is_valid() {
+    if state.is_valid(&chip) {
         Ok(state)
     } else {
         Err(FIELD)

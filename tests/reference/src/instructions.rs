@@ -3,8 +3,8 @@
 use crate::log::Log;
 use crate::machine::{mark, word, State};
 use crate::numbers::{ABOVE_ROM, NO_INSTRUCTION};
-use crate::runners::LAST_ADDRESS;
 use crate::schedule::Lines;
+use crate::sheet::Chip;
 
 /// The instructions, in the order of the document's lists.
 #[rustfmt::skip]
@@ -96,6 +96,7 @@ pub(crate) fn execute(
     after: u16,
     lines: &Lines,
     log: &mut Log,
+    chip: &Chip,
 ) -> Result<bool, u8> {
     // "b is a 2-bit bit number, k a 4-bit and m a 2-bit operand."
     let b = || code & 3;
@@ -109,7 +110,7 @@ pub(crate) fn execute(
         // One cycle.
         NOP => {}
         DI => s.inte = 0,
-        S => s.set_m(s.acc),
+        S => s.set_m(s.acc, chip),
         TIT => {
             skip = s.int == 1;
             s.int = 0;
@@ -120,17 +121,17 @@ pub(crate) fn execute(
         TAL => s.dpl = s.acc,
         AD => {
             // "skip on carry, C kept".
-            let sum = s.acc + s.m();
+            let sum = s.acc + s.m(chip);
             s.acc = sum & 15;
             skip = sum > 15;
         }
         ADS => {
-            add_with_carry(s);
+            add_with_carry(s, chip);
             skip = s.carry == 1;
         }
         DAS => s.acc = (s.acc + 10) & 15,
         CLC => s.carry = 0,
-        CM => skip = s.acc == s.m(),
+        CM => skip = s.acc == s.m(chip),
         INC => {
             s.acc = (s.acc + 1) & 15;
             skip = s.acc == 0;
@@ -150,28 +151,28 @@ pub(crate) fn execute(
         CIA => s.acc = (16 - s.acc) & 15,
         TLA => s.acc = s.dpl,
         DED => skip = dec_dpl(s),
-        EXL => s.acc ^= s.m(),
-        ADC => add_with_carry(s),
+        EXL => s.acc ^= s.m(chip),
+        ADC => add_with_carry(s, chip),
         XC => std::mem::swap(&mut s.carry, &mut s.saved),
         STC => s.carry = 1,
         INM => {
             // "a skip looks at the computed value".
-            let value = (s.m() + 1) & 15;
-            s.set_m(value);
+            let value = (s.m(chip) + 1) & 15;
+            s.set_m(value, chip);
             skip = value == 0;
         }
         DEM => {
-            let value = (s.m() + 15) & 15;
-            s.set_m(value);
+            let value = (s.m(chip) + 15) & 15;
+            s.set_m(value, chip);
             skip = value == 15;
         }
         TAB => skip = has_bit(s.acc, b()),
         XM => {
-            swap_m(s);
+            swap_m(s, chip);
             s.dph ^= m();
         }
         XMD => {
-            swap_m(s);
+            swap_m(s, chip);
             s.dph ^= m();
             skip = dec_dpl(s);
         }
@@ -187,18 +188,18 @@ pub(crate) fn execute(
         }
         IP => s.acc = read_port(s, lines),
         IND => skip = inc_dpl(s),
-        CMB => skip = has_bit(s.acc, b()) == has_bit(s.m(), b()),
+        CMB => skip = has_bit(s.acc, b()) == has_bit(s.m(chip), b()),
         LM => {
-            s.acc = s.m();
+            s.acc = s.m(chip);
             s.dph ^= m();
         }
         XMI => {
-            swap_m(s);
+            swap_m(s, chip);
             s.dph ^= m();
             skip = inc_dpl(s);
         }
         TPB => skip = has_bit(read_port(s, lines), b()),
-        TMB => skip = has_bit(s.m(), b()),
+        TMB => skip = has_bit(s.m(chip), b()),
         RPB => {
             if has_port_bit(s.dpl, b()) {
                 log.room(1)?;
@@ -211,8 +212,8 @@ pub(crate) fn execute(
                 write_port(s, s.dpl, with_bit(latch(s, s.dpl), b()), log);
             }
         }
-        RMB => s.set_m(without_bit(s.m(), b())),
-        SMB => s.set_m(with_bit(s.m(), b())),
+        RMB => s.set_m(without_bit(s.m(chip), b()), chip),
+        SMB => s.set_m(with_bit(s.m(chip), b()), chip),
         LDZ => {
             // "DP=k".
             s.dph = 0;
@@ -227,7 +228,7 @@ pub(crate) fn execute(
         }
         CZP => {
             // "call 4 times k".
-            s.push(after);
+            s.push(after, chip);
             next = u16::from(k()) << 2;
         }
         JCP => next = in_page(s.pc, code & 63),
@@ -245,13 +246,13 @@ pub(crate) fn execute(
         }
         TLY => s.ram[word::Y] = s.dpl,
         THX => s.ram[word::X] = s.dph,
-        RT => next = s.pop(),
+        RT => next = s.pop(chip),
         RTS => {
             // "then always a skip", which begins in the ROM.
-            if s.stack[0] > LAST_ADDRESS {
+            if s.stack[0] >= chip.rom {
                 return Err(ABOVE_ROM);
             }
-            next = s.pop();
+            next = s.pop(chip);
             skip = true;
         }
         XAZ => std::mem::swap(&mut s.acc, &mut s.ram[word::Z]),
@@ -295,7 +296,7 @@ pub(crate) fn execute(
         }
         JMP => next = far(code, second),
         CAL => {
-            s.push(after);
+            s.push(after, chip);
             next = far(code, second);
         }
 
@@ -309,8 +310,8 @@ pub(crate) fn execute(
 
 /// "Acc+M+C into Acc and C".
 #[inline(always)]
-fn add_with_carry(s: &mut State) {
-    let sum = s.acc + s.m() + s.carry;
+fn add_with_carry(s: &mut State, chip: &Chip) {
+    let sum = s.acc + s.m(chip) + s.carry;
     s.acc = sum & 15;
     s.carry = sum >> 4;
 }
@@ -331,9 +332,9 @@ fn dec_dpl(s: &mut State) -> bool {
 
 /// "swap Acc, M"
 #[inline(always)]
-fn swap_m(s: &mut State) {
-    let m = s.m();
-    s.set_m(s.acc);
+fn swap_m(s: &mut State, chip: &Chip) {
+    let m = s.m(chip);
+    s.set_m(s.acc, chip);
     s.acc = m;
 }
 

@@ -2,10 +2,13 @@
 
 use crate::machine::State;
 use crate::numbers::LOG_FULL;
-use crate::runners::{run_observed, Answer, Nobody, Observer, Runner, ROM_BYTES};
+use crate::runners::{run_observed, Answer, Nobody, Observer, Runner};
+use crate::sheet::Sheet;
 
-/// Program `trace`: "n (4 bytes, big-endian), ROM and schedule", and "a log of 16,384 bytes".
+/// Program `trace`: "n (4 bytes, big-endian), ROM and schedule", and "a log of 16,384 bytes"; R-11: `trace` and R-4 "keep
+/// the old figures".
 const COUNT: usize = 4;
+pub(crate) const ROM: usize = 2_000;
 const LOG: usize = 16_384;
 
 /// A run that is still to be done.
@@ -17,6 +20,7 @@ pub struct Lent {
     pub state: State,
     pub log: Vec<u8>,
     pub n: u64,
+    pub sheet: Sheet,
 }
 
 impl Lent {
@@ -24,7 +28,7 @@ impl Lent {
     /// "under 2,004 bytes".
     pub fn of_panel(input: &[u8]) -> Option<Lent> {
         let (count, rest) = input.split_at_checked(COUNT)?;
-        let (rom, schedule) = rest.split_at_checked(ROM_BYTES)?;
+        let (rom, schedule) = rest.split_at_checked(ROM)?;
         Some(Lent {
             runner: Runner::Plain,
             rom: rom.to_vec(),
@@ -32,6 +36,7 @@ impl Lent {
             state: State::fresh(),
             log: vec![0; LOG],
             n: count.iter().fold(0, |n, &byte| n << 8 | u64::from(byte)),
+            sheet: Sheet::UPD546,
         })
     }
 
@@ -57,6 +62,7 @@ impl Lent {
             &self.state,
             &mut self.log,
             self.n,
+            self.sheet,
             observer,
         );
         (answer, self.log)

@@ -1,7 +1,7 @@
 //! A reference interpreter of the uPD546 as document 01 defines it: one machine cycle after the
 //! other, on a state that is changed in place. `waiting`, `call` and `load` are requests of document
-//! 02; stand where they change document 01. `case`, `codes`, `draw`, `kinds`, `maker`,
-//! `mnemonics` and `show` are no part of either: what the programs that make trials share, and the tests.
+//! 02; stand where they change document 01. `case`, `codes`, `draw`, `kinds`, `maker`,
+//! `mnemonics`, `sheets` and `show` are no part of either: what the programs that make trials share, and the tests.
 
 pub mod call;
 pub mod case;
@@ -20,6 +20,8 @@ pub mod numbers;
 mod ports;
 mod runners;
 mod schedule;
+mod sheet;
+pub mod sheets;
 mod show;
 mod timer;
 mod trace;
@@ -29,4 +31,5 @@ pub use image::{restore, save, Version};
 pub use machine::State;
 pub use ports::ports;
 pub use runners::{run, run_observed, Answer, Coverage, Observer, Runner};
+pub use sheet::Sheet;
 pub use trace::trace;

@@ -1,7 +1,7 @@
 //! Request R-4, "A load anyone can make again": ROMs and schedules from a seed.
 
+use crate::lent::ROM;
 use crate::numbers::{BUFFER_SHORT, FINISHED, MANY_RECORDS};
-use crate::runners::ROM_BYTES;
 
 /// "at most 4,096"
 pub const MOST: u64 = 4_096;
@@ -22,7 +22,7 @@ impl Generator {
 /// "A ROM is 2,000 such bytes."
 pub fn rom(seed: u32) -> Vec<u8> {
     let mut generator = Generator { s: seed };
-    (0..ROM_BYTES).map(|_| generator.byte()).collect()
+    (0..ROM).map(|_| generator.byte()).collect()
 }
 
 /// "draws per record one byte for the gap (plus 1, added to the last cycle, starting from 0), two for

@@ -1,5 +1,7 @@
 //! "The machine": the state, its widths, its stack and its RAM.
 
+use crate::sheet::Chip;
+
 /// "Mark: other, LDI, EI or STM, the kind of the last instruction begun", in the image's order.
 pub(crate) mod mark {
     pub(crate) const OTHER: u8 = 0;
@@ -29,18 +31,6 @@ pub(crate) mod word {
     pub(crate) const Y: usize = 0x5E;
     pub(crate) const X: usize = 0x5F;
 }
-
-/// Where each row begins in the RAM array; rows 5 and 6 don't exist.
-const ROWS: [Option<u8>; 8] = [
-    Some(0x00),
-    Some(0x10),
-    Some(0x20),
-    Some(0x30),
-    Some(0x40),
-    None,
-    None,
-    Some(0x50),
-];
 
 /// The state of one machine. Flags are 0 or 1.
 #[derive(Clone, PartialEq, Eq, Debug)]
@@ -109,8 +99,8 @@ impl State {
     }
 
     /// Whether no field is "above its width or rule". The one rule across fields is that the
-    /// counter is 0 when the timer is stopped.
-    pub(crate) fn is_valid(&self) -> bool {
+    /// counter is 0 when the timer is stopped. R-11: what the chip doesn't have holds zeros, "else 34".
+    pub(crate) fn is_valid(&self, chip: &Chip) -> bool {
         let flags = [
             self.carry, self.saved, self.int, self.inte, self.tm, self.level,
         ];
@@ -130,35 +120,45 @@ impl State {
             && self.ram.iter().all(|&word| word <= 15)
             && self.cycle <= LAST_CYCLE
             && self.count <= RESET
+            && chip.has_all_of(self)
     }
 
-    /// "A push shifts down and loses the oldest".
+    /// "A push shifts down and loses the oldest": the one in the chip's last level.
     #[inline(always)]
-    pub(crate) fn push(&mut self, address: u16) {
-        self.stack = [address, self.stack[0], self.stack[1]];
+    pub(crate) fn push(&mut self, address: u16, chip: &Chip) {
+        let [first, second, _] = self.stack;
+        self.stack = match chip.levels {
+            3 => [address, first, second],
+            2 => [address, first, 0],
+            _ => [address, 0, 0],
+        };
     }
 
-    /// "a pop shifts up and the lowest keeps its value"
+    /// "a pop shifts up and the lowest keeps its value": the lowest that the chip has.
     #[inline(always)]
-    pub(crate) fn pop(&mut self) -> u16 {
-        let newest = self.stack[0];
-        self.stack = [self.stack[1], self.stack[2], self.stack[2]];
-        newest
+    pub(crate) fn pop(&mut self, chip: &Chip) -> u16 {
+        let [first, second, third] = self.stack;
+        self.stack = match chip.levels {
+            3 => [second, third, third],
+            2 => [second, second, 0],
+            _ => [first, 0, 0],
+        };
+        first
     }
 
-    /// M, "the 4-bit RAM word at DP"; "rows 5 and 6 read 0".
+    /// M, "the 4-bit RAM word at DP"; "rows 5 and 6 read 0", and those that the chip doesn't have.
     #[inline(always)]
-    pub(crate) fn m(&self) -> u8 {
-        match ROWS[usize::from(self.dph & 7)] {
+    pub(crate) fn m(&self, chip: &Chip) -> u8 {
+        match chip.rows[usize::from(self.dph & 7)] {
             Some(row) => self.ram[usize::from(row + (self.dpl & 15))],
             None => 0,
         }
     }
 
-    /// Stores into M; rows 5 and 6 "lose writes".
+    /// Stores into M; rows 5 and 6 "lose writes", and those that the chip doesn't have.
     #[inline(always)]
-    pub(crate) fn set_m(&mut self, value: u8) {
-        if let Some(row) = ROWS[usize::from(self.dph & 7)] {
+    pub(crate) fn set_m(&mut self, value: u8, chip: &Chip) {
+        if let Some(row) = chip.rows[usize::from(self.dph & 7)] {
             self.ram[usize::from(row + (self.dpl & 15))] = value;
         }
     }
@@ -174,8 +174,8 @@ impl State {
 
     /// Step a: "push PC, PC becomes 03C, INT and INTE become 0, mark other".
     #[inline(always)]
-    pub(crate) fn accept(&mut self) {
-        self.push(self.pc);
+    pub(crate) fn accept(&mut self, chip: &Chip) {
+        self.push(self.pc, chip);
         self.pc = INTERRUPT;
         self.int = 0;
         self.inte = 0;
@@ -224,6 +224,7 @@ pub(crate) fn following(address: u16) -> u16 {
 #[cfg(test)]
 mod tests {
     use super::*;
+    use crate::sheet::Sheet;
 
     #[test]
     fn only_the_low_8_bits_of_pc_count_up() {
@@ -235,34 +236,58 @@ mod tests {
         assert_eq!(following(0x7FF), 0x700);
     }
 
-    #[test]
-    fn a_pop_keeps_the_lowest_and_a_push_loses_the_oldest() {
-        let mut state = State::fresh();
-        state.stack = [1, 2, 3];
-        assert_eq!(state.pop(), 1);
-        assert_eq!(state.stack, [2, 3, 3]);
-        state.push(9);
-        assert_eq!(state.stack, [9, 2, 3]);
+    fn chip(rows: u64, levels: u64) -> Chip {
+        let rom = 2_000;
+        Sheet { rom, rows, levels }.chip().unwrap()
     }
 
     #[test]
-    fn rows_5_and_6_read_0_and_lose_writes() {
+    fn a_pop_keeps_the_lowest_and_a_push_loses_the_oldest() {
+        for (levels, start, popped, pushed) in [
+            (3, [1, 2, 3], [2, 3, 3], [9, 2, 3]),
+            (2, [1, 2, 0], [2, 2, 0], [9, 2, 0]),
+            (1, [1, 0, 0], [1, 0, 0], [9, 0, 0]),
+        ] {
+            let chip = chip(31, levels);
+            let mut state = State::fresh();
+            state.stack = start;
+            assert_eq!(state.pop(&chip), 1);
+            assert_eq!(state.stack, popped);
+            state.push(9, &chip);
+            assert_eq!(state.stack, pushed);
+        }
+    }
+
+    /// All words of all rows are written; only those that exist are there afterwards.
+    fn written(rows: u64) -> State {
+        let chip = chip(rows, 3);
         let mut state = State::fresh();
         for row in 0..8 {
             for column in 0..16 {
                 state.dph = row;
                 state.dpl = column;
-                state.set_m((row + column) & 15);
+                state.set_m((row + column) & 15, &chip);
             }
         }
         for row in 0..8 {
             for column in 0..16 {
                 state.dph = row;
                 state.dpl = column;
-                let exists = row != 5 && row != 6;
-                assert_eq!(state.m(), if exists { (row + column) & 15 } else { 0 });
+                let exists = row == 7 || row < 5 && rows >> row & 1 == 1;
+                let due = if exists { (row + column) & 15 } else { 0 };
+                assert_eq!(state.m(&chip), due);
             }
         }
+        assert!(state.is_valid(&chip));
+        state
+    }
+
+    #[test]
+    fn rows_that_are_absent_read_0_and_lose_writes() {
+        for rows in 0..31 {
+            written(rows);
+        }
+        let state = written(31);
         use word::{FLAG, R, S, W, X, Y, Z};
         for (place, column) in [FLAG, Z, W, S, R, Y, X].into_iter().zip(9..) {
             assert_eq!(state.ram[place], (7 + column) & 15);

@@ -24,9 +24,9 @@ pub const RECORD_BYTES: u8 = 13;
 pub const RECORD_CYCLE: u8 = 14;
 
 // Whoever read the ROM.
-/// Refusal: not 2,000 bytes.
+/// Refusal: not 2,000 bytes, or the sheet's length.
 pub const ROM_LENGTH: u8 = 21;
-/// Stop: a byte above 7CF is needed.
+/// Stop: a byte above 7CF is needed, or above the sheet's last address.
 pub const ABOVE_ROM: u8 = 22;
 /// Stop: code 1C or 45 due.
 pub const NO_INSTRUCTION: u8 = 23;
@@ -38,7 +38,7 @@ pub const IMAGE_LENGTH: u8 = 31;
 pub const IMAGE_MARK: u8 = 32;
 /// Refusal: a version that doesn't go with the length.
 pub const IMAGE_VERSION: u8 = 33;
-/// Refusal: a field, also in a state given as a value.
+/// Refusal: a field, also in a state given as a value; or something that the sheet doesn't have.
 pub const FIELD: u8 = 34;
 
 // Whoever kept the log (request R-1), and what is carried over to it.
@@ -52,3 +52,7 @@ pub const LOG_RECORD: u8 = 42;
 pub const MANY_RECORDS: u8 = 43;
 /// Refusal: the buffer is shorter than the output.
 pub const BUFFER_SHORT: u8 = 44;
+
+// Whoever wrote the sheet (request R-11).
+/// Refusal: one of its three numbers is outside its limits.
+pub const SHEET: u8 = 71;

@@ -5,10 +5,7 @@ use crate::log::{self, Log};
 use crate::machine::{following, mark, State, LAST_CYCLE, RESET};
 use crate::numbers::{ABOVE_ROM, CYCLE_LIMIT, FIELD, FINISHED, ROM_LENGTH};
 use crate::schedule::{self, Cursor};
-
-/// "ROM: 2,000 bytes, 000 to 7CF."
-pub(crate) const ROM_BYTES: usize = 2_000;
-pub(crate) const LAST_ADDRESS: u16 = 0x7CF;
+use crate::sheet::{Chip, Sheet};
 
 /// Codes that the runner looks for.
 const TTM: u8 = 0x05;
@@ -99,11 +96,13 @@ pub fn run(
     state: &State,
     log: &mut [u8],
     n: u64,
+    sheet: Sheet,
 ) -> Answer {
-    run_observed(runner, rom, schedule, state, log, n, Nobody)
+    run_observed(runner, rom, schedule, state, log, n, sheet, Nobody)
 }
 
 /// The same, telling an observer of the instructions begun: a `&mut Coverage` counts them.
+#[allow(clippy::too_many_arguments)]
 pub fn run_observed<O: Observer>(
     runner: Runner,
     rom: &[u8],
@@ -111,11 +110,13 @@ pub fn run_observed<O: Observer>(
     state: &State,
     log: &mut [u8],
     n: u64,
+    sheet: Sheet,
     observer: O,
 ) -> Answer {
-    match admit(rom, schedule, state, n) {
-        Ok(rom) => Run {
+    match admit(rom, schedule, state, n, sheet) {
+        Ok(chip) => Run {
             rom,
+            chip,
             schedule: Cursor::new(schedule),
             quiet: 0,
             state: state.clone(),
@@ -137,30 +138,30 @@ pub fn run_observed<O: Observer>(
     }
 }
 
-/// "A run checks 21, 12, 11, 13/14, 34, 2".
-fn admit<'a>(
-    rom: &'a [u8],
-    schedule: &[u8],
-    state: &State,
-    n: u64,
-) -> Result<&'a [u8; ROM_BYTES], u8> {
-    let rom = rom.try_into().map_err(|_| ROM_LENGTH)?;
+/// "A run checks 21, 12, 11, 13/14, 34, 2"; R-11: 71 is "before all else".
+fn admit(rom: &[u8], schedule: &[u8], state: &State, n: u64, sheet: Sheet) -> Result<Chip, u8> {
+    let chip = sheet.chip()?;
+    if rom.len() != usize::from(chip.rom) {
+        return Err(ROM_LENGTH);
+    }
     match schedule::refusal(schedule) {
         FINISHED => {}
         number => return Err(number),
     }
-    if !state.is_valid() {
+    if !state.is_valid(&chip) {
         return Err(FIELD);
     }
     if n > LAST_CYCLE - state.cycle {
         return Err(CYCLE_LIMIT);
     }
-    Ok(rom)
+    Ok(chip)
 }
 
 /// A run that isn't refused, on its way.
 struct Run<'a, O> {
-    rom: &'a [u8; ROM_BYTES],
+    /// As long as the chip's.
+    rom: &'a [u8],
+    chip: Chip,
     schedule: Cursor<'a>,
     /// Up to this cycle the machine has seen the lines, RES is low and its count is 0.
     quiet: u64,
@@ -225,7 +226,7 @@ impl<O: Observer> Run<'_, O> {
             self.state.owed -= 1;
         } else if self.state.accepts() {
             // a.
-            self.state.accept();
+            self.state.accept(&self.chip);
         } else {
             // c.
             if let Err(stop) = self.instruction() {
@@ -274,7 +275,7 @@ impl<O: Observer> Run<'_, O> {
             self.state.owed -= 1;
         } else if self.state.accepts() {
             // a, then b: a fall counts also in an acceptance cycle.
-            self.state.accept();
+            self.state.accept(&self.chip);
             self.state.see(line);
         } else {
             // b and c.
@@ -317,7 +318,7 @@ impl<O: Observer> Run<'_, O> {
         }
 
         // Where a skip would begin; above the ROM the instruction must not skip.
-        if after > LAST_ADDRESS && self.would_skip(code, second, after) {
+        if after >= self.chip.rom && self.would_skip(code, second, after) {
             return Err(ABOVE_ROM);
         }
 
@@ -329,6 +330,7 @@ impl<O: Observer> Run<'_, O> {
             after,
             self.schedule.lines(),
             &mut self.log,
+            &self.chip,
         )?;
         let passed = skip.then_some(self.state.pc);
         if skip {
@@ -358,11 +360,12 @@ impl<O: Observer> Run<'_, O> {
     fn would_skip(&self, code: u8, second: u8, after: u16) -> bool {
         let mut copy = self.state.clone();
         let mut no_log = Log::new(&mut []);
-        let lines = self.schedule.lines();
-        code != RTS && execute(&mut copy, code, second, after, lines, &mut no_log) == Ok(true)
+        let (lines, chip) = (self.schedule.lines(), &self.chip);
+        let done = execute(&mut copy, code, second, after, lines, &mut no_log, chip);
+        code != RTS && done == Ok(true)
     }
 
-    /// Stop 22: "a byte above 7CF is needed".
+    /// Stop 22: "a byte above 7CF is needed", which reads as the sheet's last address.
     #[inline(always)]
     fn fetch(&self, address: u16) -> Result<u8, u8> {
         match self.rom.get(usize::from(address)) {

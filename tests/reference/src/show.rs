@@ -12,6 +12,7 @@ use crate::mnemonics::instruction;
 use crate::numbers::{FINISHED, RECORD_BYTES, RECORD_CYCLE};
 use crate::runners::{Answer, Observer, Runner};
 use crate::schedule::{cycle_of, lines_of, refusal, RECORD};
+use crate::sheet::Sheet;
 use crate::trace::log_text;
 
 /// A ROM with more bytes than this that aren't 0 is listed where the run went, and nowhere else.
@@ -32,8 +33,14 @@ impl Lent {
             Runner::Plain => "plain",
             Runner::Skipping => "timer-skipping",
         };
+        let sheet = match self.sheet {
+            Sheet::UPD546 => String::new(),
+            Sheet { rom, rows, levels } => {
+                format!("; sheet: ROM of {rom}, rows {rows:05b}, levels {levels}")
+            }
+        };
         [
-            format!("runner: {runner}, {} cycles\n", self.n),
+            format!("runner: {runner}, {} cycles{sheet}\n", self.n),
             told_rom(&self.rom, &begun, self.state.pc, answer.state.pc),
             told_schedule(&self.schedule, &self.state, &answer),
             told_state(&self.state, &answer.state),
@@ -403,6 +410,15 @@ mod tests {
             "  100       C5     JCP 105",
         ];
         assert_eq!(part(case(), "ROM"), lines);
+    }
+
+    #[test]
+    fn another_sheet_is_told() {
+        let told = |case: Case| case.lent().told().lines().next().unwrap().to_owned();
+        assert_eq!(told(case()), "runner: plain, 20 cycles");
+        let (rom, rows, levels) = (1_000, 3, 2);
+        let line = "runner: plain, 20 cycles; sheet: ROM of 1000, rows 00011, levels 2";
+        assert_eq!(told(case().sheet(Sheet { rom, rows, levels })), line);
     }
 
     #[test]

@@ -207,9 +207,9 @@ fn misleading_owed_cycles_are_dropped_on_save() {
     let state = after(&rom, &[], &start, 1);
     for version in Version::BOTH {
         let mut image = vec![0; version.length()];
-        assert_eq!(reference::save(version, &state, &mut image), 0);
+        assert_eq!(save(version, &state, &mut image), 0);
         assert_eq!(image[17], 2);
-        let (number, restored) = reference::restore(&image);
+        let (number, restored) = restore(&image);
         assert_eq!((number, restored.owed), (0, 2));
         assert_eq!(after(&rom, &[], &restored, 2).pc, 3);
     }

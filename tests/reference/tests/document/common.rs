@@ -2,7 +2,7 @@
 
 pub use reference::case::{lines, record, reset_record, schedule};
 pub use reference::draw::Draw;
-use reference::{run, Answer, Runner, State};
+use reference::{run_observed as run_under, Answer, Observer, Runner, Sheet, State, Version};
 
 pub const LAST_CYCLE: u64 = (1 << 48) - 1;
 
@@ -26,6 +26,39 @@ pub fn written(cycle: u64, port: u8, value: u8) -> Vec<u8> {
     let mut record = cycle.to_be_bytes()[2..].to_vec();
     record.extend([port, value]);
     record
+}
+
+/// A run on the uPD546, and so a save and a restore; `sheet.rs` has the other sheets.
+pub fn run(
+    runner: Runner,
+    rom: &[u8],
+    schedule: &[u8],
+    state: &State,
+    log: &mut [u8],
+    n: u64,
+) -> Answer {
+    reference::run(runner, rom, schedule, state, log, n, Sheet::UPD546)
+}
+
+pub fn run_observed<O: Observer>(
+    runner: Runner,
+    rom: &[u8],
+    schedule: &[u8],
+    state: &State,
+    log: &mut [u8],
+    n: u64,
+    observer: O,
+) -> Answer {
+    let sheet = Sheet::UPD546;
+    run_under(runner, rom, schedule, state, log, n, sheet, observer)
+}
+
+pub fn save(version: Version, state: &State, buffer: &mut [u8]) -> u8 {
+    reference::save(version, state, buffer, Sheet::UPD546)
+}
+
+pub fn restore(bytes: &[u8]) -> (u8, State) {
+    reference::restore(bytes, Sheet::UPD546)
 }
 
 /// A run with room for every record; the log is cut to what was written.

@@ -1,6 +1,6 @@
 //! "State image, 81 bytes", and version 2 of 82.
 
-use reference::{restore, save, State, Version};
+use reference::{State, Version};
 
 use crate::common::*;
 use crate::refusals::faulty_states;

@@ -8,5 +8,6 @@ mod readings;
 mod refusals;
 mod reset;
 mod runners;
+mod sheet;
 mod stops;
 mod trace;

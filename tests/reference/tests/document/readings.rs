@@ -337,7 +337,7 @@ fn op_on_i_is_always_a_write_and_its_bit_3_never() {
     for code in [0x63, 0x73] {
         let mut no_log = [];
         let rom = rom(&[(0, &[code])]);
-        let answer = reference::run(Runner::Plain, &rom, &[], &start, &mut no_log, 1);
+        let answer = run(Runner::Plain, &rom, &[], &start, &mut no_log, 1);
         assert_eq!((answer.number, answer.begun, answer.written), (0, 1, 0));
         assert_eq!(answer.state.ports, start.ports);
     }
@@ -356,7 +356,7 @@ fn writes_without_effect_need_no_room() {
             start.acc = 15;
             start.ports = [6, 6, 6, 6, 6, 6, 6];
             let rom = rom(&[(0, &[code])]);
-            let answer = reference::run(Runner::Plain, &rom, &[], &start, &mut [], 1);
+            let answer = run(Runner::Plain, &rom, &[], &start, &mut [], 1);
             assert_eq!((answer.number, answer.begun, answer.written), (0, 1, 0));
             assert_eq!(answer.state.ports, start.ports);
         }

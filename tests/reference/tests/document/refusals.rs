@@ -1,6 +1,6 @@
 //! "Numbers, by whose hand": the refusals of a run and their order.
 
-use reference::{run, Answer, Runner, State, Version};
+use reference::{Answer, Runner, State, Version};
 
 use crate::common::*;
 
@@ -184,8 +184,8 @@ fn states_that_no_run_reaches_are_taken() {
         let mut state = State::fresh();
         change(&mut state);
         assert_eq!(number(&rom(&[]), &[], &state, 0), 0);
-        assert_eq!(reference::save(Version::One, &state, &mut [0; 81]), 0);
-        assert_eq!(reference::save(Version::Two, &state, &mut [0; 82]), 0);
+        assert_eq!(save(Version::One, &state, &mut [0; 81]), 0);
+        assert_eq!(save(Version::Two, &state, &mut [0; 82]), 0);
     }
 }
 

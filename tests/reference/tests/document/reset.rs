@@ -1,6 +1,6 @@
 //! R-8, "The reset line".
 
-use reference::{run, trace, Answer, Runner, State};
+use reference::{trace, Answer, Runner, State};
 
 use crate::common::*;
 

@@ -1,7 +1,7 @@
 //! "Two runners", and the lists of demand 3.
 
 use reference::codes::{always_skips, can_skip, is_none};
-use reference::{restore, run, run_observed, save, Answer, Coverage, Runner, State, Version};
+use reference::{Answer, Coverage, Runner, State, Version};
 
 use crate::common::*;
 

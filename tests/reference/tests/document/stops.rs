@@ -1,6 +1,6 @@
 //! Stops 22, 23 and 3: "the cycle isn't begun, and the answer stands at its boundary".
 
-use reference::{run, Runner, State};
+use reference::{Runner, State};
 
 use crate::common::*;
 

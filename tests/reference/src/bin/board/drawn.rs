@@ -1,13 +1,13 @@
-//! How the calls are drawn. A panel gets some dozens of them, one after the other on its image; most
-//! are sound, and some have a part that is damaged.
+//! How the calls are drawn. A panel has a sheet, in one of two cases the uPD546's, and gets some dozens of calls, one after the other
+//! on its image; most are sound, and some have a part that is damaged, or another sheet.
 
 use reference::call::{convert, fresh};
 use reference::case::{reset_record, Case, FEW_JCP, FEW_JUMPS, INSIDE, NO_STOPS};
 use reference::draw::Draw;
-use reference::{restore, save, Version};
+use reference::sheets::wrong;
+use reference::{restore, save, Sheet, Version};
 
 const IMAGE: usize = 82;
-const ROM: usize = 2_000;
 const REPORT: usize = 32;
 const LAST_CYCLE: u64 = (1 << 48) - 1;
 
@@ -33,6 +33,7 @@ pub struct Drawn {
     pub runner: u64,
     pub report: usize,
     pub fill: u8,
+    pub sheet: Sheet,
 }
 
 /// A panel, and how many calls it still gets.
@@ -41,6 +42,7 @@ pub struct Calls {
     image: Vec<u8>,
     rom: Vec<u8>,
     schedule: Vec<u8>,
+    sheet: Sheet,
     left: u64,
 }
 
@@ -51,6 +53,7 @@ impl Calls {
             image: Vec::new(),
             rom: Vec::new(),
             schedule: Vec::new(),
+            sheet: Sheet::UPD546,
             left: 0,
         }
     }
@@ -76,6 +79,7 @@ impl Calls {
             runner: draw.of(&[0, 0, 0, 1, 1, 2, 256, 1 << 32, 1 << 63, u64::MAX]),
             report: REPORT,
             fill: draw.byte(),
+            sheet: self.sheet,
         };
         if drawn.function == Function::Fresh {
             drawn.image = bytes(draw, 2 * IMAGE as u64 / 3 + 60);
@@ -91,6 +95,9 @@ impl Calls {
         }
         if draw.one_in(8) {
             damage_schedule(draw, &mut drawn.schedule);
+        }
+        if draw.one_in(16) {
+            drawn.sheet = other_sheet(draw, drawn.sheet);
         }
         if drawn.function == Function::Convert {
             conversion(draw, &mut drawn);
@@ -116,7 +123,12 @@ impl Calls {
     fn new_panel(&mut self) {
         let draw = &mut self.draw;
         self.left = 1 + draw.below(60);
-        self.rom = rom(draw);
+        self.sheet = if draw.one_in(2) {
+            Sheet::UPD546
+        } else {
+            draw.sheet()
+        };
+        self.rom = rom(draw, self.sheet);
         self.image = match draw.below(4) {
             0 if self.image.len() == IMAGE => self.image.clone(),
             0 | 1 => {
@@ -129,15 +141,24 @@ impl Calls {
                 state.ram.fill_with(|| draw.word());
                 if draw.one_in(8) {
                     state.pc = 0x7C0 + draw.below(0x40) as u16;
+                } else {
+                    state.pc %= self.sheet.rom as u16;
                 }
                 if draw.one_in(16) {
                     state.cycle = LAST_CYCLE - draw.below(200);
                 }
+                if !draw.one_in(16) {
+                    state = self.sheet.fitted(&state);
+                }
                 let mut image = vec![0; IMAGE];
-                save(Version::Two, &state, &mut image);
+                save(Version::Two, &state, &mut image, Sheet::UPD546);
                 image
             }
         };
+        // An image of one sheet under another.
+        if restore(&self.image, self.sheet).0 != 0 {
+            self.left = 1 + draw.below(4);
+        }
         self.schedule = schedule(draw, cycle_of(&self.image));
     }
 }
@@ -154,15 +175,28 @@ fn cycle_of(image: &[u8]) -> u64 {
     }
 }
 
+/// A sheet that isn't legal, or that of another chip.
+fn other_sheet(draw: &mut Draw, sheet: Sheet) -> Sheet {
+    match draw.below(4) {
+        0 => draw.sheet(),
+        1 => Sheet {
+            rom: sheet.rom,
+            ..draw.sheet()
+        },
+        _ => draw.of(&wrong(sheet)),
+    }
+}
+
 /// Any bytes; code that lasts; and short loops of a timer and of ports laid over either.
-fn rom(draw: &mut Draw) -> Vec<u8> {
+fn rom(draw: &mut Draw, sheet: Sheet) -> Vec<u8> {
     let filter = draw.of(&[
         0,
         NO_STOPS,
         NO_STOPS | INSIDE,
         NO_STOPS | FEW_JCP | INSIDE | FEW_JUMPS,
     ]);
-    let mut rom = Case::new("").made_rom(draw.seed(), filter).made_rom_bytes();
+    let case = Case::new("").sheet(sheet).made_rom(draw.seed(), filter);
+    let mut rom = case.made_rom_bytes();
     let over: &[u8] = match draw.below(8) {
         // LDZ 5, STM 3, TTM, JCP 003, CMA, OP, JCP 001.
         0 => &[0x85, 0x14, 0x83, 0x05, 0xC3, 0x10, 0x0E, 0xC1],
@@ -174,14 +208,16 @@ fn rom(draw: &mut Draw) -> Vec<u8> {
         3 => &[0x40, 0x44, 0x31, 0xC0],
         _ => &[],
     };
-    rom[..over.len()].copy_from_slice(over);
+    for (byte, &over) in rom.iter_mut().zip(over) {
+        *byte = over;
+    }
     rom
 }
 
 /// An image of either version, often damaged, to a version that is one or none.
 fn conversion(draw: &mut Draw, drawn: &mut Drawn) {
     let mut old = vec![0; IMAGE - 1];
-    if draw.one_in(2) && convert(&drawn.image, &mut old, 1) == 0 {
+    if draw.one_in(2) && convert(&drawn.image, &mut old, 1, drawn.sheet) == 0 {
         drawn.image = old;
         if draw.one_in(6) {
             damage_image(draw, &mut drawn.image);
@@ -260,19 +296,23 @@ fn damage_image(draw: &mut Draw, image: &mut Vec<u8>) {
         }
     }
     // A cycle number near the limit.
-    if draw.one_in(12) && restore(image).0 == 0 {
+    if draw.one_in(12) && restore(image, Sheet::UPD546).0 == 0 {
         let cycle = LAST_CYCLE - draw.below(60);
         image[75..81].copy_from_slice(&cycle.to_be_bytes()[2..]);
     }
 }
 
 fn damage_rom(draw: &mut Draw, rom: &mut Vec<u8>) {
+    let length = rom.len();
     match draw.below(3) {
-        0 => rom.resize(draw.of(&[0, 1, ROM - 1, ROM + 1, ROM + 48]), 0),
-        1 => rom.truncate(draw.below(ROM as u64) as usize),
+        0 => rom.resize(
+            draw.of(&[0, 1, length - 1, length + 1, length + 48, 2_000]),
+            0,
+        ),
+        1 => rom.truncate(draw.below(length as u64) as usize),
         _ => {
             for _ in 0..5 {
-                rom[draw.below(ROM as u64) as usize] = draw.byte();
+                rom[draw.below(length as u64) as usize] = draw.byte();
             }
         }
     }

@@ -7,7 +7,7 @@
 //! # The stream
 //!
 //! Numbers have 8 bytes, big-endian. First the seed and how many calls there are; then the calls.
-//! A call is 11 numbers and bytes:
+//! A call is 14 numbers and bytes:
 //!
 //! | number | what |
 //! |---|---|
@@ -17,6 +17,7 @@
 //! | 8 | f: before the call, byte i of log and report is (7 i + f) modulo 256 |
 //! | 9 | the number due |
 //! | 10 | w: the log's bytes from w on are due as they were |
+//! | 11 to 13 | the sheet: ROM bytes, rows, levels |
 //!
 //! The bytes are the image given; the ROM and the schedule, where they follow, else they are those of
 //! the call before; then what is due: the image, the report, the first w bytes of the log. A conversion takes the
@@ -31,6 +32,8 @@ use std::process::ExitCode;
 use drawn::{Calls, Drawn, Function};
 use reference::call::{call, convert, fresh};
 use reference::lent::Lent;
+#[cfg(test)]
+use reference::Sheet;
 use reference::{restore, Runner};
 
 /// What a call answers and leaves.
@@ -54,7 +57,7 @@ fn due(drawn: &Drawn) -> Due {
     let mut report = filled(drawn.report, drawn.fill);
     let number = match drawn.function {
         Function::Fresh => fresh(&mut image),
-        Function::Convert => convert(&image, &mut report, drawn.n),
+        Function::Convert => convert(&image, &mut report, drawn.n, drawn.sheet),
         Function::Call => call(
             &mut image,
             &drawn.rom,
@@ -63,6 +66,7 @@ fn due(drawn: &Drawn) -> Due {
             drawn.n,
             drawn.runner,
             &mut report,
+            drawn.sheet,
         ),
     };
     Due {
@@ -108,6 +112,9 @@ fn write_calls(count: u64, seed: u64, out: &mut impl Write) -> io::Result<()> {
                 u64::from(drawn.fill),
                 u64::from(due.number),
                 written as u64,
+                drawn.sheet.rom,
+                drawn.sheet.rows,
+                drawn.sheet.levels,
             ],
         )?;
         out.write_all(&drawn.image)?;
@@ -150,6 +157,7 @@ fn told(seed: u64, place: u64) -> String {
     let mut text = format!(
         "call {place} of seed {seed}: {name}, the number due is {}\n\
          lengths: image {}, ROM {}, schedule {}, log {}, report {}; n {}, runner {}\n\
+         {:?}\n\
          image given {}\nimage due   {}\nreport due  {}\n",
         due.number,
         drawn.image.len(),
@@ -159,11 +167,12 @@ fn told(seed: u64, place: u64) -> String {
         drawn.report,
         drawn.n,
         drawn.runner,
+        drawn.sheet,
         hex(&drawn.image),
         hex(&due.image),
         hex(&due.report),
     );
-    let (number, state) = restore(&drawn.image);
+    let (number, state) = restore(&drawn.image, drawn.sheet);
     if drawn.function == Function::Call && number == 0 {
         let runner = if drawn.runner == 0 {
             Runner::Plain
@@ -177,6 +186,7 @@ fn told(seed: u64, place: u64) -> String {
             state,
             log: filled(drawn.log, drawn.fill),
             n: drawn.n,
+            sheet: drawn.sheet,
         };
         text += "\n";
         text += &lent.told();
@@ -227,10 +237,53 @@ mod tests {
             ended[usize::from(due.number)] += 1;
             calls.answered(&drawn, due.number, due.image);
         }
-        for number in [0, 1, 2, 3, 11, 12, 13, 14, 21, 22, 23, 31, 32, 33, 34, 54] {
+        for number in [
+            0, 1, 2, 3, 11, 12, 13, 14, 21, 22, 23, 31, 32, 33, 34, 54, 71,
+        ] {
             assert!(ended[number] >= 20, "{number}: {}", ended[number]);
         }
         assert!(ended[0] > 5_000, "{}", ended[0]);
+    }
+
+    /// Runs of smaller chips finish and stop, with any rows and levels; and a sheet is refused by each of its numbers.
+    #[test]
+    fn every_kind_of_sheet_is_drawn() {
+        let mut calls = Calls::new(1);
+        let (mut finished, mut stopped, mut wrong) = ([0; 4], [0; 4], [0; 3]);
+        let (mut rows, mut short) = ([0; 32], 0);
+        for _ in 0..20_000 {
+            let drawn = calls.next();
+            let due = due(&drawn);
+            let Sheet {
+                rom,
+                rows: there,
+                levels,
+            } = drawn.sheet;
+            if drawn.function == Function::Call && drawn.sheet.is_legal() {
+                let smaller = drawn.sheet != Sheet::UPD546;
+                finished[levels as usize] += usize::from(smaller && due.number == 0);
+                stopped[levels as usize] += usize::from(smaller && due.number == 22);
+                rows[there as usize] += usize::from(due.number == 0);
+                short += usize::from(rom < 66 && due.number == 0);
+            }
+            if due.number == 71 {
+                wrong[0] += usize::from(!(1..=2_000).contains(&rom));
+                wrong[1] += usize::from(there > 31);
+                wrong[2] += usize::from(!(1..=3).contains(&levels));
+            }
+            calls.answered(&drawn, due.number, due.image);
+        }
+        assert!(
+            finished[1..].iter().all(|&count| count > 300),
+            "{finished:?}"
+        );
+        assert!(stopped[1..].iter().all(|&count| count > 50), "{stopped:?}");
+        assert!(wrong.iter().all(|&count| count > 50), "{wrong:?}");
+        assert!(
+            rows.iter().filter(|&&count| count > 0).count() > 25,
+            "{rows:?}"
+        );
+        assert!(short > 500, "{short}");
     }
 
     /// Images with each count are run and converted, and resets are written.
@@ -241,7 +294,7 @@ mod tests {
         for _ in 0..20_000 {
             let drawn = calls.next();
             let due = due(&drawn);
-            let (number, state) = restore(&drawn.image);
+            let (number, state) = restore(&drawn.image, drawn.sheet);
             if number == 0 && matches!(due.number, 0 | 3 | 22 | 23 | 54) {
                 match drawn.function {
                     Function::Call => called[usize::from(state.count)] += 1,

@@ -10,6 +10,7 @@
 //! |---|---|
 //! | R | the ROM has this length; its bytes follow, the rest of it is 0. With n = 0 the bytes stay |
 //! | S | the schedule, likewise, up to 65,536 bytes |
+//! | H | the sheet of the calls that follow; its 24 bytes follow: ROM bytes, rows and levels, 8 each. A stream begins with one |
 //! | G | a line for a group: how many calls since the last G, how many of them were refused, a digest |
 //! | U | a list has ended, and is the one to be remembered: the unbroken one |
 //! | E | a list has ended, and is compared with the remembered one |
@@ -69,7 +70,7 @@
 //! which a list doesn't go on from.
 
 use reference::case::{digest_from, state_bytes};
-use reference::{Runner, State, Version};
+use reference::{Runner, Sheet, State, Version};
 
 /// What becomes of a call.
 #[derive(Clone, Copy, PartialEq, Eq, Debug)]
@@ -99,10 +100,11 @@ struct Command {
     runner: u64,
 }
 
-/// The commands so far.
+/// The commands so far, and the sheet that they come to.
 #[derive(Default)]
 pub struct Stream {
     pub bytes: Vec<u8>,
+    sheet: Option<Sheet>,
 }
 
 impl Stream {
@@ -149,6 +151,22 @@ impl Stream {
             place: u16::try_from(place).expect("a place has two bytes"),
             ..Command::default()
         });
+    }
+
+    /// The sheet of what follows, where it isn't that of what was before.
+    pub fn sheet(&mut self, sheet: Sheet) {
+        if self.sheet == Some(sheet) {
+            return;
+        }
+        self.sheet = Some(sheet);
+        self.put(Command {
+            letter: b'H',
+            n: 24,
+            ..Command::default()
+        });
+        for number in [sheet.rom, sheet.rows, sheet.levels] {
+            self.bytes.extend(number.to_be_bytes());
+        }
     }
 
     pub fn rom(&mut self, rom: &[u8]) {

@@ -4,12 +4,14 @@
 mod bench;
 mod bounds;
 mod codes;
+mod drawn_sheets;
 mod edges;
 mod keys;
 mod loads;
 mod refusals;
 mod resets;
 mod roms;
+mod sheets;
 mod starts;
 mod stops;
 mod waits;
@@ -18,7 +20,7 @@ use reference::call::{call, REPORT};
 use reference::case::{digest, state_bytes, Case};
 use reference::codes::{always_skips, can_skip, is_none};
 use reference::kinds::{all_of, counts_of, Count, Kind};
-use reference::{run, save, Coverage, Runner, Version};
+use reference::{run, save, Coverage, Runner, Sheet, Version};
 
 use crate::stream::{pattern, Chain, Of, Stream};
 use crate::Item;
@@ -42,7 +44,12 @@ const KINDS: [Kind<Case>; 10] = [
 
 /// Kinds that were added. The call of a case hangs on its place (`Call::of`), so each stands behind the others, on both runners, and
 /// changes no line of theirs.
-const ADDED: [Kind<Case>; 2] = [("bounds", bounds::cases), ("resets", resets::cases)];
+const ADDED: [Kind<Case>; 4] = [
+    ("bounds", bounds::cases),
+    ("resets", resets::cases),
+    ("sheets", sheets::cases),
+    ("drawn_sheets", drawn_sheets::cases),
+];
 
 fn on_both(mut cases: Vec<Case>) -> Vec<Case> {
     let skipping: Vec<Case> = cases.iter().map(Case::skipping).collect();
@@ -69,9 +76,10 @@ pub fn counts() -> Vec<Count> {
     counts
 }
 
-/// The bench cases of few bytes.
+/// The bench cases of few bytes, and some of smaller chips.
 pub fn small() -> Vec<Case> {
     let mut cases = on_both(bench::cases());
+    cases.extend(on_both(sheets::few()));
     let few = |bytes: Vec<u8>| bytes.iter().skip(0x40).all(|&byte| byte == 0);
     cases.retain(|case| few(case.made_rom_bytes()) && few(case.made_schedule_bytes()));
     cases
@@ -92,7 +100,7 @@ pub fn faults(cases: &[Case]) -> Vec<String> {
         numbers.push(answer.number);
         spared += answer.cycles - answer.steps;
     }
-    for number in [0, 2, 3, 11, 12, 13, 14, 21, 22, 23, 34] {
+    for number in [0, 2, 3, 11, 12, 13, 14, 21, 22, 23, 34, 71] {
         if !numbers.contains(&number) {
             faults.push(format!("no case ends with {number}"));
         }
@@ -130,6 +138,7 @@ impl Item for Run {
 
     fn put(&self, stream: &mut Stream) -> String {
         let lent = self.0.lent();
+        stream.sheet(lent.sheet);
         stream.rom(&lent.rom);
         stream.schedule(&lent.schedule);
         stream.value(&lent.state);
@@ -166,6 +175,7 @@ impl Item for Places {
         // OCD, INC, NOP, OE, JCP 000.
         let case = Case::new("").rom(0, &[0x1E, 0x96, 0x0D, 0x00, 0x44, 0xC0]);
         let lent = case.lent();
+        stream.sheet(lent.sheet);
         stream.rom(&lent.rom);
         stream.schedule(&lent.schedule);
         stream.value(&lent.state);
@@ -174,7 +184,8 @@ impl Item for Places {
         for place in 0..=80 {
             let mut log = pattern(64);
             let part = &mut log[place.min(64)..];
-            let answer = run(self.0, &lent.rom, &lent.schedule, &state, part, 9);
+            let (rom, schedule, sheet) = (&lent.rom, &lent.schedule, lent.sheet);
+            let answer = run(self.0, rom, schedule, &state, part, 9, sheet);
             stream.run(Of::Group, 9, self.0, 64, place);
             chain.called(answer.number);
             for count in [answer.cycles, answer.clocks, answer.begun] {
@@ -208,7 +219,13 @@ impl Call {
     pub fn of(place: usize, case: Case) -> Option<Call> {
         let mut image = vec![0; Version::Two.length()];
         let lent = case.lent();
-        if save(Version::Two, &lent.state, &mut image) != 0 {
+        // Under a sheet that is refused there is an image still, that of the uPD546.
+        let sheet = if lent.sheet.is_legal() {
+            lent.sheet
+        } else {
+            Sheet::UPD546
+        };
+        if save(Version::Two, &lent.state, &mut image, sheet) != 0 {
             return None;
         }
         let runner = match lent.runner {
@@ -231,6 +248,7 @@ impl Item for Call {
 
     fn put(&self, stream: &mut Stream) -> String {
         let lent = self.case.lent();
+        stream.sheet(lent.sheet);
         stream.rom(&lent.rom);
         stream.schedule(&lent.schedule);
         stream.image(&self.image);
@@ -245,6 +263,7 @@ impl Item for Call {
             lent.n,
             self.runner,
             &mut report,
+            lent.sheet,
         );
         call_line(number, &image, &log, &report)
     }

@@ -8,6 +8,9 @@
 //! version 1 is wanted: of the board's call the image is converted to that and back, of runs it is saved and
 //! restored as that. Where the count isn't 0, that is one more refused call, 54, and the image is of version 2.
 //!
+//! Under a smaller sheet than the uPD546's the slices are under that sheet, and where others have no refused call these have
+//! one under a sheet that is refused (71) or is another chip's (21), or on an image with something that the chip doesn't have.
+//!
 //! The cut at k: a slice of k cycles by runner k % 2 (0 plain, 1 timer-skipping) with a refused call where k
 //! isn't a multiple of 6, and version 1 wanted where k % 3 is 1; then a slice of N - k cycles by runner k / 2 % 2
 //! with neither.
@@ -20,6 +23,7 @@
 
 mod list;
 mod roms;
+mod sheets;
 #[cfg(test)]
 mod tests;
 
@@ -27,7 +31,8 @@ use reference::call::{call, REPORT};
 use reference::case::{digest, state_bytes, Case};
 use reference::kinds::{counts_of, Count};
 use reference::lent::Lent;
-use reference::{run, save, Runner, State, Version};
+use reference::sheets::wrong;
+use reference::{run, save, Runner, Sheet, State, Version};
 
 use crate::cases::call_line;
 use crate::stream::{pattern, Of, PanelLine, Stream};
@@ -86,9 +91,9 @@ pub fn lent_log(n: u64) -> Vec<u8> {
     pattern(16 * n as usize)
 }
 
-fn image_of(state: &State) -> Vec<u8> {
+fn image_of(state: &State, sheet: Sheet) -> Vec<u8> {
     let mut image = vec![0; IMAGE];
-    assert_eq!(save(Version::Two, state, &mut image), 0);
+    assert_eq!(save(Version::Two, state, &mut image, sheet), 0);
     image
 }
 
@@ -116,15 +121,36 @@ impl Panel {
         (end, answer.steps)
     }
 
+    /// The sheet of all its slices.
+    pub fn sheet(&self) -> Sheet {
+        self.case.under()
+    }
+
+    fn is_smaller(&self) -> bool {
+        self.sheet() != Sheet::UPD546
+    }
+
+    /// The sheets of refused calls: one that isn't legal, and one of another chip, with a ROM of another length.
+    fn wrong_sheet(&self, place: usize) -> Sheet {
+        let wrong = wrong(self.sheet());
+        wrong[place % wrong.len()]
+    }
+
+    fn other_sheet(&self) -> Sheet {
+        let sheet = self.sheet();
+        let rom = if sheet.rom > 1 { sheet.rom - 1 } else { 2 };
+        Sheet { rom, ..sheet }
+    }
+
     pub fn cut_lists(&self) -> Vec<Vec<list::Slice>> {
         let n = self.case.cycles();
         (0..=u64::from(self.cuts))
-            .map(|k| list::cut(n, k))
+            .map(|k| list::cut(n, k, self.is_smaller()))
             .collect()
     }
 
     pub fn drawn_lists(&self) -> Vec<Vec<list::Slice>> {
-        list::drawn(self.case.cycles(), self.lists, self.seed)
+        list::drawn(self.case.cycles(), self.lists, self.seed, self.is_smaller())
     }
 
     fn lists(&self, kind: Kind) -> Vec<Vec<Slice>> {
@@ -140,16 +166,8 @@ impl Panel {
         let mut state = lent.state;
         let mut counts = vec![state.count];
         for _ in 0..lent.n {
-            let mut log = [0; 16];
-            state = run(
-                Runner::Plain,
-                &lent.rom,
-                &lent.schedule,
-                &state,
-                &mut log,
-                1,
-            )
-            .state;
+            let (rom, schedule, log) = (&lent.rom, &lent.schedule, &mut [0; 16]);
+            state = run(Runner::Plain, rom, schedule, &state, log, 1, lent.sheet).state;
             counts.push(state.count);
         }
         counts
@@ -173,6 +191,7 @@ impl Panel {
 
     /// What is lent to all its runs.
     fn put_lent(&self, stream: &mut Stream) {
+        stream.sheet(self.sheet());
         stream.rom(&self.case.made_rom_bytes());
         stream.schedule(&self.case.made_schedule_bytes());
     }
@@ -279,8 +298,11 @@ impl Item for Unbroken {
 
     fn put(&self, stream: &mut Stream) -> String {
         let lent = self.0.whole(self.1);
-        let (mut image, mut log, mut report) =
-            (image_of(&lent.state), lent.log.clone(), pattern(REPORT));
+        let (mut image, mut log, mut report) = (
+            image_of(&lent.state, lent.sheet),
+            lent.log.clone(),
+            pattern(REPORT),
+        );
         let runner = u64::from(self.1 == Runner::Skipping);
         self.0.put_lent(stream);
         stream.image(&image);
@@ -293,6 +315,7 @@ impl Item for Unbroken {
             lent.n,
             runner,
             &mut report,
+            lent.sheet,
         );
         call_line(number, &image, &log, &report)
     }
@@ -312,7 +335,7 @@ impl Item for Calls {
 
     fn put(&self, stream: &mut Stream) -> String {
         let panel = &self.0;
-        let start = image_of(&panel.case.start());
+        let start = image_of(&panel.case.start(), panel.sheet());
         panel.put_lent(stream);
         stream.image(&start);
         put_call(stream, Runner::Plain, panel.case.cycles());
@@ -342,7 +365,7 @@ impl Item for Calls {
         panel.line(
             &lists,
             calls,
-            digest(&image_of(&end.state)),
+            digest(&image_of(&end.state, panel.sheet())),
             digest(&end.log),
         )
     }
@@ -397,11 +420,12 @@ fn put_call(stream: &mut Stream, runner: Runner, n: u64) {
 fn put_refused_call(stream: &mut Stream, panel: &Panel, refused: Refused, runner: Runner) {
     let runner = u64::from(runner == Runner::Skipping);
     let call = |stream: &mut Stream, n, report| stream.call(Of::List, n, runner, 80, report);
+    let length = panel.case.made_rom_bytes().len();
     match refused {
         Refused::Rom => {
-            stream.rom_length(1_999);
+            stream.rom_length(length - 1);
             call(stream, 9, REPORT);
-            stream.rom_length(2_000);
+            stream.rom_length(length);
         }
         Refused::Schedule => {
             stream.schedule_length(7);
@@ -415,8 +439,21 @@ fn put_refused_call(stream: &mut Stream, panel: &Panel, refused: Refused, runner
             stream.image_length(IMAGE);
         }
         Refused::Cycles => call(stream, u64::MAX, REPORT),
-        Refused::Mark | Refused::Version | Refused::Field => {
-            let (place, value) = refused.damage().expect("a byte is changed");
+        Refused::Sheet(place) => {
+            stream.sheet(panel.wrong_sheet(place));
+            match place % 2 {
+                0 => call(stream, 9, REPORT),
+                _ => stream.convert(Of::List, 2, IMAGE),
+            }
+            stream.sheet(panel.sheet());
+        }
+        Refused::OtherSheet => {
+            stream.sheet(panel.other_sheet());
+            call(stream, 9, REPORT);
+            stream.sheet(panel.sheet());
+        }
+        Refused::Mark | Refused::Version | Refused::Field | Refused::Absent => {
+            let (place, value) = refused.damage(panel.sheet()).expect("a byte is changed");
             stream.keep();
             stream.image_byte(place, value);
             call(stream, 9, REPORT);
@@ -501,9 +538,10 @@ fn put_refused(
 ) -> u64 {
     match refused {
         Refused::Rom => {
-            stream.rom_length(1_999);
+            let length = panel.case.made_rom_bytes().len();
+            stream.rom_length(length - 1);
             stream.run(Of::List, 9, runner, room, 0);
-            stream.rom_length(2_000);
+            stream.rom_length(length);
         }
         Refused::Schedule => {
             stream.schedule_length(7);
@@ -513,8 +551,22 @@ fn put_refused(
         Refused::Buffer => stream.save(Of::List, Version::Two, IMAGE - 1),
         Refused::Length => stream.restore(Of::List, OLD - 1),
         Refused::Cycles => stream.run(Of::List, u64::MAX, runner, room, 0),
-        Refused::Mark | Refused::Version | Refused::Field => {
-            let (place, value) = refused.damage().expect("a byte is changed");
+        Refused::Sheet(place) => {
+            stream.sheet(panel.wrong_sheet(place));
+            match place % 3 {
+                0 => stream.run(Of::List, 9, runner, room, 0),
+                1 => stream.save(Of::List, Version::Two, IMAGE),
+                _ => stream.restore(Of::List, IMAGE),
+            }
+            stream.sheet(panel.sheet());
+        }
+        Refused::OtherSheet => {
+            stream.sheet(panel.other_sheet());
+            stream.run(Of::List, 9, runner, room, 0);
+            stream.sheet(panel.sheet());
+        }
+        Refused::Mark | Refused::Version | Refused::Field | Refused::Absent => {
+            let (place, value) = refused.damage(panel.sheet()).expect("a byte is changed");
             stream.save(Of::List, Version::Two, IMAGE);
             stream.buffer_byte(place, value);
             stream.restore(Of::List, IMAGE);

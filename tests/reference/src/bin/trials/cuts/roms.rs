@@ -3,13 +3,15 @@
 use reference::case::{Case, LinesFrom, FEW_JCP, FEW_JUMPS, INSIDE, NO_STOPS};
 use reference::kinds::{all_of, Kind};
 
+use super::sheets;
+
 /// A ROM on which a run goes on and comes round by many ways.
 const LASTING: u8 = NO_STOPS | FEW_JCP | INSIDE | FEW_JUMPS;
 
 /// At 03C: INC Z, OE, EI, RT.
 const ANSWER: [u8; 7] = [0x4A, 0x0D, 0x00, 0x4A, 0x44, 0x31, 0x48];
 
-pub const KINDS: [Kind<Case>; 11] = [
+pub const KINDS: [Kind<Case>; 12] = [
     ("waits", waits),
     ("interrupts", interrupts),
     ("instructions", instructions),
@@ -21,6 +23,7 @@ pub const KINDS: [Kind<Case>; 11] = [
     ("load_strings", load_strings),
     ("resets", resets),
     ("reset_ends", reset_ends),
+    ("sheets", sheets::panels),
 ];
 
 pub fn panels() -> Vec<Case> {

@@ -3,14 +3,15 @@
 use std::collections::BTreeSet;
 
 use reference::call::convert;
-use reference::restore;
+use reference::{restore, Answer};
 
 use super::*;
 
-/// What a panel lends.
+/// What a panel lends, and its sheet.
 struct Lent {
     rom: Vec<u8>,
     schedule: Vec<u8>,
+    sheet: Sheet,
 }
 
 impl Lent {
@@ -18,45 +19,66 @@ impl Lent {
         Lent {
             rom: panel.case.made_rom_bytes(),
             schedule: panel.case.made_schedule_bytes(),
+            sheet: panel.sheet(),
         }
     }
 
-    fn check_refused(&self, call: Refused, runner: Runner, state: &State) {
-        let short = &self.rom[..1_999];
+    /// A run of n cycles on a log with room for every record.
+    fn run(&self, runner: Runner, state: &State, n: u64) -> (Answer, Vec<u8>) {
+        let mut log = lent_log(n);
+        let Lent {
+            rom,
+            schedule,
+            sheet,
+        } = self;
+        let answer = run(runner, rom, schedule, state, &mut log, n, *sheet);
+        (answer, log)
+    }
+
+    fn check_refused(&self, panel: &Panel, call: Refused, runner: Runner, state: &State) {
+        let Lent {
+            rom,
+            schedule,
+            sheet,
+        } = self;
+        let number = call.number();
+        let run = |rom: &[u8], schedule: &[u8], n, sheet| {
+            refused_run(number, runner, (rom, schedule), state, n, sheet)
+        };
         match call {
-            Refused::Rom => refused_run(21, runner, short, &self.schedule, state, 9),
-            Refused::Schedule => refused_run(11, runner, &self.rom, &[0; 7], state, 9),
-            Refused::Cycles => refused_run(2, runner, &self.rom, &self.schedule, state, u64::MAX),
-            Refused::Buffer => {
-                let mut buffer = lent_log(9);
-                buffer.truncate(IMAGE - 1);
-                assert_eq!(save(Version::Two, state, &mut buffer), 1);
-                assert_eq!(buffer, lent_log(9)[..IMAGE - 1]);
+            Refused::Rom => run(&rom[1..], schedule, 9, *sheet),
+            Refused::Schedule => run(rom, &[0; 7], 9, *sheet),
+            Refused::Cycles => run(rom, schedule, u64::MAX, *sheet),
+            Refused::OtherSheet => run(rom, schedule, 9, panel.other_sheet()),
+            Refused::Buffer => refused_save(1, state, IMAGE - 1, *sheet),
+            Refused::Length => refused_restore(31, &[0; 80], *sheet),
+            Refused::Sheet(place) => {
+                let wrong = panel.wrong_sheet(place);
+                run(rom, schedule, 9, wrong);
+                refused_save(71, state, IMAGE, wrong);
+                let mut image = image_of(state, *sheet);
+                refused_restore(71, &image, wrong);
+                let (mut log, mut report) = (lent_log(9), pattern(REPORT));
+                let before = image.clone();
+                let answered = call_of(&mut image, rom, schedule, &mut log, 9, &mut report, wrong);
+                assert_eq!((answered, log), (71, lent_log(9)));
+                assert_eq!((image, report), (before, vec![0; REPORT]));
             }
-            Refused::Length => assert_eq!(restore(&[0; 80]), (31, State::fresh())),
-            Refused::Mark | Refused::Version | Refused::Field => {
-                let mut image = image_of(state);
-                let (place, value) = call.damage().unwrap();
+            Refused::Mark | Refused::Version | Refused::Field | Refused::Absent => {
+                let mut image = image_of(state, *sheet);
+                let (place, value) = call.damage(*sheet).unwrap();
                 image[place] = value;
-                assert_eq!(restore(&image), (call.number(), State::fresh()));
+                refused_restore(number, &image, *sheet);
             }
         }
     }
 
-    fn run_list(&self, start: &State, slices: &[Slice]) -> End {
+    fn run_list(&self, panel: &Panel, start: &State, slices: &[Slice]) -> End {
         let mut state = start.clone();
         let mut joined = Vec::new();
         let (mut number, mut cycles, mut begun) = (0, 0, 0);
         for slice in slices {
-            let mut log = lent_log(slice.cycles);
-            let answer = run(
-                slice.runner,
-                &self.rom,
-                &self.schedule,
-                &state,
-                &mut log,
-                slice.cycles,
-            );
+            let (answer, log) = self.run(slice.runner, &state, slice.cycles);
             assert!(!answer.refused && answer.number != 3);
             if number == 0 {
                 number = answer.number;
@@ -72,9 +94,9 @@ impl Lent {
             begun += answer.begun;
             joined.extend_from_slice(&log[..answer.written]);
             if let Some(call) = slice.refused {
-                self.check_refused(call, slice.runner, &answer.state);
+                self.check_refused(panel, call, slice.runner, &answer.state);
             }
-            let (restored, again) = restore(&kept(slice, &answer.state));
+            let (restored, again) = restore(&kept(slice, &answer.state, self.sheet), self.sheet);
             assert_eq!(restored, 0);
             state = again;
         }
@@ -89,25 +111,54 @@ impl Lent {
 }
 
 /// The image that is kept behind a slice, which is converted to version 1 and back alike.
-fn kept(slice: &Slice, state: &State) -> Vec<u8> {
-    let (two, mut one, mut again) = (image_of(state), vec![0; OLD], vec![0; IMAGE]);
+fn kept(slice: &Slice, state: &State, sheet: Sheet) -> Vec<u8> {
+    let (two, mut one, mut again) = (image_of(state, sheet), vec![0; OLD], vec![0; IMAGE]);
     if !slice.old {
         return two;
     }
     let due = if state.count == 0 { 0 } else { 54 };
-    assert_eq!(convert(&two, &mut one, 1), due);
-    assert_eq!(save(Version::One, state, &mut one), due);
+    assert_eq!(convert(&two, &mut one, 1, sheet), due);
+    assert_eq!(save(Version::One, state, &mut one, sheet), due);
     if due != 0 {
         return two;
     }
-    assert_eq!(convert(&one, &mut again, 2), 0);
+    assert_eq!(convert(&one, &mut again, 2, sheet), 0);
     assert_eq!(again, two);
     one
 }
 
-fn refused_run(number: u8, runner: Runner, rom: &[u8], schedule: &[u8], state: &State, n: u64) {
+fn refused_save(number: u8, state: &State, length: usize, sheet: Sheet) {
+    let mut buffer = pattern(length);
+    assert_eq!(save(Version::Two, state, &mut buffer, sheet), number);
+    assert_eq!(buffer, pattern(length));
+}
+
+fn refused_restore(number: u8, image: &[u8], sheet: Sheet) {
+    assert_eq!(restore(image, sheet), (number, State::fresh()));
+}
+
+fn call_of(
+    image: &mut [u8],
+    rom: &[u8],
+    schedule: &[u8],
+    log: &mut [u8],
+    n: u64,
+    report: &mut [u8],
+    sheet: Sheet,
+) -> u8 {
+    call(image, rom, schedule, log, n, 1, report, sheet)
+}
+
+fn refused_run(
+    number: u8,
+    runner: Runner,
+    (rom, schedule): (&[u8], &[u8]),
+    state: &State,
+    n: u64,
+    sheet: Sheet,
+) {
     let mut log = lent_log(9);
-    let answer = run(runner, rom, schedule, state, &mut log, n);
+    let answer = run(runner, rom, schedule, state, &mut log, n, sheet);
     assert_eq!((answer.number, answer.refused), (number, true));
     assert_eq!(answer.state, *state);
     assert_eq!((answer.cycles, answer.clocks, answer.begun), (0, 0, 0));
@@ -124,7 +175,11 @@ fn every_list_ends_as_the_unbroken_run() {
         assert_eq!(panel.unbroken(Runner::Skipping).0, end);
         for slices in panel.cut_lists().iter().chain(&panel.drawn_lists()) {
             let name = &panel.case.name;
-            assert_eq!(lent.run_list(&start, slices), end, "{name}: {slices:?}");
+            assert_eq!(
+                lent.run_list(&panel, &start, slices),
+                end,
+                "{name}: {slices:?}"
+            );
         }
     }
 }
@@ -135,9 +190,9 @@ fn a_restore_that_forgets_is_seen() {
     for panel in all() {
         let lent = Lent::of(&panel);
         let (end, _) = panel.unbroken(Runner::Plain);
-        let slices = &list::cut(panel.case.cycles(), end.cycles / 2);
-        let first = lent.run_list(&panel.case.start(), &slices[..1]);
-        let second = lent.run_list(&State::fresh(), &slices[1..]);
+        let slices = &list::cut(panel.case.cycles(), end.cycles / 2, panel.is_smaller());
+        let first = lent.run_list(&panel, &panel.case.start(), &slices[..1]);
+        let second = lent.run_list(&panel, &State::fresh(), &slices[1..]);
         assert_ne!(
             (first.begun + second.begun, second.state),
             (end.begun, end.state)
@@ -161,10 +216,7 @@ fn states(panel: &Panel) -> Vec<State> {
     let mut state = panel.case.start();
     let mut states = vec![state.clone()];
     for _ in 0..panel.cuts {
-        let mut log = [0; 16];
-        let Lent { rom, schedule } = &lent;
-        let answer = run(Runner::Plain, rom, schedule, &state, &mut log, 1);
-        state = answer.state;
+        state = lent.run(Runner::Plain, &state, 1).0.state;
         states.push(state.clone());
     }
     states
@@ -229,10 +281,8 @@ fn waits_are_jumped_and_nothing_else() {
 
 /// The steps of the timer-skipping runner for n cycles of a panel, and the state that it comes to.
 fn skipped(panel: &Panel, n: u64) -> (u64, State) {
-    let Lent { rom, schedule } = Lent::of(panel);
     let start = panel.case.start();
-    let mut log = lent_log(n);
-    let answer = run(Runner::Skipping, &rom, &schedule, &start, &mut log, n);
+    let (answer, _) = Lent::of(panel).run(Runner::Skipping, &start, n);
     (answer.steps, answer.state)
 }
 
@@ -251,8 +301,7 @@ fn a_run_ends_with_a_jump_from_mark_stm() {
 
 /// Whether the timer-skipping runner jumps from a state of a panel.
 fn jumps(lent: &Lent, state: &State) -> bool {
-    let Lent { rom, schedule } = lent;
-    let answer = run(Runner::Skipping, rom, schedule, state, &mut lent_log(2), 2);
+    let (answer, _) = lent.run(Runner::Skipping, state, 2);
     (answer.cycles, answer.steps) == (2, 1)
 }
 
@@ -300,7 +349,7 @@ fn int_falls_at_every_place_of_a_string() {
 fn a_mark_that_is_lost_shows_in_what_is_loaded() {
     for (name, mark) in [("strings of LI", 4), ("strings of LDI", 1)] {
         let panel = named(name);
-        let Lent { rom, schedule } = Lent::of(&panel);
+        let lent = Lent::of(&panel);
         let n = panel.case.cycles();
         let (mut held, mut seen) = (0, 0);
         for (state, k) in states(&panel).iter().zip(0..=n) {
@@ -309,11 +358,7 @@ fn a_mark_that_is_lost_shows_in_what_is_loaded() {
                     mark: 0,
                     ..state.clone()
                 };
-                let logs = [state, &forgotten].map(|from| {
-                    let mut log = lent_log(n - k);
-                    run(Runner::Plain, &rom, &schedule, from, &mut log, n - k);
-                    log
-                });
+                let logs = [state, &forgotten].map(|from| lent.run(Runner::Plain, from, n - k).1);
                 held += 1;
                 seen += u64::from(logs[0] != logs[1]);
             }
@@ -327,13 +372,9 @@ fn a_mark_that_is_lost_shows_in_what_is_loaded() {
 #[test]
 fn a_count_that_is_lost_or_kept_shows_in_the_log() {
     let panel = named("resets of interrupts, skips and OCD");
-    let Lent { rom, schedule } = Lent::of(&panel);
+    let lent = Lent::of(&panel);
     let n = panel.case.cycles();
-    let log_from = |state: &State, k: u64| {
-        let mut log = lent_log(n - k);
-        run(Runner::Plain, &rom, &schedule, state, &mut log, n - k);
-        log
-    };
+    let log_from = |state: &State, k: u64| lent.run(Runner::Plain, state, n - k).1;
     let (mut lost, mut kept) = (0, 0);
     for (state, k) in states(&panel).iter().zip(0..=n) {
         let with = |count: u8| State {
@@ -401,6 +442,60 @@ fn lists_are_of_every_kind() {
     }
 }
 
+/// Under a smaller sheet lists have the refused calls that look at it, under every sheet that is none.
+#[test]
+fn lists_of_smaller_chips_have_calls_under_other_sheets() {
+    for panel in all().into_iter().filter(Panel::is_smaller) {
+        let name = &panel.case.name;
+        let lists = [panel.cut_lists(), panel.drawn_lists()].concat();
+        let refused = list::refused(&lists);
+        assert!(refused.contains(&Refused::OtherSheet), "{name}");
+        assert!(refused.contains(&Refused::Absent), "{name}");
+        let wrong: BTreeSet<usize> = refused
+            .iter()
+            .filter_map(|call| match call {
+                Refused::Sheet(place) => Some(*place),
+                _ => None,
+            })
+            .collect();
+        assert!(wrong.len() > 8, "{name}: {wrong:?}");
+    }
+    // And the other panels have none of them.
+    for panel in all().into_iter().filter(|panel| !panel.is_smaller()) {
+        let refused = list::refused(&panel.cut_lists());
+        assert!(refused.iter().all(|call| list::ALL.contains(call)));
+    }
+}
+
+/// A level or a row that is lost at a cut shows in the log, and so does one more level than there is.
+#[test]
+fn a_level_that_is_lost_or_brought_in_shows() {
+    for levels in 2..=3 {
+        let panel = named(&format!("calls in calls, levels: {levels}"));
+        let lent = Lent::of(&panel);
+        let n = panel.case.cycles();
+        let log_from = |state: &State, k: u64| lent.run(Runner::Plain, state, n - k).1;
+        let mut seen = 0;
+        for (state, k) in states(&panel).iter().zip(0..=n).take(300) {
+            let mut forgotten = state.clone();
+            forgotten.stack[levels - 1] = 0;
+            seen += u64::from(log_from(state, k) != log_from(&forgotten, k));
+        }
+        assert!(seen > 20, "{levels} levels: {seen} cuts");
+    }
+    // The same program on chips of one, two and three levels goes three ways.
+    let ends: Vec<End> = (1..=3)
+        .map(|levels| named(&format!("calls in calls, levels: {levels}")))
+        .map(|panel| panel.unbroken(Runner::Plain).0)
+        .collect();
+    assert!(ends[0].log != ends[1].log && ends[1].log != ends[2].log);
+    let rows: BTreeSet<Vec<u8>> = ["00000", "10101", "01010", "11110"]
+        .map(|rows| named(&format!("every row, of which there are {rows}")))
+        .map(|panel| panel.unbroken(Runner::Plain).0.log)
+        .into();
+    assert_eq!(rows.len(), 4);
+}
+
 #[test]
 fn a_latch_that_is_lost_shows_in_what_is_read() {
     let panels = all();
@@ -408,7 +503,7 @@ fn a_latch_that_is_lost_shows_in_what_is_read() {
         .iter()
         .find(|panel| panel.case.name == "C and D read back")
         .expect("the panel is there");
-    let Lent { rom, schedule } = Lent::of(panel);
+    let lent = Lent::of(panel);
     let n = panel.case.cycles();
     for port in 0..2 {
         let (mut held, mut seen) = (0, 0);
@@ -416,11 +511,7 @@ fn a_latch_that_is_lost_shows_in_what_is_read() {
             let mut forgotten = state.clone();
             forgotten.ports[port] = 0;
             if forgotten != *state {
-                let logs = [state, &forgotten].map(|from| {
-                    let mut log = lent_log(n - k);
-                    run(Runner::Plain, &rom, &schedule, from, &mut log, n - k);
-                    log
-                });
+                let logs = [state, &forgotten].map(|from| lent.run(Runner::Plain, from, n - k).1);
                 held += 1;
                 seen += u64::from(logs[0] != logs[1]);
             }

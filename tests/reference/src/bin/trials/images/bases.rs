@@ -2,7 +2,7 @@
 //! that are none, and shapes of images.
 
 use reference::case::{highest, Case, INSIDE, NO_STOPS};
-use reference::{save, Coverage, State, Version};
+use reference::{save, Coverage, Sheet, State, Version};
 
 /// Bytes of an image of version 2.
 pub const IMAGE: usize = 82;
@@ -159,9 +159,10 @@ pub fn image(state: &State) -> Vec<u8> {
     image_in(Version::Two, state)
 }
 
+/// The layout tells nothing of the sheet, so that of the uPD546 serves for all.
 pub fn image_in(version: Version, state: &State) -> Vec<u8> {
     let mut image = vec![0; version.length()];
-    assert_eq!(save(version, state, &mut image), 0);
+    assert_eq!(save(version, state, &mut image, Sheet::UPD546), 0);
     image
 }
 

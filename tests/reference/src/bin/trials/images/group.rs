@@ -1,7 +1,7 @@
 //! One group of trials: its variants, and what they give.
 
 use reference::case::{next, top};
-use reference::{restore, save, State, Version};
+use reference::{restore, save, Sheet, State, Version};
 
 use super::bases::{state_of, Shape};
 
@@ -49,6 +49,8 @@ pub struct Group {
     pub base: u8,
     pub at: u8,
     pub numbers: Vec<u8>,
+    /// The sheet of all its tries.
+    pub sheet: Sheet,
 }
 
 /// One try.
@@ -83,8 +85,10 @@ impl Group {
         let mut tally = Tally::default();
         for variant in self.trial.variants() {
             let (number, same) = match variant {
-                Variant::Restore(bytes) => tried_restore(&bytes),
-                Variant::Save(version, state, room) => tried_save(version, &state, room),
+                Variant::Restore(bytes) => tried_restore(&bytes, self.sheet),
+                Variant::Save(version, state, room) => {
+                    tried_save(version, &state, room, self.sheet)
+                }
             };
             tally.add(number, same);
         }
@@ -93,8 +97,8 @@ impl Group {
 
     pub fn told(&self) -> String {
         let (word, base, at) = (self.trial.word(), self.base, self.at);
-        let Group { numbers, .. } = self;
-        format!("{word}, base {base}, {at}: to be answered by {numbers:?}\n")
+        let Group { numbers, sheet, .. } = self;
+        format!("{word}, base {base}, {at}, {sheet:?}: to be answered by {numbers:?}\n")
     }
 }
 
@@ -200,22 +204,22 @@ fn values(state: &[u8], place: usize, count: usize) -> Vec<Variant> {
 }
 
 /// Number, and whether a save of the state in the image's version writes the same bytes.
-fn tried_restore(bytes: &[u8]) -> (u8, bool) {
-    let (number, state) = restore(bytes);
+fn tried_restore(bytes: &[u8], sheet: Sheet) -> (u8, bool) {
+    let (number, state) = restore(bytes, sheet);
     let version = Version::BOTH
         .into_iter()
         .find(|version| version.length() == bytes.len());
     let saved_again = |version: Version| {
         let mut again = vec![0; version.length()];
-        save(version, &state, &mut again) == 0 && again == *bytes
+        save(version, &state, &mut again, sheet) == 0 && again == *bytes
     };
     (number, number == 0 && version.is_some_and(saved_again))
 }
 
 /// Number, and whether a restore of its image answers the same state.
-fn tried_save(version: Version, state: &State, room: usize) -> (u8, bool) {
+fn tried_save(version: Version, state: &State, room: usize, sheet: Sheet) -> (u8, bool) {
     let mut buffer = vec![0; room];
-    let number = save(version, state, &mut buffer);
-    let same = number == 0 && restore(&buffer[..version.length()]) == (0, state.clone());
-    (number, same)
+    let number = save(version, state, &mut buffer, sheet);
+    let again = |image: &[u8]| restore(image, sheet) == (0, state.clone());
+    (number, number == 0 && again(&buffer[..version.length()]))
 }

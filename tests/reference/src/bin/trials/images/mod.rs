@@ -3,6 +3,7 @@
 
 mod bases;
 pub mod group;
+mod sheets;
 #[cfg(test)]
 mod tests;
 
@@ -11,7 +12,7 @@ use std::collections::BTreeMap;
 use reference::call::{call, convert, fresh, REPORT};
 use reference::case::{state_bytes, Case, FEW_JCP, FEW_JUMPS, INSIDE, NO_STOPS};
 use reference::kinds::Count;
-use reference::{restore, save, State, Version};
+use reference::{restore, save, Sheet, State, Version};
 
 use crate::stream::{pattern, Chain, Of, Stream};
 use crate::Item;
@@ -39,6 +40,7 @@ pub fn all() -> Vec<Group> {
     groups.extend(torn_between_versions(&states));
     groups.extend(values(&value_states(&states)));
     groups.extend(buffers(&states));
+    groups.extend(sheets::groups(&states));
     groups
 }
 
@@ -120,6 +122,7 @@ fn bytes(states: &[Named]) -> Vec<Group> {
                     base: base as u8,
                     at: place as u8,
                     numbers: byte_numbers(place),
+                    sheet: Sheet::UPD546,
                 });
             }
         }
@@ -153,6 +156,7 @@ fn pairs(states: &[Named]) -> Vec<Group> {
             base: base as u8,
             at: place as u8,
             numbers: vec![0, refusal(place)],
+            sheet: Sheet::UPD546,
         });
     }
     groups
@@ -200,6 +204,7 @@ fn lengths(version: Version, states: &[Named]) -> Vec<Group> {
                 base: base as u8,
                 at: 0,
                 numbers: [numbers, vec![31]].concat(),
+                sheet: Sheet::UPD546,
             });
         }
     }
@@ -227,6 +232,7 @@ fn torn(version: Version, states: &[Named]) -> Vec<Group> {
                 base: base as u8,
                 at: other as u8,
                 numbers,
+                sheet: Sheet::UPD546,
             });
         }
     }
@@ -260,6 +266,7 @@ fn torn_with_others(version: Version, states: &[Named]) -> Vec<Group> {
             base: 1,
             at: other,
             numbers: numbers[0].to_vec(),
+            sheet: Sheet::UPD546,
         });
         groups.push(Group {
             name: format!("{}{name}, then an image", prefix(version)),
@@ -270,6 +277,7 @@ fn torn_with_others(version: Version, states: &[Named]) -> Vec<Group> {
             base: other,
             at: 1,
             numbers: numbers[1].to_vec(),
+            sheet: Sheet::UPD546,
         });
     }
     groups
@@ -308,6 +316,7 @@ fn torn_between_versions(states: &[Named]) -> Vec<Group> {
                 base: base as u8,
                 at: 0,
                 numbers: vec![0, 33],
+                sheet: Sheet::UPD546,
             });
         }
     }
@@ -419,6 +428,7 @@ fn drawn(version: Version) -> Vec<Group> {
             base: base as u8,
             at: shortest,
             numbers: numbers.to_vec(),
+            sheet: Sheet::UPD546,
         });
     }
     groups
@@ -455,6 +465,7 @@ fn values(states: &[Named]) -> Vec<Group> {
                 base: base as u8,
                 at: place as u8,
                 numbers,
+                sheet: Sheet::UPD546,
             });
         }
     }
@@ -484,6 +495,7 @@ fn buffers(states: &[Named]) -> Vec<Group> {
                 base: base as u8,
                 at: 0,
                 numbers,
+                sheet: Sheet::UPD546,
             });
         }
     }
@@ -511,7 +523,8 @@ pub fn all_faults(groups: &[Group]) -> Vec<String> {
     wrong.collect::<Vec<_>>().concat()
 }
 
-/// How many groups there are of each kind of trial, and together; and how many are of restores.
+/// How many groups there are of each kind of trial, and together; how many are of restores, and how many under other sheets than the
+/// uPD546's.
 pub fn counts() -> Vec<Count> {
     let groups = all();
     let mut counts = BTreeMap::new();
@@ -519,6 +532,8 @@ pub fn counts() -> Vec<Count> {
         *counts.entry(group.trial.word()).or_insert(0) += 1;
     }
     counts.insert("all", groups.len());
+    let smaller = groups.iter().filter(|group| group.sheet != Sheet::UPD546);
+    counts.insert("sheets", smaller.count());
     let converts = groups.iter().cloned().filter_map(Converts::of);
     counts.insert("converts", converts.count());
     let restores = groups.into_iter().filter_map(Calls::of);
@@ -531,7 +546,12 @@ pub fn counts() -> Vec<Count> {
 
 /// A few groups.
 pub fn small() -> Vec<Group> {
-    let wanted = ["fresh: byte 15", "fresh as a value: 1 from 20 on"];
+    let wanted = [
+        "fresh: byte 15",
+        "fresh as a value: 1 from 20 on",
+        "half a chip: byte 11",
+        "half a chip as a value: 1 from 7 on",
+    ];
     let mut groups = all();
     groups.retain(|group| wanted.contains(&group.name.as_str()));
     groups
@@ -557,10 +577,11 @@ impl Sent {
 /// of some cycles.
 pub struct Calls(pub Group);
 
-/// A ROM on which a run goes on, for calls of some cycles.
-fn rom() -> Vec<u8> {
+/// A ROM on which a run goes on, as long as the sheet says, for calls of some cycles.
+fn rom(sheet: Sheet) -> Vec<u8> {
     let filter = NO_STOPS | FEW_JCP | INSIDE | FEW_JUMPS;
-    Case::new("").made_rom(1_001, filter).made_rom_bytes()
+    let case = Case::new("").sheet(sheet).made_rom(1_001, filter);
+    case.made_rom_bytes()
 }
 
 impl Calls {
@@ -576,20 +597,19 @@ impl Calls {
     }
 }
 
-/// One call of a group, on a report of so many bytes.
+/// One call of a group, on this ROM under the sheet, with a log and a report of so many bytes.
 fn chain_call(
     stream: &mut Stream,
     chain: &mut Chain,
-    rom: &[u8],
+    (rom, sheet): (&[u8], Sheet),
     image: &mut [u8],
     n: u64,
     runner: u64,
-    lengths: (usize, usize),
+    (log, report): (usize, usize),
 ) {
-    let (log, report) = lengths;
     stream.call(Of::Group, n, runner, log, report);
     let (mut log, mut report) = (pattern(log), pattern(report));
-    let number = call(image, rom, &[], &mut log, n, runner, &mut report);
+    let number = call(image, rom, &[], &mut log, n, runner, &mut report, sheet);
     chain.called(number);
     chain.bytes(&report);
     chain.bytes(image);
@@ -602,8 +622,11 @@ impl Item for Calls {
     }
 
     fn put(&self, stream: &mut Stream) -> String {
-        let rom = rom();
+        let sheet = self.0.sheet;
+        let rom = rom(sheet);
+        let lent = (&rom[..], sheet);
         let mut chain = Chain::default();
+        stream.sheet(sheet);
         stream.rom(&rom);
         stream.schedule(&[]);
         let mut sent = Sent(None);
@@ -618,7 +641,7 @@ impl Item for Calls {
                 None => stream.image(&image),
             }
             let runner = place as u64 % 2;
-            chain_call(stream, &mut chain, &rom, &mut image, 0, runner, (0, REPORT));
+            chain_call(stream, &mut chain, lent, &mut image, 0, runner, (0, REPORT));
             sent.0 = Some(image);
         }
         if let Trial::Byte { image, place } = &self.0.trial {
@@ -630,15 +653,8 @@ impl Item for Calls {
                 stream.bring_back();
                 stream.image_byte(*place, value);
                 let (n, runner) = (1 + u64::from(value % 7), u64::from(value % 2));
-                chain_call(
-                    stream,
-                    &mut chain,
-                    &rom,
-                    &mut image,
-                    n,
-                    runner,
-                    (64, REPORT),
-                );
+                let lengths = (64, REPORT);
+                chain_call(stream, &mut chain, lent, &mut image, n, runner, lengths);
             }
         }
         stream.tell_group();
@@ -668,17 +684,17 @@ impl Converts {
     }
 }
 
-/// One conversion of a group, to a buffer of so many bytes.
+/// One conversion of a group, to a buffer of so many bytes, under the sheet.
 fn chain_convert(
     stream: &mut Stream,
     chain: &mut Chain,
     image: &[u8],
-    version: u64,
-    length: usize,
+    (version, length): (u64, usize),
+    sheet: Sheet,
 ) {
     stream.convert(Of::Group, version, length);
     let mut buffer = pattern(length);
-    let number = convert(image, &mut buffer, version);
+    let number = convert(image, &mut buffer, version, sheet);
     chain.called(number);
     chain.bytes(&buffer);
 }
@@ -690,6 +706,7 @@ impl Item for Converts {
 
     fn put(&self, stream: &mut Stream) -> String {
         let mut chain = Chain::default();
+        stream.sheet(self.0.sheet);
         let mut sent = Sent(None);
         for variant in self.0.trial.variants() {
             let Variant::Restore(image) = variant else {
@@ -702,8 +719,8 @@ impl Item for Converts {
                 None => stream.image(&image),
             }
             for version in Version::BOTH {
-                let (number, length) = (u64::from(version.number()), version.length());
-                chain_convert(stream, &mut chain, &image, number, length);
+                let wanted = (u64::from(version.number()), version.length());
+                chain_convert(stream, &mut chain, &image, wanted, self.0.sheet);
             }
             sent.0 = Some(image);
         }
@@ -725,7 +742,8 @@ impl Item for Versions {
     }
 
     fn put(&self, stream: &mut Stream) -> String {
-        let mut chain = Chain::default();
+        let (mut chain, sheet) = (Chain::default(), Sheet::UPD546);
+        stream.sheet(sheet);
         for (_, state) in bases::states() {
             let one = bases::image_in(Version::One, &bases::uncounted(&state));
             for image in [one, bases::image(&state)] {
@@ -743,7 +761,7 @@ impl Item for Versions {
                     u64::MAX,
                 ] {
                     for length in (0..4).chain(76..=100) {
-                        chain_convert(stream, &mut chain, &image, version, length);
+                        chain_convert(stream, &mut chain, &image, (version, length), sheet);
                     }
                 }
             }
@@ -766,8 +784,11 @@ impl Item for Lengths {
     }
 
     fn put(&self, stream: &mut Stream) -> String {
-        let rom = rom();
+        let sheet = Sheet::UPD546;
+        let rom = rom(sheet);
+        let lent = (&rom[..], sheet);
         let mut chain = Chain::default();
+        stream.sheet(sheet);
         stream.rom(&rom);
         stream.schedule(&[]);
         for length in 0..=200 {
@@ -782,7 +803,7 @@ impl Item for Lengths {
                 let mut image = bases::image(state);
                 stream.image(&image);
                 let lengths = (40, report);
-                chain_call(stream, &mut chain, &rom, &mut image, 3, 0, lengths);
+                chain_call(stream, &mut chain, lent, &mut image, 3, 0, lengths);
             }
         }
         stream.tell_group();
@@ -804,6 +825,7 @@ impl Item for Values {
 
     fn put(&self, stream: &mut Stream) -> String {
         let mut chain = Chain::default();
+        stream.sheet(self.0.sheet);
         let mut sent = Sent(None);
         for variant in self.0.trial.variants() {
             match variant {
@@ -814,7 +836,7 @@ impl Item for Values {
                             .for_each(|(place, byte)| stream.buffer_byte(place, byte)),
                         None => stream.image(&bytes),
                     }
-                    chain_restore(stream, &mut chain, &bytes);
+                    chain_restore(stream, &mut chain, &bytes, self.0.sheet);
                     sent.0 = Some(bytes);
                 }
                 Variant::Save(version, state, room) => {
@@ -826,12 +848,13 @@ impl Item for Values {
                         None => stream.value(&state),
                     }
                     let mut buffer = pattern(room);
-                    let number = save(version, &state, &mut buffer);
+                    let number = save(version, &state, &mut buffer, self.0.sheet);
                     stream.save(Of::Group, version, room);
                     chain.called(number);
                     chain.bytes(&buffer);
                     if number == 0 {
-                        chain_restore(stream, &mut chain, &buffer[..version.length()]);
+                        let image = &buffer[..version.length()];
+                        chain_restore(stream, &mut chain, image, self.0.sheet);
                     }
                     sent.0 = Some(value);
                 }
@@ -846,9 +869,9 @@ impl Item for Values {
     }
 }
 
-fn chain_restore(stream: &mut Stream, chain: &mut Chain, bytes: &[u8]) {
+fn chain_restore(stream: &mut Stream, chain: &mut Chain, bytes: &[u8], sheet: Sheet) {
     stream.restore(Of::Group, bytes.len());
-    let (number, state) = restore(bytes);
+    let (number, state) = restore(bytes, sheet);
     chain.called(number);
     chain.bytes(&state_bytes(&state));
 }

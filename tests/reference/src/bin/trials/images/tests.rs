@@ -4,6 +4,7 @@ use std::collections::{BTreeSet, HashMap};
 
 use super::group::Variant;
 use super::*;
+use reference::sheets::{HALF, LEAST, PAGE};
 
 fn restores(trial: &Trial) -> Vec<Vec<u8>> {
     let bytes = |variant| match variant {
@@ -30,11 +31,11 @@ fn every_trial_is_for_its_numbers() {
     for (word, expected) in [
         ("byte", vec![0, 32, 33, 34]),
         ("pair", vec![0, 32, 33, 34]),
-        ("length", vec![0, 31, 32, 33, 34]),
+        ("length", vec![0, 31, 32, 33, 34, 71]),
         ("torn", vec![0, 32, 33, 34]),
         ("drawn", vec![0, 31, 32, 33, 34]),
         ("value", vec![0, 1, 34, 54]),
-        ("buffer", vec![0, 1, 34, 54]),
+        ("buffer", vec![0, 1, 34, 54, 71]),
     ] {
         let expected: BTreeSet<u8> = expected.into_iter().collect();
         assert_eq!(numbers.remove(word), Some(expected), "{word}");
@@ -116,7 +117,11 @@ fn the_states_are_what_they_are_called() {
         } else {
             34
         };
-        assert_eq!(reference::restore(&above).0, number, "byte {place}");
+        assert_eq!(
+            reference::restore(&above, Sheet::UPD546).0,
+            number,
+            "byte {place}"
+        );
     }
 }
 
@@ -218,6 +223,33 @@ fn variants_are_what_they_are_called() {
     assert_eq!(pairs[0x1234][18..20], [0x12, 0x34]);
     assert_eq!(pairs[0x1234][..18], image[..18]);
     assert_eq!(pairs[0x1234][20..], image[20..]);
+}
+
+/// Under a smaller sheet a byte of what is absent is taken with 0 alone, and every other as before.
+#[test]
+fn what_is_absent_is_taken_with_zeros_alone() {
+    for sheet in [LEAST, HALF, PAGE] {
+        let mut absent = 0;
+        for group in all().iter().filter(|group| group.sheet == sheet) {
+            let Trial::Byte { image, place } = &group.trial else {
+                continue;
+            };
+            let old = Group {
+                sheet: Sheet::UPD546,
+                ..group.clone()
+            };
+            let taken = [group, &old].map(|group| group.tally().count(0));
+            if taken[0] == 1 && taken[1] > 1 {
+                assert_eq!(image[*place], 0);
+                absent += 1;
+            } else {
+                assert_eq!(taken[0], taken[1], "{}", group.name);
+            }
+        }
+        let rows = 5 - sheet.rows.count_ones();
+        let levels = 3 - sheet.levels as u32;
+        assert_eq!(absent, 8 * rows + 2 * levels, "{sheet:?}");
+    }
 }
 
 #[test]
