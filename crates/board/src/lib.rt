@@ -105,11 +105,7 @@ pub extern "C" fn wharfnettle_call(
 pub extern "C" fn wharfnettle_fresh(image: &mut [u8]) -> u8
     ensures { λ r. ⌜ record { number = r; buffer = now (image .exit) } ≡ saveAnswer upd546 Two fresh (now (image .entry)) ⌝ }
 {
-    let sheet = Sheet {
-        rom: 2000,
-        rows: 31,
-        levels: 3,
-    };
+    let sheet = upd546::upd546_sheet();
     runs::outcome_number(save::save(upd546::fresh_state(), Version::Two, image, sheet))
 }
 

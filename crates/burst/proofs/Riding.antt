@@ -18,8 +18,9 @@ use Rattle.upd546.specs.declared.Core.{Core}
 use Rattle.upd546.specs.declared.Interrupt.{Interrupt}
 use Rattle.upd546.specs.declared.Timer.{Timer}
 use Rattle.upd546.specs.declared.Lines.{Lines}
+use Rattle.upd546.specs.declared.Sheet.{Sheet}
 use Rattle.upd546.specs.declared.State.{State}
-use Rattle.upd546.specs.TheMachine.{byteAt, markEi, markStm}
+use Rattle.upd546.specs.TheMachine.{stackDepth, byteAt, markEi, markStm}
 use Rattle.upd546.specs.Parts.{withParts, stateOf, withTimer, setOwed}
 use Rattle.upd546.specs.TheLineSchedule.{linesAt}
 use Rattle.upd546.specs.Timer.{ticksLeft}
@@ -30,8 +31,7 @@ use Rattle.laws.specs.Ordinary.{stepsOf, ordinary}
 use Rattle.laws.specs.Burst.{Free, unticked, forward, broughtForward}
 use Rattle.laws.specs.Stops.{StopNumber}
 use Rattle.laws.specs.Valid.{Scalars, ValidStack, ValidPorts, ValidRam, Valid, ValidLines}
-use Rattle.laws.proofs.Lists.{and-left, and-right}
-use Rattle.laws.proofs.Lines.{lines-valid}
+use Rattle.laws.proofs.Lines.{lines-valid, panel-schedule}
 use Rattle.laws.proofs.Cycle.{taken-keeps, unticked-valid}
 use Rattle.laws.proofs.Stops.{steps-stop}
 use Rattle.laws.proofs.Tails.{put-none, put-more, put-length}
@@ -41,19 +41,22 @@ use Rattle.jump.specs.Boundary.{watchCode}
 use Rattle.jump.proofs.Lengths.{no-ttm, both-one, stopped, no-loop}
 use Rattle.effect.specs.declared.Started.{Started}
 use Rattle.effect.specs.Answer.{Answer, startOf, answerOn}
+use Rattle.effect.specs.Endings.{Fits}
 use Rattle.cycle.specs.Ready.{Ready}
-use Rattle.burst.specs.Turn.{Turn, Due, Horizon, Moved, Bursts, mayBeDue, nearestOf, keptBack, stretchOf, endedAt, appended}
+use Rattle.burst.specs.Turn.{Turn, Due, Horizon, Moved, Bursts, mayBeDue, nearestOf, stretchOf, endedAt, appended}
+use Rattle.burst.proofs.Lending.{lent-legal, lent-rom, lent-fits}
 use Rattle.burst.proofs.Moving.{Next, next}
 
 -- what stays the same in a burst from the state s on, with the log as it is lent, empty from `at` on
-pub record Setting (skips : Bool) (rom sched table positions : List ℕ) (l : Lines) (limit : ℕ) (s : State) (log : List ℕ) (at begun : ℕ) (first : Core) : Type 0 where
-  pub turn : Turn skips rom sched table positions l limit s log at begun
+pub record Setting (sheet : Sheet) (skips : Bool) (rom sched table rows positions : List ℕ) (levels : ℕ) (l : Lines) (limit : ℕ) (s : State) (log : List ℕ) (at begun : ℕ) (first : Core) : Type 0 where
+  pub turn : Turn sheet skips rom sched table rows positions l limit s log at begun
   pub due : Due s
+  pub levels-is : sheet .levels ≡ levels
   pub first-is : first ≡ taken l (s .core)
 
 -- the lines leave the timer as it was
-pub first-register : {skips : Bool} {rom sched table positions : List ℕ} {l : Lines} {limit : ℕ} {s : State} {log : List ℕ} {at begun : ℕ}
-    → Turn skips rom sched table positions l limit s log at begun → taken l (s .core) .timer .register < 64
+pub first-register : {sheet : Sheet} {skips : Bool} {rom sched table rows positions : List ℕ} {l : Lines} {limit : ℕ} {s : State} {log : List ℕ} {at begun : ℕ}
+    → Turn sheet skips rom sched table rows positions l limit s log at begun → taken l (s .core) .timer .register < 64
 unfolding taken
 first-register k = k .valid .core .scalars .register
 
@@ -72,20 +75,20 @@ pub record Standing : Type 0 where
 
 -- The machine stands at t, after d cycles that began b instructions and appended w. The next event is the horizon, and the timer of
 -- the core was the machine's before cycle `since`. The instruction at PC is due.
-pub record Riding (skips : Bool) (rom sched : List ℕ) (l : Lines) (limit : ℕ) (s : State) (log₀ : List ℕ) (at₀ begun₀ : ℕ) (p : Standing) : Type 0 where
+pub record Riding (sheet : Sheet) (skips : Bool) (rom sched : List ℕ) (l : Lines) (limit : ℕ) (s : State) (log₀ : List ℕ) (at₀ begun₀ : ℕ) (p : Standing) : Type 0 where
   pub t : State
   pub w : List ℕ
   pub d : ℕ
   pub b : ℕ
-  pub steps : OneByOne ordinary rom sched skips (length log₀ - at₀) (limit - s .cycle .0) s t w d b
+  pub steps : OneByOne (ordinary sheet) rom sched skips (length log₀ - at₀) (limit - s .cycle .0) s t w d b
   pub parts : t ≡ stateOf (t .core) (p .ram) (p .ports) (p .done)
   pub done-is : p .done ≡ s .cycle .0 + d
   pub begun-is : p .begun ≡ begun₀ + b
   pub few : b ≤ d
-  pub due-is : stepsOf rom sched t ≡ execute rom l t (withTimer (p .core) (ticks (p .done - p .since) (p .core .timer)))
+  pub due-is : stepsOf sheet rom sched t ≡ execute sheet rom l t (withTimer (p .core) (ticks (p .done - p .since) (p .core .timer)))
   pub valid : Valid (stateOf (p .core) (p .ram) (p .ports) (p .done))
   pub level : p .core .interrupt .level ≡ l .int
-  pub no-jump : skips ≡ true → waitLength rom sched t (limit - s .cycle .0 - d) ≡ 0
+  pub no-jump : skips ≡ true → waitLength sheet rom sched t (limit - s .cycle .0 - d) ≡ 0
   pub inside : p .done < p .horizon
   pub in-limit : p .horizon ≤ limit
   pub before-tick : 0 < p .core .timer .register → p .horizon ≤ p .since + ticksLeft (p .core .timer)
@@ -97,9 +100,9 @@ pub record Riding (skips : Bool) (rom sched : List ℕ) (l : Lines) (limit : ℕ
   pub at-start : p .done ≡ s .cycle .0 → (t ≡ s) × (w ≡ [])
   pub state-is : (p .done ≡ s .cycle .0 → ⊥) → t ≡ stateOf (forward (p .done - p .since) (p .core)) (p .ram) (p .ports) (p .done)
 
--- what the code says of the instruction that is due at the state s
-pub record Answers (rom : List ℕ) (l : Lines) (s : State) (at : ℕ) (log : List ℕ) (r : Started) (ram ports log′ : List ℕ) : Type 0 where
-  pub is : startOf r ram ports log′ ≡ answerOn at (unticked rom l s (s .core)) s log
+-- what the code says of the instruction that is due at the state s, with this ROM, these rows and levels
+pub record Answers (rom rows : List ℕ) (levels : ℕ) (l : Lines) (s : State) (at : ℕ) (log : List ℕ) (r : Started) (ram ports log′ : List ℕ) : Type 0 where
+  pub is : (sheet : Sheet) → Fits sheet rom rows levels → startOf r ram ports log′ ≡ answerOn at (unticked sheet rom l s (s .core)) s log
 
 -- after STM it doesn't matter by how many cycles a timer is brought forward
 forward-by : (a b : ℕ) (c : Core) → ((c .mark ≡ markStm → ⊥) → a ≡ b) → forward a c ≡ forward b c
@@ -109,49 +112,85 @@ forward-by a b c e = go (eqb (c .mark) markStm) refl
     go true q = let m = eqb-true (c .mark) markStm q in forward-stm a c m ∙ sym (forward-stm b c m)
     go false q = ap (λ (d : ℕ). forward d c) (e (eqb-false (c .mark) markStm q))
 
+-- where the code stands after an instruction of which `execute` answers r
+abbrev pub standsAfter : Standing → Started → (ram ports log : List ℕ) → (h since watch : ℕ) → Standing
+standsAfter p r ram ports log h since watch = record {
+  core = setOwed 0 (r .core);
+  ram = ram;
+  ports = ports;
+  log = log;
+  at = r .at;
+  done = p .done + 1 + r .core .owed;
+  begun = p .begun + 1;
+  horizon = h;
+  since = since;
+  watch = watch;
+}
+
 -- what the code knows of `near`
 pub record Near (near h : ℕ) (i : Interrupt) : Type 0 where
   pub event : 0 < near → near ≡ h
   pub free : 0 < near → Free i
+  pub due : near ≡ 0 → 0 < h → mayBeDue i ≡ true
 
 pub near-is : {near h : ℕ} {i : Interrupt} → near ≡ nearestOf i h → Near near h i
 near-is {near} {h} {i} e = go (mayBeDue i) refl e
   where
     go : (x : Bool) → mayBeDue i ≡ x → near ≡ cond x 0 h → Near near h i
-    go true q z = record { event = λ v. absurd (omega (arith, v, z)); free = λ v. absurd (omega (arith, v, z)) }
-    go false q z = record { event = λ v. z; free = λ v. q }
+    go true q z = record { event = λ v. absurd (omega (arith, v, z)); free = λ v. absurd (omega (arith, v, z)); due = λ v w. q }
+    go false q z = record { event = λ v. z; free = λ v. q; due = λ v w. absurd (omega (arith, v, w, z)) }
 
-pub near-to : {near near′ h h′ : ℕ} {i : Interrupt} → near′ ≡ near → h′ ≡ h → Near near h i → Near near′ h′ i
+-- and once an instruction has left this mark: where the mark doesn't block, an interrupt needn't be due any more
+pub record Left (near h : ℕ) (i : Interrupt) (mark : ℕ) : Type 0 where
+  pub event : 0 < near → near ≡ h
+  pub free : 0 < near → Free i
+  pub due : near ≡ 0 → 0 < h → blocks mark ≡ true → mayBeDue i ≡ true
+
+pub left-near : {near h mark : ℕ} {i : Interrupt} → Near near h i → Left near h i mark
+left-near n = record { event = n .event; free = n .free; due = λ v w b. n .due v w }
+
+pub near-to : {near near′ h h′ mark : ℕ} {i : Interrupt} → near′ ≡ near → h′ ≡ h → Left near h i mark → Left near′ h′ i mark
 near-to e f n = rw (e, f) n
 
 -- a runner that jumps and whose timer runs watches for TTM
 watches-ttm : (skips : Bool) (register : ℕ) → skips ≡ true → (register ≡ 0 → ⊥) → watchCode (skips && not (eqb register 0)) ≡ 0x05
 watches-ttm skips register p n = rw (p, ne-eqb register 0 n)
 
-module _ {skips : Bool} {rom sched table positions : List ℕ} {l : Lines} {limit : ℕ} {s : State} {log₀ : List ℕ} {at₀ begun₀ : ℕ} {first : Core}
-    (k : Setting skips rom sched table positions l limit s log₀ at₀ begun₀ first) where
+module _ {sheet : Sheet} {skips : Bool} {rom sched table rows positions : List ℕ} {levels : ℕ} {l : Lines} {limit : ℕ} {s : State} {log₀ : List ℕ}
+    {at₀ begun₀ : ℕ} {first : Core}
+    (k : Setting sheet skips rom sched table rows positions levels l limit s log₀ at₀ begun₀ first) where
   lines-here : linesAt sched (s .cycle .0) ≡ l
   lines-here = k .turn .lines (s .cycle .0) (omega arith) (k .turn .ahead)
 
+  fits-here : Fits sheet rom rows levels
+  fits-here = lent-fits (k .turn .lent) (k .levels-is)
+
+  -- as many levels as a legal sheet has
+  levels-small : (1 ≤ levels) × (levels ≤ stackDepth)
+  levels-small =
+      let v = lent-legal (k .turn .lent) in
+      (omega (arith, v .level-some, k .levels-is), omega (arith, v .level-most, k .levels-is))
+
   pub l-valid : ValidLines l
-  l-valid = subst ValidLines lines-here (lines-valid rom sched (s .cycle .0) (k .turn .lent .panel .sched-bytes) (k .turn .lent .panel .not-refused))
+  l-valid = subst ValidLines lines-here (lines-valid sched (s .cycle .0) (k .turn .lent .panel .sched-bytes)
+      (panel-schedule sheet rom sched (k .turn .lent .panel .not-refused)))
 
   -- the first instruction
-  first-due : stepsOf rom sched s ≡ execute rom l s first
+  first-due : stepsOf sheet rom sched s ≡ execute sheet rom l s first
   unfolding ordinaryCycle
   first-due =
       let n = linesAt sched (s .cycle .0) in
-      ap (λ (x : Bool). onAccepts x rom n s) (k .due .not-accepted)
-      ∙ ap (λ (x : ℕ). onOwed x rom n s (taken n (s .core))) (k .due .none-owed)
-      ∙ ap (λ (x : Lines). execute rom x s (taken x (s .core))) lines-here
-      ∙ ap (execute rom l s) (sym (k .first-is))
+      ap (λ (x : Bool). onAccepts x sheet rom n s) (k .due .not-accepted)
+      ∙ ap (λ (x : ℕ). onOwed x sheet rom n s (taken n (s .core))) (k .due .none-owed)
+      ∙ ap (λ (x : Lines). execute sheet rom x s (taken x (s .core))) lines-here
+      ∙ ap (execute sheet rom l s) (sym (k .first-is))
 
   first-level : first .interrupt .level ≡ l .int
   unfolding taken
   first-level = rw (k .first-is)
 
   pub rides : {h watch : ℕ} → Horizon (first .timer) (s .cycle .0) limit h → watch ≡ watchCode (skips && not (eqb (first .timer .register) 0))
-      → Riding skips rom sched l limit s log₀ at₀ begun₀ (record {
+      → Riding sheet skips rom sched l limit s log₀ at₀ begun₀ (record {
         core = first;
         ram = s .ram;
         ports = s .ports;
@@ -176,7 +215,7 @@ module _ {skips : Bool} {rom sched table positions : List ℕ} {l : Lines} {limi
         done-is = omega arith;
         begun-is = omega arith;
         few = omega arith;
-        due-is = first-due ∙ ap (execute rom l s) (sym (forward-none first)) ∙ ap (λ (y : ℕ). execute rom l s (withTimer first (ticks y (first .timer)))) (sym none-late);
+        due-is = first-due ∙ ap (execute sheet rom l s) (sym (forward-none first)) ∙ ap (λ (y : ℕ). execute sheet rom l s (withTimer first (ticks y (first .timer)))) (sym none-late);
         valid = record {
           core = rw (k .first-is) (taken-keeps l (s .core) l-valid (k .turn .valid .core));
           ports = k .turn .valid .ports;
@@ -199,16 +238,18 @@ module _ {skips : Bool} {rom sched table positions : List ℕ} {l : Lines} {limi
       }
 
   -- THE NEXT INSTRUCTION, of which the code says r
-  module _ {p : Standing} (c : Riding skips rom sched l limit s log₀ at₀ begun₀ p) where
+  module _ {p : Standing} (c : Riding sheet skips rom sched l limit s log₀ at₀ begun₀ p) where
     -- the state that the code works on
     abbrev here : State
     here = stateOf (p .core) (p .ram) (p .ports) (p .done)
 
-    pub ready : Ready rom table l here
+    pub ready : Ready rom table rows levels l here
     ready = record {
-      rom-length = k .turn .lent .rom-length;
       rom-bytes = k .turn .lent .panel .rom-bytes;
       sizes = k .turn .lent .instructions;
+      rows-are = record { sheet = sheet; is = k .turn .lent .row-table };
+      some-level = levels-small .0;
+      three-levels = levels-small .1;
       lines = l-valid;
       valid = c .valid;
       below = omega (arith, k .turn .in-limit, c .in-limit, c .inside);
@@ -229,9 +270,9 @@ module _ {skips : Bool} {rom sched table positions : List ℕ} {l : Lines} {limi
     room-same = omega (arith, c .place)
 
     -- the machine's state and the code's differ in the core alone, which an instruction takes from elsewhere
-    same-outcome : unticked rom l (c .t) (p .core) ≡ unticked rom l here (p .core)
+    same-outcome : unticked sheet rom l (c .t) (p .core) ≡ unticked sheet rom l here (p .core)
     unfolding unticked given
-    same-outcome = ap (λ (t : State). unticked rom l t (p .core)) (c .parts)
+    same-outcome = ap (λ (t : State). unticked sheet rom l t (p .core)) (c .parts)
 
     cycle-is : c .t .cycle .0 ≡ p .done
     cycle-is = ap (λ (t : State). t .cycle .0) (c .parts)
@@ -243,13 +284,13 @@ module _ {skips : Bool} {rom sched table positions : List ℕ} {l : Lines} {limi
     tm : ticks late (p .core .timer) .tm ≡ p .core .timer .tm
     tm = tm-stays late (p .core .timer) (c .valid .core .scalars .register) (λ q. omega (arith, c .inside, c .set, c .before-tick q))
 
-    outcome : stepsOf rom sched (c .t) ≡ broughtForward (suc late) (unticked rom l here (p .core))
-    outcome = c .due-is ∙ execute-late rom l (c .t) (p .core) late tm ∙ ap (broughtForward (suc late)) same-outcome
+    outcome : stepsOf sheet rom sched (c .t) ≡ broughtForward (suc late) (unticked sheet rom l here (p .core))
+    outcome = c .due-is ∙ execute-late sheet rom l (c .t) (p .core) late tm ∙ ap (broughtForward (suc late)) same-outcome
 
-    module _ {r : Started} {ram′ ports′ log′ : List ℕ} (a : Answers rom l here (p .at) (p .log) r ram′ ports′ log′) where
+    module _ {r : Started} {ram′ ports′ log′ : List ℕ} (a : Answers rom rows levels l here (p .at) (p .log) r ram′ ports′ log′) where
       -- IT ISN'T BEGUN
       record Unbegun : Type 0 where
-        stops : within ordinary rom sched (length log₀ - p .at) 1 (c .t) ≡ still (c .t) (some (r .stop))
+        stops : within (ordinary sheet) rom sched (length log₀ - p .at) 1 (c .t) ≡ still (c .t) (some (r .stop))
         known : (r .stop ≡ 3 → ⊥) → StopNumber (r .stop)
         core-is : r .core ≡ p .core
         ram-is : ram′ ≡ p .ram
@@ -258,14 +299,14 @@ module _ {skips : Bool} {rom sched table positions : List ℕ} {l : Lines} {limi
 
       unbegun : (r .stop ≡ 0 → ⊥) → Unbegun
       unfolding answerOn
-      unbegun g = go (unticked rom l here (p .core)) outcome (a .is)
+      unbegun g = go (unticked sheet rom l here (p .core)) outcome (a .is sheet fits-here)
         where
-          go : (o : Out State) → stepsOf rom sched (c .t) ≡ broughtForward (suc late) o → startOf r ram′ ports′ log′ ≡ answerOn (p .at) o here (p .log) → Unbegun
+          go : (o : Out State) → stepsOf sheet rom sched (c .t) ≡ broughtForward (suc late) o → startOf r ram′ ports′ log′ ≡ answerOn (p .at) o here (p .log) → Unbegun
           go (stop i) q z =
               let same : r .stop ≡ i = ap (λ (y : Answer). y .stop) z in
               record {
-                stops = one-stops ordinary rom sched (length log₀ - p .at) (c .t) i q ∙ ap (λ (y : ℕ). still (c .t) (some y)) (sym same);
-                known = λ d. subst StopNumber (sym same) (steps-stop rom sched (c .t) i q);
+                stops = one-stops (ordinary sheet) rom sched (length log₀ - p .at) (c .t) i q ∙ ap (λ (y : ℕ). still (c .t) (some y)) (sym same);
+                known = λ d. subst StopNumber (sym same) (steps-stop sheet rom sched (c .t) i q);
                 core-is = ap (λ (y : Answer). y .core) z;
                 ram-is = ap (λ (y : Answer). y .ram) z;
                 ports-is = ap (λ (y : Answer). y .ports) z;
@@ -283,7 +324,7 @@ module _ {skips : Bool} {rom sched table positions : List ℕ} {l : Lines} {limi
                   let same : r .stop ≡ 3 = ap (λ (y : Answer). y .stop) z in
                   let full = leb-false (length x) (length (p .log) - p .at) y in
                   record {
-                    stops = one-fills ordinary rom sched (length log₀ - p .at) (c .t) _ x e q (omega (arith, full, log-length)) ∙ ap (λ (y : ℕ). still (c .t) (some y)) (sym same);
+                    stops = one-fills (ordinary sheet) rom sched (length log₀ - p .at) (c .t) _ x e q (omega (arith, full, log-length)) ∙ ap (λ (y : ℕ). still (c .t) (some y)) (sym same);
                     known = λ d. absurd (d same);
                     core-is = ap (λ (y : Answer). y .core) z;
                     ram-is = ap (λ (y : Answer). y .ram) z;
@@ -292,7 +333,7 @@ module _ {skips : Bool} {rom sched table positions : List ℕ} {l : Lines} {limi
                   }
 
       pub stops-here : (r .stop ≡ 0 → ⊥)
-          → Bursts skips rom sched limit s log₀ at₀ begun₀ (record { stretch = stretchOf (r .core) (p .done) (p .begun) (p .at) (r .stop); late = late }) ram′ ports′ log′
+          → Bursts sheet skips rom sched limit s log₀ at₀ begun₀ (record { stretch = stretchOf (r .core) (p .done) (p .begun) (p .at) (r .stop); late = late }) ram′ ports′ log′
       stops-here g =
           let o = unbegun g in
           rw (o .core-is)
@@ -301,7 +342,7 @@ module _ {skips : Bool} {rom sched table positions : List ℕ} {l : Lines} {limi
                 let e = c .at-start z in
                 let same-place : p .at ≡ at₀ = omega (arith, c .place, ap length (e .1)) in
                 record {
-                  stops = ap₂ (λ (y : ℕ) (t : State). within ordinary rom sched (length log₀ - y) 1 t) (sym same-place) (sym (e .0)) ∙ o .stops
+                  stops = ap₂ (λ (y : ℕ) (t : State). within (ordinary sheet) rom sched (length log₀ - y) 1 t) (sym same-place) (sym (e .0)) ∙ o .stops
                       ∙ ap (λ (t : State). still t (some (r .stop))) (e .0);
                   some-number = g;
                   known = o .known;
@@ -316,7 +357,7 @@ module _ {skips : Bool} {rom sched table positions : List ℕ} {l : Lines} {limi
                   w = c .w;
                   some-cycles = omega (arith, n, c .done-is);
                   steps = rw (o .ram-is, o .ports-is)
-                      (subst (λ (t : State). OneByOne ordinary rom sched skips (length log₀ - at₀) (limit - s .cycle .0) s t (c .w) (c .d) (c .b)) (c .state-is n) (c .steps));
+                      (subst (λ (t : State). OneByOne (ordinary sheet) rom sched skips (length log₀ - at₀) (limit - s .cycle .0) s t (c .w) (c .d) (c .b)) (c .state-is n) (c .steps));
                   cycle-is = c .done-is;
                   begun-is = c .begun-is;
                   at-is = c .place;
@@ -336,7 +377,7 @@ module _ {skips : Bool} {rom sched table positions : List ℕ} {l : Lines} {limi
         u : State
         x : List ℕ
         e : ℕ
-        is : unticked rom l (c .t) (p .core) ≡ went u x e
+        is : unticked sheet rom l (c .t) (p .core) ≡ went u x e
         fits : at₀ + length (c .w ++ x) ≤ length log₀
         core-is : r .core ≡ u .core
         ram-is : ram′ ≡ u .ram
@@ -346,11 +387,11 @@ module _ {skips : Bool} {rom sched table positions : List ℕ} {l : Lines} {limi
 
       gone : r .stop ≡ 0 → Gone
       unfolding answerOn
-      gone g = go (unticked rom l here (p .core)) same-outcome outcome (a .is)
+      gone g = go (unticked sheet rom l here (p .core)) same-outcome outcome (a .is sheet fits-here)
         where
-          go : (o : Out State) → unticked rom l (c .t) (p .core) ≡ o → stepsOf rom sched (c .t) ≡ broughtForward (suc late) o
+          go : (o : Out State) → unticked sheet rom l (c .t) (p .core) ≡ o → stepsOf sheet rom sched (c .t) ≡ broughtForward (suc late) o
               → startOf r ram′ ports′ log′ ≡ answerOn (p .at) o here (p .log) → Gone
-          go (stop i) v q z = absurd (steps-stop rom sched (c .t) i q .some (sym (ap (λ (y : Answer). y .stop) z) ∙ g))
+          go (stop i) v q z = absurd (steps-stop sheet rom sched (c .t) i q .some (sym (ap (λ (y : Answer). y .stop) z) ∙ g))
           go (went u x e) v q z = fit (leb (length x) (length (p .log) - p .at)) refl z
             where
               fit : (f : Bool) → leb (length x) (length (p .log) - p .at) ≡ f
@@ -378,11 +419,11 @@ module _ {skips : Bool} {rom sched table positions : List ℕ} {l : Lines} {limi
 
       module _ (g : r .stop ≡ 0) where
         begun-here : Begun (c .t) (gone g .u) (p .core) (gone g .e)
-        begun-here = begun-is rom l (c .t) (p .core) (gone g .u) (gone g .x) (gone g .e) (gone g .is)
+        begun-here = begun-is sheet rom l (c .t) (p .core) (gone g .u) (gone g .x) (gone g .e) (gone g .is)
 
         after-valid : Valid (gone g .u)
         after-valid =
-            unticked-valid here (c .valid) (ready .below) rom l (k .turn .lent .panel .rom-bytes) l-valid (p .core) (c .valid .core) (gone g .u) (gone g .x) (gone g .e)
+            unticked-valid sheet (lent-legal (k .turn .lent) .level-most) here (c .valid) (ready .below) rom l (k .turn .lent .panel .rom-bytes) l-valid (p .core) (c .valid .core) (gone g .u) (gone g .x) (gone g .e)
             (sym same-outcome ∙ gone g .is)
 
         pub owed-small : r .core .owed ≤ 3
@@ -409,6 +450,13 @@ module _ {skips : Bool} {rom sched table positions : List ℕ} {l : Lines} {limi
             let v = gone g .core-is in
             subst (λ (y : Core). 0 < y .timer .register) (sym v) (begun-here .runs (sym (ap (λ (y : Core). y .mark) v) ∙ m))
 
+        -- no instruction but EI that leaves a blocking mark changes the interrupts
+        interrupt-still : (r .core .mark ≡ markEi → ⊥) → blocks (r .core .mark) ≡ true → r .core .interrupt ≡ p .core .interrupt
+        interrupt-still n b =
+            let v = gone g .core-is in
+            let m = ap (λ (y : Core). y .mark) v in
+            ap (λ (y : Core). y .interrupt) v ∙ begun-here .blocked (sym (ap blocks m) ∙ b) (λ z. n (m ∙ z))
+
         -- no instruction but EI makes INT and INTE both 1
         free-still : (r .core .mark ≡ markEi → ⊥) → Free (p .core .interrupt) → Free (r .core .interrupt)
         free-still n f =
@@ -427,7 +475,7 @@ module _ {skips : Bool} {rom sched table positions : List ℕ} {l : Lines} {limi
 
           -- the machine before a later cycle, up to the event
           reached : (n : ℕ) → p .done < n → n ≤ over → n ≤ h′
-              → OneByOne ordinary rom sched skips (length log₀ - at₀) (limit - s .cycle .0) s
+              → OneByOne (ordinary sheet) rom sched skips (length log₀ - at₀) (limit - s .cycle .0) s
               (stateOf (forward (n - since′) (setOwed (over - n) (r .core))) ram′ ports′ n) (c .w ++ gone g .x) (n - s .cycle .0) (c .b + 1)
           reached n q v y =
               let o = gone g in
@@ -441,7 +489,7 @@ module _ {skips : Bool} {rom sched table positions : List ℕ} {l : Lines} {limi
               λ i z. ap (λ (y : Lines). y .int)
               (k .turn .lines (o .u .cycle .0 + i) (omega (arith, b .rises, cycle-is, c .done-is)) (omega (arith, b .rises, cycle-is, m .in-limit)))
               ∙ sym (b .level ∙ c .level) in
-              let all = reaches-later rom sched l skips (length log₀ - at₀) (limit - s .cycle .0) s (c .t) (c .w) (c .d) (c .b) (c .steps) (p .core) late (c .due-is) tm (c .no-jump)
+              let all = reaches-later sheet rom sched l skips (length log₀ - at₀) (limit - s .cycle .0) s (c .t) (c .w) (c .d) (c .b) (c .steps) (p .core) late (c .due-is) tm (c .no-jump)
               (o .u) (o .x) (o .e) (o .is) (omega (arith, o .fits)) (omega (arith, c .inside, c .in-limit, c .done-is)) j (omega (arith, owed-is))
               (omega (arith, m .in-limit, c .done-is)) level in
               let f = forward-by (suc late + j) (n - since′) (setOwed (over - n) (r .core)) (λ i. omega (arith, c .set, m .same i .0)) in
@@ -451,10 +499,10 @@ module _ {skips : Bool} {rom sched table positions : List ℕ} {l : Lines} {limi
               = ap (λ (u : State). withParts u (forward (suc late + j) (setOwed (o .u .core .owed - j) (o .u .core))) (o .u .ram) (o .u .ports) (o .u .cycle .0 + j)) parts
               ∙ (λ i. stateOf (forward (suc late + j) (setOwed (e₂ i) (sym (o .core-is) i))) (sym (o .ram-is) i) (sym (o .ports-is) i) (e₃ i))
               ∙ ap (λ (y : Core). stateOf y ram′ ports′ n) f in
-              let z = subst (λ (t : State). OneByOne ordinary rom sched skips (length log₀ - at₀) (limit - s .cycle .0) s t (c .w ++ o .x) (suc (c .d) + j) (c .b + o .e)) to all in
+              let z = subst (λ (t : State). OneByOne (ordinary sheet) rom sched skips (length log₀ - at₀) (limit - s .cycle .0) s t (c .w ++ o .x) (suc (c .d) + j) (c .b + o .e)) to all in
               rw (e₁, b .one) at z
 
-          pub ends : Bursts skips rom sched limit s log₀ at₀ begun₀ (endedAt (setOwed 0 (r .core)) over (p .begun + 1) (r .at) h′ since′) ram′ ports′ log′
+          pub ends : Bursts sheet skips rom sched limit s log₀ at₀ begun₀ (endedAt (setOwed 0 (r .core)) over (p .begun + 1) (r .at) h′ since′) ram′ ports′ log′
           ends =
               let o = gone g in
               let some : p .done < min over h′ = omega (arith, c .inside, m .not-before) in
@@ -544,21 +592,10 @@ module _ {skips : Bool} {rom sched table positions : List ℕ} {l : Lines} {limi
                 }
 
             -- where the code then stands
-            abbrev pub after : Standing
-            after = record {
-              core = setOwed 0 (r .core);
-              ram = ram′;
-              ports = ports′;
-              log = log′;
-              at = r .at;
-              done = over;
-              begun = p .begun + 1;
-              horizon = h′;
-              since = since′;
-              watch = watch′;
-            }
+            abbrev after : Standing
+            after = standsAfter p r ram′ ports′ log′ h′ since′ watch′
 
-            rides-on : accepts on ≡ false → (skips ≡ true → (left : ℕ) → waitLength rom sched there left ≡ 0) → Riding skips rom sched l limit s log₀ at₀ begun₀ after
+            rides-on : accepts on ≡ false → (skips ≡ true → (left : ℕ) → waitLength sheet rom sched there left ≡ 0) → Riding sheet skips rom sched l limit s log₀ at₀ begun₀ after
             rides-on not-accepted no-jump =
                 let o = gone g in
                 let e : over - over ≡ 0 = omega arith in
@@ -569,13 +606,13 @@ module _ {skips : Bool} {rom sched table positions : List ℕ} {l : Lines} {limi
                   w = c .w ++ o .x;
                   d = over - s .cycle .0;
                   b = c .b + 1;
-                  steps = subst (λ (y : State). OneByOne ordinary rom sched skips (length log₀ - at₀) (limit - s .cycle .0) s y (c .w ++ o .x) (over - s .cycle .0) (c .b + 1)) on-is (rw e at all);
+                  steps = subst (λ (y : State). OneByOne (ordinary sheet) rom sched skips (length log₀ - at₀) (limit - s .cycle .0) s y (c .w ++ o .x) (over - s .cycle .0) (c .b + 1)) on-is (rw e at all);
                   parts = refl;
                   done-is = omega (arith, c .done-is);
                   begun-is = omega (arith, c .begun-is);
                   few = omega (arith, c .few, c .done-is);
-                  due-is = cycle-due rom sched there refl not-accepted (ap (λ (y : Lines). y .int) lines-still ∙ sym level-still)
-                      ∙ ap (λ (y : Lines). execute rom y there on) lines-still;
+                  due-is = cycle-due sheet rom sched there refl not-accepted (ap (λ (y : Lines). y .int) lines-still ∙ sym level-still)
+                      ∙ ap (λ (y : Lines). execute sheet rom y there on) lines-still;
                   valid = valid-still;
                   level = level-still;
                   no-jump = λ q. no-jump q (limit - s .cycle .0 - (over - s .cycle .0));
@@ -592,42 +629,103 @@ module _ {skips : Bool} {rom sched table positions : List ℕ} {l : Lines} {limi
                 }
 
             -- INT and INTE aren't both 1, and no loop waits on the timer: the code at PC isn't the one that is watched for
-            pub rides-freely : Free (r .core .interrupt) → (byteAt rom (r .core .flow .pc) ≡ watch′ → ⊥) → Riding skips rom sched l limit s log₀ at₀ begun₀ after
-            rides-freely f n = rides-on (free-accepts on f) (λ q left. wait-length-none rom sched there left (go q (eqb (r .core .timer .register) 0) refl))
+            rides-freely : Free (r .core .interrupt) → (byteAt rom (r .core .flow .pc) ≡ watch′ → ⊥) → Riding sheet skips rom sched l limit s log₀ at₀ begun₀ after
+            rides-freely f n = rides-on (free-accepts on f) (λ q left. wait-length-none sheet rom sched there left (go q (eqb (r .core .timer .register) 0) refl))
               where
-                go : skips ≡ true → (x : Bool) → eqb (r .core .timer .register) 0 ≡ x → mayJump rom sched there ≡ false
+                go : skips ≡ true → (x : Bool) → eqb (r .core .timer .register) 0 ≡ x → mayJump sheet rom sched there ≡ false
                 go q true v =
                     let z = eqb-true (r .core .timer .register) 0 v in
-                    stopped rom sched there (ap (λ (y : Timer). y .register) (ticks-stopped (over - since′) (r .core .timer) z) ∙ z)
+                    stopped sheet rom sched there (ap (λ (y : Timer). y .register) (ticks-stopped (over - since′) (r .core .timer) z) ∙ z)
                 go q false v =
                     let watched = watches-still ∙ watches-ttm skips (r .core .timer .register) q (eqb-false (r .core .timer .register) 0 v) in
-                    no-loop rom sched there (rw (no-ttm rom (r .core .flow .pc) (λ z. n (z ∙ sym watched))))
+                    no-loop sheet rom sched there (rw (no-ttm sheet rom (lent-rom (k .turn .lent)) (r .core .flow .pc) (λ z. n (z ∙ sym watched))))
 
             -- or the address after PC holds no JCP back
-            pub rides-past : Free (r .core .interrupt) → atJcpBack rom (r .core .flow .pc) ≡ false → Riding skips rom sched l limit s log₀ at₀ begun₀ after
+            rides-past : Free (r .core .interrupt) → atJcpBack sheet rom (r .core .flow .pc) ≡ false → Riding sheet skips rom sched l limit s log₀ at₀ begun₀ after
             rides-past f z =
                 rides-on (free-accepts on f)
-                (λ q left. wait-length-none rom sched there left (no-loop rom sched there (rw z (and-false (atTtm rom (r .core .flow .pc))))))
+                (λ q left. wait-length-none sheet rom sched there left (no-loop sheet rom sched there (rw z (and-false (atTtm sheet rom (r .core .flow .pc))))))
 
             -- the mark keeps an interrupt back
-            pub rides-kept : keptBack (r .core .interrupt) (r .core .mark) ≡ true → Riding skips rom sched l limit s log₀ at₀ begun₀ after
-            rides-kept z =
-                rides-on (blocked-accepts on (and-right (mayBeDue (r .core .interrupt)) (blocks (r .core .mark)) z))
-                (λ q left. wait-length-none rom sched there left (both-one rom sched there (and-left (mayBeDue (r .core .interrupt)) (blocks (r .core .mark)) z)))
+            rides-kept : mayBeDue (r .core .interrupt) ≡ true → blocks (r .core .mark) ≡ true
+                → Riding sheet skips rom sched l limit s log₀ at₀ begun₀ after
+            rides-kept due z =
+                rides-on (blocked-accepts on z)
+                (λ q left. wait-length-none sheet rom sched there left (both-one sheet rom sched there due))
 
-        pub near-still : {near : ℕ} → Near near (p .horizon) (p .core .interrupt) → (r .core .mark ≡ markEi → ⊥) → Near near (p .horizon) (r .core .interrupt)
-        near-still v n = record { event = v .event; free = λ q. free-still n (v .free q) }
+        pub near-still : {near : ℕ} → Near near (p .horizon) (p .core .interrupt) → (r .core .mark ≡ markEi → ⊥)
+            → Left near (p .horizon) (r .core .interrupt) (r .core .mark)
+        near-still v n = record {
+          event = v .event;
+          free = λ q. free-still n (v .free q);
+          due = λ z h b. ap mayBeDue (interrupt-still n b) ∙ v .due z h;
+        }
 
 -- THE LOOPS' INVARIANTS
 
--- around the instructions: the loop stands at p, whichever core it was before the lines were taken
-pub record Rides (skips : Bool) (rom sched table positions : List ℕ) (l : Lines) (limit n : ℕ) (ram₀ ports₀ log₀ : List ℕ) (at₀ begun₀ : ℕ) (first : Core) (p : Standing) : Type 0 where
-  pub riding : (b : Core) → Setting skips rom sched table positions l limit (stateOf b ram₀ ports₀ n) log₀ at₀ begun₀ first
-      → Riding skips rom sched l limit (stateOf b ram₀ ports₀ n) log₀ at₀ begun₀ p
+-- around the instructions: the loop stands at p, whichever the sheet is and whichever core it was before the lines were taken
+pub record Rides (skips : Bool) (rom sched table rows positions : List ℕ) (levels : ℕ) (l : Lines) (limit n : ℕ) (ram₀ ports₀ log₀ : List ℕ)
+    (at₀ begun₀ : ℕ) (first : Core) (p : Standing) : Type 0 where
+  pub riding : (sheet : Sheet) (b : Core)
+      → Setting sheet skips rom sched table rows positions levels l limit (stateOf b ram₀ ports₀ n) log₀ at₀ begun₀ first
+      → Riding sheet skips rom sched l limit (stateOf b ram₀ ports₀ n) log₀ at₀ begun₀ p
 
 -- from instruction to instruction: from q, where the loop around it stood, to p
-pub record Follows (skips : Bool) (rom sched table positions : List ℕ) (l : Lines) (limit at₀ begun₀ : ℕ) (q p : Standing) (near : ℕ) : Type 0 where
-  pub riding : {s : State} {log₀ : List ℕ} {first : Core} → Setting skips rom sched table positions l limit s log₀ at₀ begun₀ first
-      → Riding skips rom sched l limit s log₀ at₀ begun₀ q → Riding skips rom sched l limit s log₀ at₀ begun₀ p
+pub record Follows (skips : Bool) (rom sched table rows positions : List ℕ) (levels : ℕ) (l : Lines) (limit at₀ begun₀ : ℕ) (q p : Standing)
+    (near : ℕ) : Type 0 where
+  pub riding : {sheet : Sheet} {s : State} {log₀ : List ℕ} {first : Core}
+      → Setting sheet skips rom sched table rows positions levels l limit s log₀ at₀ begun₀ first
+      → Riding sheet skips rom sched l limit s log₀ at₀ begun₀ q → Riding sheet skips rom sched l limit s log₀ at₀ begun₀ p
   pub later : q .done ≤ p .done
   pub near-event : Near near (p .horizon) (p .core .interrupt)
+
+-- before the first of them
+pub follows-none : {skips : Bool} {rom sched table rows positions : List ℕ} {levels : ℕ} {l : Lines} {limit at₀ begun₀ : ℕ} {p : Standing} {near : ℕ}
+    → near ≡ nearestOf (p .core .interrupt) (p .horizon) → Follows skips rom sched table rows positions levels l limit at₀ begun₀ p p near
+follows-none e = record { riding = λ k y. y; later = omega arith; near-event = near-is e }
+
+-- and from p to where an instruction leaves the code
+module _ {skips : Bool} {rom sched table rows positions : List ℕ} {levels : ℕ} {l : Lines} {limit at₀ begun₀ : ℕ} {q p : Standing} {near : ℕ}
+    (f : Follows skips rom sched table rows positions levels l limit at₀ begun₀ q p near) {r : Started} {ram′ ports′ log′ : List ℕ}
+    (a : Answers rom rows levels l (stateOf (p .core) (p .ram) (p .ports) (p .done)) (p .at) (p .log) r ram′ ports′ log′) (g : r .stop ≡ 0)
+    {h′ since′ watch′ : ℕ}
+    (moved : Moved (setOwed 0 (r .core)) (p .done + 1 + r .core .owed) limit skips (p .horizon) (p .since) (p .watch) h′ since′ watch′) where
+  abbrev next-place : Standing
+  next-place = standsAfter p r ram′ ports′ log′ h′ since′ watch′
+
+  -- neither an interrupt may be due nor has the event come
+  module _ {near′ : ℕ} (v : Left near′ h′ (r .core .interrupt) (r .core .mark)) (ahead : p .done + 1 + r .core .owed < near′) where
+    event-ahead : p .done + 1 + r .core .owed < h′
+    event-ahead = omega (arith, ahead, v .event (omega (arith, ahead)))
+
+    still-free : Free (r .core .interrupt)
+    still-free = v .free (omega (arith, ahead))
+
+    still-near : Near near′ h′ (r .core .interrupt)
+    still-near = record { event = v .event; free = v .free; due = λ z. absurd (omega (arith, z, ahead)) }
+
+    abbrev Follows-on : Type 0
+    Follows-on = Follows skips rom sched table rows positions levels l limit at₀ begun₀ q next-place near′
+
+    pub follows-past : ((sheet : Sheet) → sheet .rom ≡ length rom → atJcpBack sheet rom (r .core .flow .pc) ≡ false) → Follows-on
+    follows-past z = record {
+      riding = λ {sheet} k y. rides-past k (f .riding k y) a g moved event-ahead still-free (z sheet (lent-rom (k .turn .lent)));
+      later = omega (arith, f .later);
+      near-event = still-near;
+    }
+
+    pub follows-freely : (byteAt rom (r .core .flow .pc) ≡ watch′ → ⊥) → Follows-on
+    follows-freely n = record {
+      riding = λ k y. rides-freely k (f .riding k y) a g moved event-ahead still-free n;
+      later = omega (arith, f .later);
+      near-event = still-near;
+    }
+
+  -- the mark keeps an interrupt back, and the event is ahead
+  pub rides-again : {n : ℕ} {ram₀ ports₀ log₀ : List ℕ} {first : Core}
+      → Rides skips rom sched table rows positions levels l limit n ram₀ ports₀ log₀ at₀ begun₀ first q
+      → {near′ : ℕ} → Left near′ h′ (r .core .interrupt) (r .core .mark) → near′ ≡ 0
+      → (blocks (r .core .mark) ≡ true) × (p .done + 1 + r .core .owed < h′)
+      → Rides skips rom sched table rows positions levels l limit n ram₀ ports₀ log₀ at₀ begun₀ first next-place
+  rides-again o near zeroed v =
+      record { riding = λ sheet b k. rides-kept k (f .riding k (o .riding sheet b k)) a g moved (v .1) (near .due zeroed (omega (arith, v .1)) (v .0)) (v .0) }

@@ -9,6 +9,7 @@ use Rattle.runs.specs.Machine.{went}
 use Rattle.runs.specs.OneByOne.{none, also}
 use Rattle.upd546.specs.declared.Core.{Core}
 use Rattle.upd546.specs.declared.Lines.{Lines}
+use Rattle.upd546.specs.declared.Sheet.{Sheet}
 use Rattle.upd546.specs.declared.State.{State}
 use Rattle.upd546.specs.TheLineSchedule.{linesAt}
 use Rattle.upd546.specs.OneMachineCycle.{accepts, accepted, taken, paid, ticked, quiet, onOwed, onAccepts, ordinaryCycle}
@@ -17,13 +18,13 @@ use Rattle.laws.proofs.Tails.{put-none}
 use Rattle.upd546.specs.Parts.{withParts, onward}
 use Rattle.burst.specs.Turn.{Turn, Turned, stretchOf}
 
-module _ {skips : Bool} {rom sched table positions : List ℕ} {l : Lines} {limit : ℕ} {s : State} {log : List ℕ} {at begun : ℕ}
-    (k : Turn skips rom sched table positions l limit s log at begun) where
+module _ {sheet : Sheet} {skips : Bool} {rom sched table rows positions : List ℕ} {l : Lines} {limit : ℕ} {s : State} {log : List ℕ} {at begun : ℕ}
+    (k : Turn sheet skips rom sched table rows positions l limit s log at begun) where
   lines-here : linesAt sched (s .cycle .0) ≡ l
   lines-here = k .lines (s .cycle .0) (omega arith) (k .ahead)
 
-  single : (core : Core) → stepsOf rom sched s ≡ went (onward 1 s core (s .ram) (s .ports)) [] 0
-      → Turned skips rom sched limit s log at begun (stretchOf core (s .cycle .0 + 1) begun at 0) (s .ram) (s .ports) log
+  single : (core : Core) → stepsOf sheet rom sched s ≡ went (onward 1 s core (s .ram) (s .ports)) [] 0
+      → Turned sheet skips rom sched limit s log at begun (stretchOf core (s .cycle .0 + 1) begun at 0) (s .ram) (s .ports) log
   single core q = record {
     held = λ n. absurd (n refl);
     went = λ z. record {
@@ -39,24 +40,24 @@ module _ {skips : Bool} {rom sched table positions : List ℕ} {l : Lines} {limi
     };
   }
 
-  pub accepts-turn : accepts (s .core) ≡ true → {core : Core} → core ≡ ticked (taken l (accepted (s .core)))
-      → Turned skips rom sched limit s log at begun (stretchOf core (s .cycle .0 + 1) begun at 0) (s .ram) (s .ports) log
+  pub accepts-turn : accepts (s .core) ≡ true → {core : Core} → core ≡ ticked (taken l (accepted sheet (s .core)))
+      → Turned sheet skips rom sched limit s log at begun (stretchOf core (s .cycle .0 + 1) begun at 0) (s .ram) (s .ports) log
   unfolding ordinaryCycle
   accepts-turn a e =
       rw e
-      (single (ticked (taken l (accepted (s .core))))
-      (ap (λ (b : Bool). onAccepts b rom (linesAt sched (s .cycle .0)) s) a ∙ ap (λ (x : Lines). quiet s (taken x (accepted (s .core)))) lines-here))
+      (single (ticked (taken l (accepted sheet (s .core))))
+      (ap (λ (b : Bool). onAccepts b sheet rom (linesAt sched (s .cycle .0)) s) a ∙ ap (λ (x : Lines). quiet s (taken x (accepted sheet (s .core)))) lines-here))
 
-  owes : (o : ℕ) → (o ≡ 0 → ⊥) → (x : Lines) → onOwed o rom x s (taken x (s .core)) ≡ quiet s (paid (taken x (s .core)))
+  owes : (o : ℕ) → (o ≡ 0 → ⊥) → (x : Lines) → onOwed o sheet rom x s (taken x (s .core)) ≡ quiet s (paid (taken x (s .core)))
   owes zero n x = absurd (n refl)
   owes (suc o) n x = refl
 
   pub owed-turn : accepts (s .core) ≡ false → (s .core .owed ≡ 0 → ⊥) → {core : Core} → core ≡ ticked (paid (taken l (s .core)))
-      → Turned skips rom sched limit s log at begun (stretchOf core (s .cycle .0 + 1) begun at 0) (s .ram) (s .ports) log
+      → Turned sheet skips rom sched limit s log at begun (stretchOf core (s .cycle .0 + 1) begun at 0) (s .ram) (s .ports) log
   unfolding ordinaryCycle
   owed-turn a n e =
       rw e
       (single (ticked (paid (taken l (s .core))))
-      (ap (λ (b : Bool). onAccepts b rom (linesAt sched (s .cycle .0)) s) a
+      (ap (λ (b : Bool). onAccepts b sheet rom (linesAt sched (s .cycle .0)) s) a
       ∙ owes (s .core .owed) n (linesAt sched (s .cycle .0))
       ∙ ap (λ (x : Lines). quiet s (paid (taken x (s .core)))) lines-here))

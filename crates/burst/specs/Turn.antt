@@ -72,9 +72,6 @@ pub record Horizon (timer : Timer) (n limit h : ℕ) : Type 0 where
 abbrev pub mayBeDue : Interrupt → Bool
 mayBeDue i = eqb (i .int) 1 && eqb (i .inte) 1
 
-abbrev pub keptBack : Interrupt → (mark : ℕ) → Bool
-keptBack i mark = mayBeDue i && blocks mark
-
 -- the cycle from which on instructions aren't begun one after the other
 abbrev pub nearestOf : Interrupt → (h : ℕ) → ℕ
 nearestOf i h = cond (mayBeDue i) 0 h

@@ -11,8 +11,8 @@ use borrow.Author.Tests.{eqb-true, eqb-false}
 use Rattle.runs.specs.declared.Version.the-variants.{Two}
 use Rattle.runs.specs.TwoRunners.{SaveAnswer, saveAnswer}
 use Rattle.upd546.specs.TheMachine.{fresh}
-use Rattle.upd546.specs.TwoRunners.{upd546}
-use Rattle.calls.specs.Call.{BoardCall, BoardAnswer, callAnswer}
+use Rattle.upd546.specs.TwoRunners.{upd546, chip}
+use Rattle.calls.specs.Call.{BoardCall, BoardAnswer, boardAnswer}
 use Rattle.waiting.specs.WaitingTimes.{startOfDay, waitingTimes}
 use Rattle.waits_text.specs.Parts.{noParts, partRead}
 use Rattle.waits_text.proofs.Parts.{reads-on, not-whole}
@@ -22,14 +22,14 @@ use Rattle.streams.specs.declared.Output.the-variants.{Whole, Cut}
 use Rattle.callers.specs.Uses.{lending, FirstCall, TwoCalls, Fronts}
 
 pub first-call : (c : BoardCall) {saved : SaveAnswer} {a : BoardAnswer} → saved ≡ saveAnswer upd546 Two fresh (c .image)
-    → a ≡ callAnswer upd546 (lending (saved .buffer) (c .log) (c .report) c) → FirstCall c (saved .number) a
+    → a ≡ boardAnswer chip (lending (saved .buffer) (c .log) (c .report) c) → FirstCall c (saved .number) a
 first-call c e h =
-    (ap (λ (s : SaveAnswer). s .number) e, h ∙ ap (λ (s : SaveAnswer). callAnswer upd546 (lending (s .buffer) (c .log) (c .report) c)) e)
+    (ap (λ (s : SaveAnswer). s .number) e, h ∙ ap (λ (s : SaveAnswer). boardAnswer chip (lending (s .buffer) (c .log) (c .report) c)) e)
 
-pub two-calls : (c : BoardCall) {one a : BoardAnswer} → one ≡ callAnswer upd546 c
-    → a ≡ callAnswer upd546 (lending (one .image) (one .log) (one .report) c) → TwoCalls c (one .number) a
+pub two-calls : (c : BoardCall) {one a : BoardAnswer} → one ≡ boardAnswer chip c
+    → a ≡ boardAnswer chip (lending (one .image) (one .log) (one .report) c) → TwoCalls c (one .number) a
 two-calls c e h =
-    (ap (λ (o : BoardAnswer). o .number) e, h ∙ ap (λ (o : BoardAnswer). callAnswer upd546 (lending (o .image) (o .log) (o .report) c)) e)
+    (ap (λ (o : BoardAnswer). o .number) e, h ∙ ap (λ (o : BoardAnswer). boardAnswer chip (lending (o .image) (o .log) (o .report) c)) e)
 
 pub fronts : {text before after : List ℕ} {r : ℕ} → r ≡ length text → after ≡ text ++ drop r before → Fronts text before after r
 fronts {text} {before} {after} {r} e h = record {

@@ -5,6 +5,7 @@ use runs::MachineCycles;
 use runs::Version;
 use streams::Output;
 use trace_text::TEXT_LENGTH as PANEL_TEXT;
+use upd546::Sheet;
 use upd546::State;
 use waiting::Reading;
 use waits_text::TEXT_LENGTH as WAITS_TEXT;
@@ -14,7 +15,7 @@ ghost use Prim.Native.Nat.{_+_};
 ghost use lib.ListN.{length};
 ghost use Rattle.runs.specs.TwoRunners.{numberOfEnd, plain, saveAnswer, restoreAnswer};
 ghost use Rattle.runs.specs.Versions.{convertAnswer};
-ghost use Rattle.upd546.specs.TwoRunners.{upd546};
+ghost use Rattle.upd546.specs.TwoRunners.{chip};
 ghost use Rattle.upd546.specs.Reports.{decimal, traceText};
 ghost use Rattle.waiting.specs.WaitingTimes.{startOfDay, waitingTimes};
 ghost use Rattle.waits_text.specs.Parts.{partRead};
@@ -37,11 +38,25 @@ pub fn first_call(
     n: u64,
     runner: u64,
     report: &mut [u8],
+    rom_bytes: u64,
+    rows: u64,
+    levels: u64,
 ) -> Numbers
-    ensures { λ r. ⌜ FirstCall (record { image = now (image .entry); rom = now (rom .entry); sched = now (schedule .entry); log = now (log .entry); n = n; runner = runner; report = now (report .entry) }) (r .first) (record { number = r .second; image = now (image .exit); log = now (log .exit); report = now (report .exit) }) ⌝ }
+    ensures { λ r. ⌜ FirstCall (record { image = now (image .entry); rom = now (rom .entry); sched = now (schedule .entry); log = now (log .entry); n = n; runner = runner; report = now (report .entry); sheet = record { rom = «rom_bytes»; rows = rows; levels = levels } }) (r .first) (record { number = r .second; image = now (image .exit); log = now (log .exit); report = now (report .exit) }) ⌝ }
 {
     let first = board::wharfnettle_fresh(image);
-    let second = board::wharfnettle_call(image, rom, schedule, log, n, runner, report);
+    let second = board::wharfnettle_call(
+        image,
+        rom,
+        schedule,
+        log,
+        n,
+        runner,
+        report,
+        rom_bytes,
+        rows,
+        levels,
+    );
     Numbers { first, second }
 }
 
@@ -54,19 +69,51 @@ pub fn two_calls(
     n: u64,
     runner: u64,
     report: &mut [u8],
+    rom_bytes: u64,
+    rows: u64,
+    levels: u64,
 ) -> Numbers
-    ensures { λ r. ⌜ TwoCalls (record { image = now (image .entry); rom = now (rom .entry); sched = now (schedule .entry); log = now (log .entry); n = n; runner = runner; report = now (report .entry) }) (r .first) (record { number = r .second; image = now (image .exit); log = now (log .exit); report = now (report .exit) }) ⌝ }
+    ensures { λ r. ⌜ TwoCalls (record { image = now (image .entry); rom = now (rom .entry); sched = now (schedule .entry); log = now (log .entry); n = n; runner = runner; report = now (report .entry); sheet = record { rom = «rom_bytes»; rows = rows; levels = levels } }) (r .first) (record { number = r .second; image = now (image .exit); log = now (log .exit); report = now (report .exit) }) ⌝ }
 {
-    let first = board::wharfnettle_call(image, rom, schedule, log, n, runner, report);
-    let second = board::wharfnettle_call(image, rom, schedule, log, n, runner, report);
+    let first = board::wharfnettle_call(
+        image,
+        rom,
+        schedule,
+        log,
+        n,
+        runner,
+        report,
+        rom_bytes,
+        rows,
+        levels,
+    );
+    let second = board::wharfnettle_call(
+        image,
+        rom,
+        schedule,
+        log,
+        n,
+        runner,
+        report,
+        rom_bytes,
+        rows,
+        levels,
+    );
     Numbers { first, second }
 }
 
 // The number of a run.
-pub fn run_number(rom: &[u8], schedule: &[u8], s: State, log: &mut [u8], n: MachineCycles) -> u8
-    ensures { λ r. ⌜ r ≡ numberOfEnd (plain upd546 (now (rom .entry)) (now (schedule .entry)) s (now (log .entry)) (n .0) .end) ⌝ }
+pub fn run_number(
+    rom: &[u8],
+    schedule: &[u8],
+    s: State,
+    log: &mut [u8],
+    n: MachineCycles,
+    sheet: Sheet,
+) -> u8
+    ensures { λ r. ⌜ r ≡ numberOfEnd (plain (chip sheet) (now (rom .entry)) (now (schedule .entry)) s (now (log .entry)) (n .0) .end) ⌝ }
 {
-    let answer = runner::run_plain(rom, schedule, s, log, n);
+    let answer = runner::run_plain(rom, schedule, s, log, n, sheet);
     let end = answer.end;
     runs::end_number(end)
 }
@@ -78,12 +125,18 @@ pub struct SwitchedOff {
     pub state: State,
 }
 
-// A state saved into a buffer as the version wanted, and the whole buffer restored.
-pub fn switch_off(s: State, version: Version, buffer: &mut [u8]) -> SwitchedOff
-    ensures { λ r. ⌜ (record { number = r .saved; buffer = now (buffer .exit) } ≡ saveAnswer upd546 version s (now (buffer .entry))) × (record { number = r .restored; state = r .state } ≡ restoreAnswer upd546 (now (buffer .exit))) ⌝ }
+// A state saved into a buffer as the version wanted, and the whole buffer restored, each under a sheet of its own.
+pub fn switch_off(
+    s: State,
+    version: Version,
+    buffer: &mut [u8],
+    evening: Sheet,
+    morning: Sheet,
+) -> SwitchedOff
+    ensures { λ r. ⌜ (record { number = r .saved; buffer = now (buffer .exit) } ≡ saveAnswer (chip evening) version s (now (buffer .entry))) × (record { number = r .restored; state = r .state } ≡ restoreAnswer (chip morning) (now (buffer .exit))) ⌝ }
 {
-    let saved = runs::outcome_number(save::save(s, version, buffer));
-    let back = restore::restore(buffer);
+    let saved = runs::outcome_number(save::save(s, version, buffer, evening));
+    let back = restore::restore(buffer, morning);
     let outcome = back.outcome;
     let state = back.state;
     let restored = runs::outcome_number(outcome);
@@ -101,11 +154,14 @@ pub fn two_conversions(
     to: &mut [u8],
     one: u64,
     other: u64,
+    rom_bytes: u64,
+    rows: u64,
+    levels: u64,
 ) -> Numbers
-    ensures { λ r. ⌜ (record { number = r .first; buffer = now (between .exit) } ≡ convertAnswer upd546 (now (from .entry)) (now (between .entry)) one) × (record { number = r .second; buffer = now (to .exit) } ≡ convertAnswer upd546 (now (between .exit)) (now (to .entry)) other) ⌝ }
+    ensures { λ r. ⌜ (record { number = r .first; buffer = now (between .exit) } ≡ convertAnswer (chip (record { rom = «rom_bytes»; rows = rows; levels = levels })) (now (from .entry)) (now (between .entry)) one) × (record { number = r .second; buffer = now (to .exit) } ≡ convertAnswer (chip (record { rom = «rom_bytes»; rows = rows; levels = levels })) (now (between .exit)) (now (to .entry)) other) ⌝ }
 {
-    let first = conversion::wharfnettle_convert(from, between, one);
-    let second = conversion::wharfnettle_convert(between, to, other);
+    let first = conversion::wharfnettle_convert(from, between, one, rom_bytes, rows, levels);
+    let second = conversion::wharfnettle_convert(between, to, other, rom_bytes, rows, levels);
     Numbers { first, second }
 }
 

@@ -12,12 +12,13 @@ use streams::Output;
 use upd546::CYCLE_BYTES;
 use upd546::LOG_RECORD;
 use upd546::ROM_LENGTH;
+use upd546::Sheet;
 use upd546::layout::COUNT_AT;
 use upd546::layout::IMAGE_LENGTH;
 use upd546::layout::IMAGE_LENGTH_ONE;
 ghost use mathlib.Core.Path.{_≡_};
 ghost use Rattle.runs.specs.Lists.{runAnswer};
-ghost use Rattle.upd546.specs.TwoRunners.{upd546};
+ghost use Rattle.upd546.specs.TwoRunners.{chip};
 ghost use Rattle.driver.specs.Lending.{runnerKind, broughtTo};
 
 // 10 cycles in two runs: each run of n cycles has 16n bytes of it.
@@ -57,10 +58,11 @@ fn evening(rom: &[u8], log: &mut [u8], old: &mut [u8]) -> Told {
         &schedule,
         log,
         MachineCycles(3),
+        upd546::upd546_sheet(),
     );
     let shown = show(Output::Whole(0), answer, log, 0);
     let machine = answer.machine;
-    let outcome = save::save(machine.state, Version::One, old);
+    let outcome = save::save(machine.state, Version::One, old, upd546::upd546_sheet());
     let out = tell(shown, b"saved as version 1", outcome);
     Told {
         out,
@@ -77,18 +79,19 @@ fn lend(
     schedule: &[u8],
     log: &mut [u8],
     n: MachineCycles,
+    sheet: Sheet,
 ) -> DriveAnswer
-    ensures { λ r. ⌜ broughtTo (r .report) (r .machine) (now (log .exit)) ≡ runAnswer upd546 (runnerKind kind) (now (rom .entry)) (now (schedule .entry)) (start .state) (now (log .entry)) (n .0) ⌝ }
+    ensures { λ r. ⌜ broughtTo (r .report) (r .machine) (now (log .exit)) ≡ runAnswer (chip sheet) (runnerKind kind) (now (rom .entry)) (now (schedule .entry)) (start .state) (now (log .entry)) (n .0) ⌝ }
 {
     let mut machine = start;
-    let report = driver::drive(&mut machine, kind, rom, schedule, log, n);
+    let report = driver::drive(&mut machine, kind, rom, schedule, log, n, sheet);
     DriveAnswer { machine, report }
 }
 
 // An image of either version is restored; of version 1 the count is 0. The panel goes on by the timer-skipping runner, stops at the code
 // that is none, with number 23, and is saved as version 2.
 fn morning(told: Told, rom: &[u8], log: &mut [u8], old: &[u8], image: &mut [u8]) -> Output {
-    let kept = restore::restore(old);
+    let kept = restore::restore(old, upd546::upd546_sheet());
     let outcome = kept.outcome;
     let before = told.out;
     let out = tell(before, b"restored", outcome);
@@ -102,19 +105,20 @@ fn morning(told: Told, rom: &[u8], log: &mut [u8], old: &[u8], image: &mut [u8])
         log,
         told.at,
         MachineCycles(7),
+        upd546::upd546_sheet(),
     );
     let shown = show(out, answer, log, told.at);
     let machine = answer.machine;
     tell(
         shown,
         b"saved as version 2",
-        save::save(machine.state, Version::Two, image),
+        save::save(machine.state, Version::Two, image, upd546::upd546_sheet()),
     )
 }
 
 // No count is above 4, so the image is refused with 34. The answer's state is the fresh one.
 fn damaged(before: Output, image: &[u8]) -> Output {
-    let kept = restore::restore(image);
+    let kept = restore::restore(image, upd546::upd546_sheet());
     let outcome = kept.outcome;
     tell(before, b"damaged", outcome)
 }

@@ -20,9 +20,11 @@ use Rattle.runs.proofs.Refusals.{last-one}
 use Rattle.upd546.specs.declared.State.{State}
 use Rattle.upd546.specs.Bytes.{bitAt, numberOf, bytesOf}
 use Rattle.upd546.specs.TheMachine.{romLength}
+use Rattle.upd546.specs.TheSheet.{legal, sheetNumber, upd546Sheet}
+use Rattle.upd546.specs.Sequences.{allOf}
 use Rattle.upd546.specs.TheLineSchedule.{recordLength, maxRecords, recordCount, recordByte, recordCycle, bytesNumber, orderNumber, recordNumber, recordsNumber, scheduleNumber}
 use Rattle.upd546.specs.StateImage.{stateSound, stateNumber}
-use Rattle.upd546.specs.TwoRunners.{panelNumber, upd546}
+use Rattle.upd546.specs.TwoRunners.{panelNumber, chip, upd546}
 use Rattle.laws.proofs.Images.{cycle-back}
 use Rattle.schedule.proofs.Records.{by-order, by-records, none-refused, one-more}
 use Rattle.generator.specs.Loads.{drawn, drawnBytes, romOf, cycleFrom, recordFrom, standsAt, lastDrawn, recordOf, scheduleOf}
@@ -112,11 +114,20 @@ unless-other : (b : Bool) (j k : ℕ) → 0 < k → (j ≡ k → ⊥) → unless
 unless-other true j k p h e = omega arith
 unless-other false j k p h e = h e
 
+-- the old figures are a legal sheet
+accepted-sheet : sheetNumber upd546Sheet ≡ 0
+unfolding sheetNumber legal allOf
+accepted-sheet = refl
+
 -- a run's number is that of ROM and schedule, 34 or 2
-by-the-panel : (rom sched : List ℕ) (s : State) (n k : ℕ) → 0 < k → (34 ≡ k → ⊥) → (2 ≡ k → ⊥) → (panelNumber rom sched ≡ k → ⊥) → runNumber upd546 rom sched s n ≡ k → ⊥
+by-the-panel : (rom sched : List ℕ) (s : State) (n k : ℕ) → 0 < k → (34 ≡ k → ⊥) → (2 ≡ k → ⊥)
+    → (panelNumber upd546Sheet rom sched ≡ k → ⊥) → runNumber upd546 rom sched s n ≡ k → ⊥
 unfolding runNumber stateNumber
 by-the-panel rom sched s n k p a b h =
-    first-other k _ p (h, (unless-other (stateSound s) 34 k p a, (unless-other (leb (s .cycle .0 + n) cycleLimit) 2 k p b, tt)))
+    let legal-one : sheetNumber upd546Sheet ≡ k → ⊥ = λ e. omega (arith, accepted-sheet, e) in
+    let sound : unless (stateSound upd546Sheet s) 34 ≡ k → ⊥ = unless-other (stateSound upd546Sheet s) 34 k p a in
+    let within : unless (leb (s .cycle .0 + n) cycleLimit) 2 ≡ k → ⊥ = unless-other (leb (s .cycle .0 + n) cycleLimit) 2 k p b in
+    first-other k _ p (legal-one, (h, (sound, (within, tt))))
 
 never : (sched : List ℕ) → scheduleNumber sched ≡ 0 → (k : ℕ) → 11 ≤ k → k ≤ 14 → (rom : List ℕ) (s : State) (n : ℕ) → runNumber upd546 rom sched s n ≡ k → ⊥
 unfolding panelNumber
@@ -126,11 +137,12 @@ never sched e k least most rom s n =
 
 -- with a ROM, a state and a limit that don't refuse it
 taken : (sched : List ℕ) → scheduleNumber sched ≡ 0 → (kind : Kind) (rom : List ℕ) (s : State) (log : List ℕ) (n : ℕ)
-    → length rom ≡ romLength → stateNumber s ≡ 0 → s .cycle .0 + n ≤ cycleLimit → refusal upd546 (run kind rom sched s log n) ≡ 0
+    → length rom ≡ romLength → stateNumber upd546Sheet s ≡ 0 → s .cycle .0 + n ≤ cycleLimit
+    → refusal chip (run kind rom sched s log n upd546Sheet) ≡ 0
 unfolding runNumber panelNumber firstOf
 taken sched e kind rom s log n size v limit =
-    by-number upd546 (run kind rom sched s log n)
-    ∙ rw (eq-eqb (length rom) romLength size, e, v, le-leb (s .cycle .0 + n) cycleLimit limit)
+    by-number chip (run kind rom sched s log n upd546Sheet)
+    ∙ rw (accepted-sheet, eq-eqb (length rom) romLength size, e, v, le-leb (s .cycle .0 + n) cycleLimit limit)
 
 pub every-schedule : EverySchedule
 every-schedule seed m few =
@@ -170,7 +182,7 @@ schedule-other sched =
     )
 
 -- a ROM has its length
-whole : (seed : ℕ) (sched : List ℕ) → panelNumber (romOf seed) sched ≡ scheduleNumber sched
+whole : (seed : ℕ) (sched : List ℕ) → panelNumber upd546Sheet (romOf seed) sched ≡ scheduleNumber sched
 unfolding panelNumber firstOf
 whole seed sched = rw (eq-eqb (length (romOf seed)) romLength (length-drawn seed romLength)) (last-one (scheduleNumber sched))
 
@@ -216,6 +228,7 @@ schedule-bytes seed (suc m) = bytes-append (scheduleOf seed m) (recordOf seed m)
 pub every-load : EveryLoad
 every-load seed seed′ m few =
     record {
+      legal = accepted-sheet;
       rom-bytes = rom-bytes seed romLength;
       sched-bytes = schedule-bytes seed′ m;
       not-refused = whole seed (scheduleOf seed′ m) ∙ schedule-accepted seed′ m few;

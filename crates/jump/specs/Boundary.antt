@@ -10,13 +10,15 @@ use Rattle.upd546.specs.declared.Interrupt.{Interrupt}
 use Rattle.upd546.specs.declared.Timer.{Timer}
 use Rattle.upd546.specs.declared.State.{State}
 use Rattle.upd546.specs.declared.Sheet.{Sheet}
+use Rattle.upd546.specs.TheMachine.{romLength}
 use Rattle.upd546.specs.TheLineSchedule.{linesAt, noRecord}
 use Rattle.upd546.specs.Timer.{ticksLeft}
 use Rattle.upd546.specs.TwoRunners.{waitLength}
 use Rattle.tables.specs.Tables.{positionTable, registerTable}
 
 -- what a jump's length asks
-pub record Boundary (positions : List ℕ) (timer : Timer) : Type 0 where
+pub record Boundary (rom positions : List ℕ) (timer : Timer) : Type 0 where
+  pub rom-length : length rom ≤ romLength
   pub table : positions ≡ positionTable
   pub register : timer .register < 64
 

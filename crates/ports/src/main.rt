@@ -83,7 +83,19 @@ fn slice(
     let asked = least(left, SLICE_CYCLES);
     let mut log = [0u8; LOG_LENGTH];
     let mut report = [0u8; REPORT_LENGTH];
-    let number = board::wharfnettle_call(image, rom, sched, &mut log, asked, 1, &mut report);
+    let sheet = upd546::upd546_sheet();
+    let number = board::wharfnettle_call(
+        image,
+        rom,
+        sched,
+        &mut log,
+        asked,
+        1,
+        &mut report,
+        sheet.rom,
+        sheet.rows,
+        sheet.levels,
+    );
     let written = big_endian::number_at(&report, WRITTEN_AT, COUNT_BYTES) as usize;
     let out = streams::write_first(before, &log, written);
     if (number != 0) | is_cut(out) {

@@ -5,6 +5,7 @@ use test_stream::LIST;
 use test_stream::Session;
 use test_stream::bytes;
 use test_stream::copy;
+use test_stream::eight;
 use test_stream::least;
 use test_stream::read;
 use test_stream::store;
@@ -19,6 +20,11 @@ pub(crate) fn schedule(c: Command, s: Session, space: &mut [u8]) -> Session {
     let mut t = s;
     t.schedule = c.length as usize;
     read(t, bytes(space, c.n))
+}
+
+// The sheet's bytes: ROM bytes, rows and levels.
+pub(crate) fn sheet(c: Command, s: Session, space: &mut [u8]) -> Session {
+    read(s, bytes(space, c.n))
 }
 
 pub(crate) fn image(c: Command, s: Session, space: &mut [u8]) -> Session {
@@ -48,21 +54,34 @@ fn made_fresh(c: Command, s: Session, image: &mut [u8]) -> Session {
 }
 
 // The image in the version n, in a buffer in which the pattern stands.
-pub(crate) fn convert(c: Command, s: Session, image: &mut [u8], space: &mut [u8]) -> Session {
+pub(crate) fn convert(
+    c: Command,
+    s: Session,
+    image: &mut [u8],
+    space: &mut [u8],
+    sheet: &[u8],
+) -> Session {
     let size = least(c.length as usize, space.len());
-    converted(c, s, image, &mut space[..size])
+    converted(c, s, image, &mut space[..size], sheet)
 }
 
-fn converted(c: Command, s: Session, image: &mut [u8], buffer: &mut [u8]) -> Session {
+fn converted(c: Command, s: Session, image: &mut [u8], buffer: &mut [u8], sheet: &[u8]) -> Session {
     let in_image = least(s.image, image.len());
-    let number = made_version(&image[..in_image], buffer, c.n);
+    let number = made_version(&image[..in_image], buffer, c.n, sheet);
     let t = test_stream::buffer_answered(c, s, number, buffer);
     taken(t, image, buffer, (c.value == LIST) & (number == 0))
 }
 
-fn made_version(image: &[u8], buffer: &mut [u8], version: u64) -> u8 {
+fn made_version(image: &[u8], buffer: &mut [u8], version: u64, sheet: &[u8]) -> u8 {
     test_stream::fill(buffer);
-    conversion::wharfnettle_convert(image, buffer, version)
+    conversion::wharfnettle_convert(
+        image,
+        buffer,
+        version,
+        eight(sheet, 0),
+        eight(sheet, 8),
+        eight(sheet, 16),
+    )
 }
 
 // A list goes on from the buffer.
@@ -98,6 +117,7 @@ pub(crate) fn call(
     image: &mut [u8],
     log: &mut [u8],
     report: &mut [u8],
+    sheet: &[u8],
 ) -> Session {
     let in_rom = least(s.rom, rom.len());
     let in_schedule = least(s.schedule, schedule.len());
@@ -112,6 +132,7 @@ pub(crate) fn call(
         &mut image[..in_image],
         &mut log[..in_log],
         &mut report[..in_report],
+        sheet,
     )
 }
 
@@ -124,11 +145,12 @@ fn prepared(
     image: &mut [u8],
     log: &mut [u8],
     report: &mut [u8],
+    sheet: &[u8],
 ) -> Session {
     let before = test_stream::digest(0, image);
     test_stream::fill(log);
     test_stream::fill(report);
-    made(c, s, before, rom, schedule, image, log, report)
+    made(c, s, before, rom, schedule, image, log, report, sheet)
 }
 
 fn made(
@@ -140,7 +162,19 @@ fn made(
     image: &mut [u8],
     log: &mut [u8],
     report: &mut [u8],
+    sheet: &[u8],
 ) -> Session {
-    let number = board::wharfnettle_call(image, rom, schedule, log, c.n, c.runner, report);
+    let number = board::wharfnettle_call(
+        image,
+        rom,
+        schedule,
+        log,
+        c.n,
+        c.runner,
+        report,
+        eight(sheet, 0),
+        eight(sheet, 8),
+        eight(sheet, 16),
+    );
     answers::answered(c, s, number, before, image, log, report)
 }

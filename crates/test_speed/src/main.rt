@@ -5,22 +5,30 @@ use libc::STDOUT_FILENO;
 use runs::MachineCycles;
 use test_stream::column;
 use test_stream::last_column;
-use upd546::ROM_LENGTH;
 use upd546::RunAnswer;
+use upd546::Sheet;
 use upd546::State;
-ghost use Prim.Native.Nat.{_<_};
+ghost use Prim.Native.Nat.{_<_, _≤_};
+ghost use lib.ListN.{length};
 
-// Before the ROM stand the runner (1 byte: 0 plain, any other timer-skipping), how many slices there are and how many cycles each has (4
-// bytes each, big-endian); behind it the schedule.
+// Before the ROM stand the runner (1 byte: 0 plain, any other timer-skipping), how many slices there are, how many cycles each has (4
+// bytes each), and the sheet: ROM bytes (2), rows (1) and levels (1). Behind the ROM, which has as many bytes as the sheet says, stands the
+// schedule. Numbers are big-endian.
 const SLICES_AT: usize = 1;
 
 const CYCLES_AT: usize = 5;
 
 const NUMBER_LENGTH: usize = 4;
 
-const ROM_AT: usize = 9;
+const ROM_BYTES_AT: usize = 9;
 
-const SCHEDULE_AT: usize = ROM_AT + ROM_LENGTH;
+const ROM_BYTES_LENGTH: usize = 2;
+
+const ROWS_AT: usize = 11;
+
+const LEVELS_AT: usize = 12;
+
+const ROM_AT: usize = 13;
 
 // 16n bytes for a slice of 100,000 cycles, which has room for all its records.
 const LOG_LENGTH: usize = 16 * 100000;
@@ -42,24 +50,53 @@ fn main() {
     measure(&input[..got]);
 }
 
+// Where the schedule begins, or a place past the input's end where the input is cut short before it.
+fn schedule_at(input: &[u8]) -> usize
+    ensures { λ r. ⌜ 13 ≤ r ⌝ }
+{
+    if input.len() < ROM_AT {
+        return ROM_AT;
+    }
+    ROM_AT + big_endian::number_at(input, ROM_BYTES_AT, ROM_BYTES_LENGTH) as usize
+}
+
+fn sheet_of(input: &[u8]) -> Sheet
+    requires { ⌜ 13 ≤ length (now input) ⌝ }
+{
+    Sheet {
+        rom: big_endian::number_at(input, ROM_BYTES_AT, ROM_BYTES_LENGTH),
+        rows: wide(input[ROWS_AT]),
+        levels: wide(input[LEVELS_AT]),
+    }
+}
+
 fn measure(input: &[u8]) {
-    if input.len() < SCHEDULE_AT {
+    let end = schedule_at(input);
+    if input.len() < end {
         io::write_all(STDOUT_FILENO, b"the input is cut short\n");
         return;
     }
     let slices = big_endian::number_at(input, SLICES_AT, NUMBER_LENGTH);
     let n = MachineCycles(big_endian::number_at(input, CYCLES_AT, NUMBER_LENGTH));
     print(run_slices(
-        &input[ROM_AT..SCHEDULE_AT],
-        &input[SCHEDULE_AT..],
+        &input[ROM_AT..end],
+        &input[end..],
         input[0],
         slices,
         n,
+        sheet_of(input),
     ));
 }
 
 // The slices, one after the other, each with the same log.
-fn run_slices(rom: &[u8], schedule: &[u8], runner: u8, slices: u64, n: MachineCycles) -> Sums
+fn run_slices(
+    rom: &[u8],
+    schedule: &[u8],
+    runner: u8,
+    slices: u64,
+    n: MachineCycles,
+    sheet: Sheet,
+) -> Sums
     requires { ⌜ slices < 4294967296 ⌝ }
 {
     let mut log = [0u8; LOG_LENGTH];
@@ -74,7 +111,7 @@ fn run_slices(rom: &[u8], schedule: &[u8], runner: u8, slices: u64, n: MachineCy
     };
     let mut k: u64 = 0;
     while k < slices {
-        let answer = run_slice(rom, schedule, state, &mut log, runner, n);
+        let answer = run_slice(rom, schedule, state, &mut log, runner, n, sheet);
         sums = counted(sums, answer, &log);
         let next = answer.state;
         state = next;
@@ -90,11 +127,12 @@ fn run_slice(
     log: &mut [u8; LOG_LENGTH],
     runner: u8,
     n: MachineCycles,
+    sheet: Sheet,
 ) -> RunAnswer {
     if runner != 0 {
-        return runner::run_skipping(rom, schedule, state, log, n);
+        return runner::run_skipping(rom, schedule, state, log, n, sheet);
     }
-    runner::run_plain(rom, schedule, state, log, n)
+    runner::run_plain(rom, schedule, state, log, n, sheet)
 }
 
 fn counted(sums: Sums, answer: RunAnswer, log: &[u8; LOG_LENGTH]) -> Sums {

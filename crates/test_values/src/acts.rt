@@ -1,8 +1,9 @@
-// The calls that are made with the state: runs on a part of the log, saves to a buffer, restores of its bytes. The state that a run or a
-// restore answers is the next one's.
+// The calls that are made with the state under the sheet: runs on a part of the log, saves to a buffer, restores of its bytes. The state
+// that a run or a restore answers is the next one's.
 use crate::answers;
 use crate::values;
 use crate::values::LENGTH;
+use crate::values::SHEET;
 use driver::KeptMachine;
 use driver::Runner;
 use runs::MachineCycles;
@@ -13,6 +14,7 @@ use test_stream::Session;
 use test_stream::digest;
 use test_stream::least;
 use upd546::RestoreAnswer;
+use upd546::Sheet;
 use upd546::State;
 
 // A command by which a call is made, or by which it is told what calls came to.
@@ -21,16 +23,18 @@ pub(crate) fn one(
     s: Session,
     rom: &[u8; 4096],
     schedule: &[u8; 65536],
+    sheet: &[u8; SHEET],
     value: &mut [u8; LENGTH],
     image: &mut [u8; 512],
     log: &mut [u8; 65536],
 ) -> Session {
     let letter = c.letter;
     let size = c.length as usize;
+    let under = values::sheet_of(sheet);
     match letter {
-        b'A' => run(c, s, rom, schedule, value, log),
-        b'W' => save(c, s, value, image),
-        b'O' => restore(c, s, value, image),
+        b'A' => run(c, s, rom, schedule, value, log, under),
+        b'W' => save(c, s, value, image, under),
+        b'O' => restore(c, s, value, image, under),
         b'L' => begin(s, size, log),
         b'G' => test_stream::tell_group(s),
         b'U' => test_stream::remember(s, answers::with_ends(s, size, value, log)),
@@ -55,6 +59,7 @@ fn run(
     schedule: &[u8],
     value: &mut [u8],
     log: &mut [u8],
+    sheet: Sheet,
 ) -> Session {
     let in_rom = least(s.rom, rom.len());
     let in_schedule = least(s.schedule, schedule.len());
@@ -66,6 +71,7 @@ fn run(
         &schedule[..in_schedule],
         value,
         &mut log[..in_log],
+        sheet,
     )
 }
 
@@ -77,14 +83,25 @@ fn prepared(
     schedule: &[u8],
     value: &mut [u8],
     log: &mut [u8],
+    sheet: Sheet,
 ) -> Session {
     let before = digest(0, value);
     if c.value == LIST {
         let at = s.list.written as usize;
-        return driven(c, s, before, at, rom, schedule, value, log);
+        return driven(c, s, before, at, rom, schedule, value, log, sheet);
     }
     test_stream::fill(log);
-    driven(c, s, before, c.place as usize, rom, schedule, value, log)
+    driven(
+        c,
+        s,
+        before,
+        c.place as usize,
+        rom,
+        schedule,
+        value,
+        log,
+        sheet,
+    )
 }
 
 fn driven(
@@ -96,6 +113,7 @@ fn driven(
     schedule: &[u8],
     value: &mut [u8],
     log: &mut [u8],
+    sheet: Sheet,
 ) -> Session {
     let state = values::state_of(value);
     let answer = driver::advance_from(
@@ -106,6 +124,7 @@ fn driven(
         log,
         at,
         MachineCycles(c.n),
+        sheet,
     );
     let after = answer.machine.state;
     let report = answer.report;
@@ -130,22 +149,22 @@ fn version(place: u16) -> Version {
 }
 
 // A save to the first bytes of the buffer, in which the pattern stands.
-fn save(c: Command, s: Session, value: &[u8], image: &mut [u8]) -> Session {
+fn save(c: Command, s: Session, value: &[u8], image: &mut [u8], sheet: Sheet) -> Session {
     let size = least(c.length as usize, image.len());
-    saved(c, s, value, &mut image[..size])
+    saved(c, s, value, &mut image[..size], sheet)
 }
 
-fn saved(c: Command, s: Session, value: &[u8], buffer: &mut [u8]) -> Session {
+fn saved(c: Command, s: Session, value: &[u8], buffer: &mut [u8], sheet: Sheet) -> Session {
     test_stream::fill(buffer);
     let state = values::state_of(value);
-    let outcome = save::save(state, version(c.place), buffer);
+    let outcome = save::save(state, version(c.place), buffer, sheet);
     test_stream::buffer_answered(c, s, runs::outcome_number(outcome), buffer)
 }
 
 // A restore of the first bytes of the buffer.
-fn restore(c: Command, s: Session, value: &mut [u8], image: &[u8]) -> Session {
+fn restore(c: Command, s: Session, value: &mut [u8], image: &[u8], sheet: Sheet) -> Session {
     let size = least(c.length as usize, image.len());
-    restored(c, s, restore::restore(&image[..size]), value)
+    restored(c, s, restore::restore(&image[..size], sheet), value)
 }
 
 fn keep(value: &mut [u8], state: State, kept: bool) {

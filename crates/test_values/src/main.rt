@@ -1,12 +1,15 @@
 // Runs, saves and restores states that are given as values, field by field and also above their widths, as the commands of standard input
 // ask for, and tells what they answer: a line for a run, for a group of calls, or for a panel's lists. The other interpreter writes the
 // same text; of lists it writes it of one unbroken run. The commands and the text are told at the top of
-// tests/reference/src/bin/trials/stream.rs. It may not know how a run, a save or a restore goes.
+// tests/reference/src/bin/trials/stream.rs. The sheet of the runs, saves and restores that follow is the command H: behind its 24 bytes
+// stand, as many as n says, those of ROM bytes, rows and levels, 8 each, big-endian; the rest of them is 0, and before the first H all of
+// them. It may not know how a run, a save or a restore goes.
 mod acts;
 mod answers;
 mod values;
 
 use crate::values::LENGTH;
+use crate::values::SHEET;
 use test_stream::Command;
 use test_stream::Session;
 use test_stream::bytes;
@@ -20,6 +23,7 @@ const MOST: u64 = 0x4000_0000_0000;
 fn main() {
     let mut rom = io::buffer();
     let mut schedule = io::large_buffer();
+    let mut sheet = [0u8; SHEET];
     let mut value = [0u8; LENGTH];
     let mut kept = [0u8; LENGTH];
     let mut image = [0u8; 512];
@@ -33,6 +37,7 @@ fn main() {
             s,
             &mut rom,
             &mut schedule,
+            &mut sheet,
             &mut value,
             &mut kept,
             &mut image,
@@ -50,6 +55,7 @@ fn one(
     s: Session,
     rom: &mut [u8; 4096],
     schedule: &mut [u8; 65536],
+    sheet: &mut [u8; SHEET],
     value: &mut [u8; LENGTH],
     kept: &mut [u8; LENGTH],
     image: &mut [u8; 512],
@@ -59,13 +65,14 @@ fn one(
     match letter {
         b'R' => rom_read(c, s, rom),
         b'S' => schedule_read(c, s, schedule),
+        b'H' => read(s, bytes(sheet, c.n)),
         b'V' => read(s, bytes(value, c.n)),
         b'I' => read(s, bytes(image, c.n)),
         b'X' => changed(c, s, value),
         b'Y' => changed(c, s, image),
         b'K' => copied(s, kept, value),
         b'B' => copied(s, value, kept),
-        _ => acts::one(c, s, rom, schedule, value, image, log),
+        _ => acts::one(c, s, rom, schedule, sheet, value, image, log),
     }
 }
 

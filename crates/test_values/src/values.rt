@@ -1,5 +1,5 @@
 // The value of a state: the bytes of its fields, each as it stands there. PC, stack, Acc, C, C', DPH, DPL, INT, INTE, TM, level, mark,
-// owed, register, counter, ports, RAM, cycle number, count of cycles with RES high.
+// owed, register, counter, ports, RAM, cycle number, count of cycles with RES high. And the bytes of a sheet.
 use runs::MachineCycles;
 use test_stream::byte;
 use test_stream::copy;
@@ -14,6 +14,7 @@ use upd546::Interrupt;
 use upd546::LATCHES;
 use upd546::RAM_WORDS;
 use upd546::Registers;
+use upd546::Sheet;
 use upd546::State;
 use upd546::Timer;
 
@@ -26,6 +27,17 @@ const CYCLE_AT: usize = RAM_AT + RAM_WORDS;
 const COUNT_AT: usize = CYCLE_AT + 8;
 
 pub(crate) const LENGTH: usize = COUNT_AT + 1;
+
+// The bytes of a sheet: ROM bytes, rows and levels, 8 each.
+pub(crate) const SHEET: usize = 24;
+
+pub(crate) fn sheet_of(bytes: &[u8]) -> Sheet {
+    Sheet {
+        rom: eight(bytes, 0),
+        rows: eight(bytes, 8),
+        levels: eight(bytes, 16),
+    }
+}
 
 pub(crate) fn state_of(value: &[u8]) -> State {
     let core = core_of(value);

@@ -13,45 +13,51 @@ use Rattle.runs.specs.TwoRunners.{End, stopped, refused, RunAnswer, SaveAnswer,
 use Rattle.runs.specs.Lists.{plainOne}
 use Rattle.runs.proofs.Calls.{current-long}
 use Rattle.upd546.specs.declared.State.{State}
+use Rattle.upd546.specs.declared.Sheet.{Sheet}
 use Rattle.upd546.specs.TheMachine.{fresh}
+use Rattle.upd546.specs.TheSheet.{upd546Sheet}
 use Rattle.upd546.specs.StateImage.{imageLength, imageOf}
-use Rattle.upd546.specs.TwoRunners.{upd546}
+use Rattle.upd546.specs.TwoRunners.{chip, upd546}
 use Rattle.upd546.specs.Reports.{onEnd, runText}
-use Rattle.laws.proofs.Demand3.{laws}
-use Rattle.calls.specs.Call.{BoardCall, BoardAnswer, reportLength, runOf, callAnswer}
+use Rattle.laws.proofs.Demand3.{image-laws}
+use Rattle.calls.specs.Call.{BoardCall, BoardAnswer, reportLength, runOf, callAnswer, boardAnswer}
 use Rattle.calls.specs.EveryCall.{endBy, TellsItsRun}
 use Rattle.calls.proofs.Call.{done-image}
 use Rattle.calls.proofs.EveryCall.{saves-over, back}
 use Rattle.calls.proofs.Chip.{every-call-tells-its-run}
 use Rattle.trace_text.specs.declared.Ended.{Ended}
 use Rattle.trace_text.specs.Texts.{TellsRun, endedBy, answerText}
-use Rattle.trace_text.proofs.Inputs.{sound}
+use Rattle.trace_text.proofs.Inputs.{accepted-sheet, sound}
 
 -- a save of the fresh state over an image's bytes leaves its image
 pub fresh-image : (buffer after : List ℕ) {k : ℕ} → length buffer ≡ imageLength Two → record { number = k; buffer = after } ≡ saveAnswer upd546 Two fresh buffer
     → after ≡ imageOf Two fresh
-fresh-image buffer after h e = ap (λ (a : SaveAnswer). a .buffer) (e ∙ saves-over upd546 (laws .images) fresh buffer sound h)
+fresh-image buffer after h e = ap (λ (a : SaveAnswer). a .buffer) (e ∙ saves-over upd546 (image-laws upd546Sheet) accepted-sheet fresh buffer sound h)
 
 module _ (rom sched log report : List ℕ) (n : ℕ) where
-  abbrev freshCall : List ℕ → BoardCall
-  freshCall image = record { image = image; rom = rom; sched = sched; log = log; n = n; runner = 0; report = report }
+  abbrev freshCall : List ℕ → Sheet → BoardCall
+  freshCall image sheet =
+      record { image = image; rom = rom; sched = sched; log = log; n = n; runner = 0; report = report; sheet = sheet }
 
-  fresh-run : (image : List ℕ) → image ≡ imageOf Two fresh → runOf upd546 (freshCall image) ≡ plain upd546 rom sched fresh log n
+  fresh-run : (image : List ℕ) → image ≡ imageOf Two fresh → runOf upd546 (freshCall image upd546Sheet) ≡ plain upd546 rom sched fresh log n
   fresh-run image e =
-      let images = laws .images in
+      let images = image-laws upd546Sheet in
       let long : length image ≡ imageLength Two = ap length e ∙ images .image-length Two fresh sound (images .two-holds-all fresh) in
-      let restored = current-long upd546 image long ∙ back upd546 images fresh image sound e in
+      let restored = current-long upd546 image long ∙ back upd546 images accepted-sheet fresh image sound e in
       sym (done-image upd546 fresh plainOne image rom sched log n (sym restored))
 
-  -- what the call answers and leaves
-  pub call-ends : (image : List ℕ) {k : ℕ} {image′ log′ report′ : List ℕ} → image ≡ imageOf Two fresh → length log < 2 ^ 64 → reportLength ≤ length report
-      → record { number = k; image = image′; log = log′; report = report′ } ≡ callAnswer upd546 (freshCall image)
+  -- what the call answers and leaves, given a sheet that is the old figures
+  pub call-ends : (image : List ℕ) (sheet : Sheet) {k : ℕ} {image′ log′ report′ : List ℕ} → image ≡ imageOf Two fresh
+      → length log < 2 ^ 64 → reportLength ≤ length report → sheet ≡ upd546Sheet
+      → record { number = k; image = image′; log = log′; report = report′ } ≡ boardAnswer chip (freshCall image sheet)
       → TellsRun (plain upd546 rom sched fresh log n) (endedBy k report′) log′
-  call-ends image {k} {image′} {log′} {report′} e small long same =
-      let told : TellsItsRun upd546 (freshCall image) = every-call-tells-its-run (freshCall image) small long in
+  call-ends image sheet {k} {image′} {log′} {report′} e small long old same =
+      let c = freshCall image upd546Sheet in
+      let told : TellsItsRun upd546 c = every-call-tells-its-run upd546Sheet c small long in
       let z : BoardAnswer = record { number = k; image = image′; log = log′; report = report′ } in
+      let answers : z ≡ callAnswer upd546 c = same ∙ ap (λ (x : Sheet). boardAnswer chip (freshCall image x)) old in
       subst (λ (a : RunAnswer State). TellsRun a (endedBy (z .number) (z .report)) (z .log)) (fresh-run image e)
-      (subst (λ (z : BoardAnswer). TellsRun (runOf upd546 (freshCall image)) (endedBy (z .number) (z .report)) (z .log)) (sym same)
+      (subst (λ (z : BoardAnswer). TellsRun (runOf upd546 c) (endedBy (z .number) (z .report)) (z .log)) (sym answers)
       (record {
         end = told .end;
         cycles = told .cycles;

@@ -1,4 +1,4 @@
--- 42,965 bytes of an input are enough; 34 and 2 refuse no trace. Assumes nothing.
+-- 42,965 bytes of an input are enough; 71, 34 and 2 refuse no trace. Assumes nothing.
 use mathlib.Core.Path.{_≡_, _∙_, refl, sym, ap}
 use mathlib.Core.Bool.{Bool, true, false}
 use mathlib.Core.List.{List, [], _∷_}
@@ -11,12 +11,14 @@ use borrow.Author.Tests.{leb-true, leb-false, le-leb, lt-leb, eq-eqb}
 use Rattle.runs.specs.TwoRunners.{runNumber, plain}
 use Rattle.runs.specs.Refusals.{cycleLimit, firstOf}
 use Rattle.upd546.specs.TheMachine.{romLength, fresh}
+use Rattle.upd546.specs.TheSheet.{legal, sheetNumber, upd546Sheet}
 use Rattle.upd546.specs.Bytes.{numberAt}
 use Rattle.upd546.specs.Sequences.{allOf}
 use Rattle.upd546.specs.TheLineSchedule.{recordLength, maxRecords, scheduleNumber}
-use Rattle.upd546.specs.StateImage.{registersSound, flowSound, interruptSound, timerSound, coreSound, portsSound, ramSound, stateSound, stateNumber}
+use Rattle.upd546.specs.StateImage.{stateNumber}
 use Rattle.upd546.specs.TwoRunners.{upd546, panelNumber}
 use Rattle.upd546.specs.Reports.{refusedText, traceLog, traceText, runText}
+use Rattle.laws.proofs.Chip.{every-sheet-takes-the-fresh-state}
 use Rattle.trace_text.specs.Inputs.{ReadsEnough, PanelsOnly}
 use Rattle.trace_text.proofs.Texts.{long-text}
 
@@ -25,10 +27,15 @@ refused-run : (rom sched log : List ℕ) (n k : ℕ) → runNumber upd546 rom sc
 unfolding runText plain
 refused-run rom sched log n k e = rw e
 
+-- the old figures are a legal sheet
+pub accepted-sheet : sheetNumber upd546Sheet ≡ 0
+unfolding sheetNumber legal allOf
+accepted-sheet = refl
+
 -- "12 over 40,960 bytes"
 over : (rom sched : List ℕ) (n : ℕ) → length rom ≡ romLength → recordLength * maxRecords < length sched → runNumber upd546 rom sched fresh n ≡ 12
 unfolding runNumber panelNumber scheduleNumber firstOf
-over rom sched n p q = rw (eq-eqb (length rom) romLength p, lt-leb (length sched) (recordLength * maxRecords) q)
+over rom sched n p q = rw (accepted-sheet, eq-eqb (length rom) romLength p, lt-leb (length sched) (recordLength * maxRecords) q)
 
 over-text : (input : List ℕ) → 4 + romLength + recordLength * maxRecords < length input → traceText input ≡ refusedText 12
 over-text input h =
@@ -55,15 +62,14 @@ reads-enough k h input = go (leb (length input) k) refl
 pub buffer-enough : ReadsEnough 65536
 buffer-enough = reads-enough 65536 (lit< tt)
 
-pub sound : stateNumber fresh ≡ 0
-unfolding stateNumber stateSound coreSound registersSound flowSound interruptSound timerSound portsSound ramSound allOf
-sound = refl
+pub sound : stateNumber upd546Sheet fresh ≡ 0
+sound = every-sheet-takes-the-fresh-state upd546Sheet
 
 pub panels-only : PanelsOnly
 unfolding runNumber firstOf
 panels-only rom sched n h =
     let within : 0 + n ≤ cycleLimit = omega arith in
-    rw (sound, le-leb (0 + n) cycleLimit within) (alone (panelNumber rom sched))
+    rw (accepted-sheet, sound, le-leb (0 + n) cycleLimit within) (alone (panelNumber upd546Sheet rom sched))
   where
     alone : (k : ℕ) → firstOf (k ∷ 0 ∷ 0 ∷ []) ≡ k
     alone zero = refl

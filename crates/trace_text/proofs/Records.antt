@@ -8,6 +8,7 @@ use Rattle.runs.specs.TwoRunners.{RunAnswer, Ran, within, runNumber, told, step
 use Rattle.runs.specs.Laws.{Bytes}
 use Rattle.runs.specs.Lists.{plainOne}
 use Rattle.upd546.specs.declared.State.{State}
+use Rattle.upd546.specs.TheSheet.{upd546Sheet}
 use Rattle.upd546.specs.Ports.{portI}
 use Rattle.upd546.specs.TwoRunners.{upd546}
 use Rattle.laws.specs.Records.{Records}
@@ -48,7 +49,7 @@ module _ (rom sched : List ℕ) (br : Bytes rom) (bs : Bytes sched) (s : State) 
       go (suc k) = omega arith
 
   pub recorded : Recorded (plain upd546 rom sched s log n .written) (plain upd546 rom sched s log n .log)
-  recorded = record-log _ _ fits (every-run-writes-records plainOne rom sched s log n br bs)
+  recorded = record-log _ _ fits (every-run-writes-records upd546Sheet plainOne rom sched s log n br bs)
 
 -- the same of what a call tells of a run
 pub by-end : {b : RunAnswer State} {ended : Ended} {log′ : List ℕ} → TellsRun b ended log′ → Recorded (b .written) (b .log) → Recorded (ended .written) log′

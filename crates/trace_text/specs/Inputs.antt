@@ -5,6 +5,7 @@ use Prim.Native.Nat.{ℕ, _<_, _^_}
 use lib.ListN.{take}
 use Rattle.runs.specs.TwoRunners.{runNumber}
 use Rattle.upd546.specs.TheMachine.{fresh}
+use Rattle.upd546.specs.TheSheet.{upd546Sheet}
 use Rattle.upd546.specs.TwoRunners.{upd546, panelNumber}
 use Rattle.upd546.specs.Reports.{traceText}
 
@@ -12,6 +13,7 @@ use Rattle.upd546.specs.Reports.{traceText}
 abbrev pub ReadsEnough : ℕ → Type 0
 ReadsEnough k = (input : List ℕ) → traceText (take k input) ≡ traceText input
 
--- "A run checks 21, 12, 11, 13/14, 34, 2": 34 and 2 refuse no run of a fresh state for an n of 4 bytes.
+-- "A run checks 21, 12, 11, 13/14, 34, 2": 34 and 2 refuse no run of a fresh state for an n of 4 bytes; and 71 none with the old
+-- figures.
 abbrev pub PanelsOnly : Type 0
-PanelsOnly = (rom sched : List ℕ) (n : ℕ) → n < 2 ^ 32 → runNumber upd546 rom sched fresh n ≡ panelNumber rom sched
+PanelsOnly = (rom sched : List ℕ) (n : ℕ) → n < 2 ^ 32 → runNumber upd546 rom sched fresh n ≡ panelNumber upd546Sheet rom sched

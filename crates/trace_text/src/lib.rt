@@ -124,7 +124,7 @@ fn put_answer(out: &mut [u8], ended: Ended, log: &[u8]) -> usize
     text::put_refused(out, ended.number)
 }
 
-// "runs a fresh state on the plain runner": the board's call on the image of a fresh state.
+// "runs a fresh state on the plain runner": the board's call on the image of a fresh state. "`trace` and R-4 keep the old figures".
 fn call_fresh(rom: &[u8], sched: &[u8], log: &mut [u8], n: MachineCycles) -> Ended
     ensures { λ r. ⌜ TellsRun (plain upd546 (now (rom .entry)) (now (sched .entry)) fresh (now (log .entry)) (n .0)) r (now (log .exit)) ⌝ }
     ensures { λ r. ⌜ Recorded (r .written) (now (log .exit)) ⌝ }
@@ -132,7 +132,19 @@ fn call_fresh(rom: &[u8], sched: &[u8], log: &mut [u8], n: MachineCycles) -> End
     let mut image = [0u8; IMAGE_LENGTH];
     board::wharfnettle_fresh(&mut image);
     let mut report = [0u8; REPORT_LENGTH];
-    let number = board::wharfnettle_call(&mut image, rom, sched, log, n.0, 0, &mut report);
+    let sheet = upd546::upd546_sheet();
+    let number = board::wharfnettle_call(
+        &mut image,
+        rom,
+        sched,
+        log,
+        n.0,
+        0,
+        &mut report,
+        sheet.rom,
+        sheet.rows,
+        sheet.levels,
+    );
     told(number, &report)
 }
 

@@ -9,10 +9,12 @@ use lib.ListN.{length, getD, take}
 use Rattle.runs.specs.TwoRunners.{logBound, RestoreAnswer, currentAnswer}
 use Rattle.runs.specs.Lists.{Each}
 use Rattle.upd546.specs.declared.State.{State}
+use Rattle.upd546.specs.declared.Sheet.{Sheet}
 use Rattle.upd546.specs.TheMachine.{fresh}
-use Rattle.upd546.specs.TwoRunners.{upd546}
+use Rattle.upd546.specs.TheSheet.{upd546Sheet}
+use Rattle.upd546.specs.TwoRunners.{chip, upd546}
 use Rattle.laws.proofs.Lists.{below-all}
-use Rattle.calls.specs.Call.{BoardCall, longEnough, imageRun, callAnswer}
+use Rattle.calls.specs.Call.{BoardCall, longEnough, imageRun, callAnswer, boardAnswer}
 use Rattle.calls.specs.EveryCall.{refusedReport, callRefusal, callNumber, Refuses, Rewrites, TellsItsRun}
 use Rattle.calls.specs.Lists.{PanelLent, callsNotRefused, CallLent, OnOneImage, imageAfter, CallsEndAsOneRun}
 use Rattle.calls.proofs.Chip.{every-finish-or-stop-rewrites, every-call-tells-its-run, every-list-of-calls, every-list-on-one-image, every-accepted-image}
@@ -27,76 +29,87 @@ unfolding opened imageRun callAnswer
 called = tt
 
 -- a call that is lent the panel
-on-panel : (c : BoardCall) → c .rom ≡ rom → c .sched ≡ sched → logBound (c .n) ≤ length (c .log) → PanelLent rom sched c
-on-panel c same-rom same-sched room = record { same-rom = same-rom; same-sched = same-sched; room = room }
+on-panel : (c : BoardCall) → c .sheet ≡ upd546Sheet → c .rom ≡ rom → c .sched ≡ sched → logBound (c .n) ≤ length (c .log)
+    → PanelLent upd546Sheet rom sched c
+on-panel c same-sheet same-rom same-sched room = record {
+  same-sheet = same-sheet;
+  same-rom = same-rom;
+  same-sched = same-sched;
+  room = room;
+}
 
-lent-first : CallLent upd546 rom sched start (first start)
-lent-first = record { same-image = refl; lent = λ e. on-panel (first start) refl refl (lit≤ tt) }
+lent-first : CallLent chip upd546Sheet rom sched start (first start)
+lent-first = record { same-image = refl; lent = λ e. on-panel (first start) refl refl refl (lit≤ tt) }
 
-lent-second : CallLent upd546 rom sched between (second between)
-lent-second = record { same-image = refl; lent = λ e. on-panel (second between) refl refl (lit≤ tt) }
+lent-second : CallLent chip upd546Sheet rom sched between (second between)
+lent-second = record { same-image = refl; lent = λ e. on-panel (second between) refl refl refl (lit≤ tt) }
 
-meant : OnOneImage upd546 rom sched start (callsNotRefused upd546 calls)
+meant : OnOneImage chip upd546Sheet rom sched start (callsNotRefused chip calls)
 unfolding called
 meant = (lent-first, (lent-second, tt))
 
 -- THE POWER-OFF GUARANTEE, of this list
-one-run : CallsEndAsOneRun upd546 rom sched start fresh calls
-one-run = every-list-of-calls rom sched fresh calls panel sound meant
+one-run : CallsEndAsOneRun chip upd546Sheet rom sched start fresh calls
+one-run = every-list-of-calls upd546Sheet rom sched fresh calls panel sound meant
 
 -- of its first call alone, which finishes
-one-finish : CallsEndAsOneRun upd546 rom sched start fresh (first start ∷ [])
+one-finish : CallsEndAsOneRun chip upd546Sheet rom sched start fresh (first start ∷ [])
 unfolding called
-one-finish = every-list-of-calls rom sched fresh (first start ∷ []) panel sound (lent-first, tt)
+one-finish = every-list-of-calls upd546Sheet rom sched fresh (first start ∷ []) panel sound (lent-first, tt)
 
 -- of the calls whose reports have 32 bytes
-with-reports : CallsEndAsOneRun upd546 rom sched start fresh reportedCalls
+with-reports : CallsEndAsOneRun chip upd546Sheet rom sched start fresh reportedCalls
 unfolding called
-with-reports = every-list-of-calls rom sched fresh reportedCalls panel sound (lent-first, (lent-second, tt))
+with-reports = every-list-of-calls upd546Sheet rom sched fresh reportedCalls panel sound (lent-first, (lent-second, tt))
 
 -- a number that refuses
 a-number : {k : ℕ} → suc k ≡ 0 → ⊥
 a-number e = omega arith
 
 -- and of the calls on one image
-lent : OnOneImage upd546 rom sched start onOne
+lent : OnOneImage chip upd546Sheet rom sched start onOne
 unfolding called
 lent =
-    let refused-one : CallLent upd546 rom sched between (shortReport between) = record { same-image = refl; lent = λ e. absurd (a-number e) } in
-    let refused-two : CallLent upd546 rom sched between (badRom between) = record { same-image = refl; lent = λ e. absurd (a-number e) } in
+    let refused-one : CallLent chip upd546Sheet rom sched between (shortReport between)
+    = record { same-image = refl; lent = λ e. absurd (a-number e) } in
+    let refused-two : CallLent chip upd546Sheet rom sched between (badRom between)
+    = record { same-image = refl; lent = λ e. absurd (a-number e) } in
     (lent-first, (refused-one, (refused-two, (lent-second, tt))))
 
-kept : OnOneImage upd546 rom sched start (callsNotRefused upd546 onOne) × (imageAfter upd546 start onOne ≡ imageAfter upd546 start (callsNotRefused upd546 onOne))
-kept = every-list-on-one-image rom sched start onOne lent
+kept : OnOneImage chip upd546Sheet rom sched start (callsNotRefused chip onOne)
+    × (imageAfter chip start onOne ≡ imageAfter chip start (callsNotRefused chip onOne))
+kept = every-list-on-one-image upd546Sheet rom sched start onOne lent
 
-on-one-image : CallsEndAsOneRun upd546 rom sched start (currentAnswer upd546 start .state) onOne
+on-one-image : CallsEndAsOneRun chip upd546Sheet rom sched start (currentAnswer upd546 start .state) onOne
 unfolding called
-on-one-image = every-accepted-image rom sched start onOne (below-all 256 start (lit< tt) refl) panel refl (kept .0)
+on-one-image = every-accepted-image upd546Sheet rom sched start onOne (below-all 256 start (lit< tt) refl) panel refl (kept .0)
 
 -- a call that was refused, as a whole
-whole : (k : ℕ) (c : BoardCall) → Refuses upd546 k c → callAnswer upd546 c ≡ left k c (refusedReport (longEnough c) (c .report))
-whole k c r = λ i. record { number = r .number i; image = r .image i; log = r .log i; report = r .report i }
+pub whole : (sheet : Sheet) (k : ℕ) (c : BoardCall) → Refuses (chip sheet) k c
+    → callAnswer (chip sheet) c ≡ left k c (refusedReport (longEnough c) (c .report))
+whole sheet k c r = λ i. record { number = r .number i; image = r .image i; log = r .log i; report = r .report i }
 
 -- the numbers of a list are the documents'
-by-numbers : (l : List BoardCall) → Each (λ c. callRefusal upd546 c ≡ callNumber upd546 c) l → map (callRefusal upd546) l ≡ map (callNumber upd546) l
+pub by-numbers : (l : List BoardCall) → Each (λ c. callRefusal (chip (c .sheet)) c ≡ callNumber (chip (c .sheet)) c) l
+    → map (λ (c : BoardCall). callRefusal (chip (c .sheet)) c) l ≡ map (λ (c : BoardCall). callNumber (chip (c .sheet)) c) l
 by-numbers [] h = refl
 by-numbers (c ∷ l) h = ap₂ (λ (k : ℕ) (ks : List ℕ). k ∷ ks) (h .0) (by-numbers l (h .1))
 
 -- stops that have the number of the unbroken run, which is 23
-all-23 : (l : List BoardCall) → Each (λ c. (k : ℕ) → callAnswer upd546 c .number ≡ suc k → some 23 ≡ some (suc k)) l
-    → Each (λ c. (k : ℕ) → callAnswer upd546 c .number ≡ suc k → suc k ≡ 23) l
+all-23 : (l : List BoardCall) → Each (λ c. (k : ℕ) → boardAnswer chip c .number ≡ suc k → some 23 ≡ some (suc k)) l
+    → Each (λ c. (k : ℕ) → boardAnswer chip c .number ≡ suc k → suc k ≡ 23) l
 all-23 [] h = tt
 all-23 (c ∷ l) h = (λ k e. let same = h .0 k e in cc, all-23 l (h .1))
 
 tells : TellsItsRun upd546 (badRom between)
-tells = every-call-tells-its-run (badRom between) (lit< tt) (lit≤ tt)
+tells = every-call-tells-its-run upd546Sheet (badRom between) (lit< tt) (lit≤ tt)
 
 tells-stop : TellsItsRun upd546 (second between)
-tells-stop = every-call-tells-its-run (second between) (lit< tt) (lit≤ tt)
+tells-stop = every-call-tells-its-run upd546Sheet (second between) (lit< tt) (lit≤ tt)
 
 rewrites : Rewrites upd546 (first start)
 unfolding called
-rewrites = every-finish-or-stop-rewrites (first start) (panel .rom-bytes) (panel .sched-bytes) refl
+rewrites = every-finish-or-stop-rewrites upd546Sheet (first start) (panel .rom-bytes) (panel .sched-bytes) refl
 
 pub figures : BoardFigures
 unfolding called
@@ -115,11 +128,13 @@ figures =
       all-cycles = nothing .cycles ∙ with-reports .ends .cycles;
       all-begun = nothing .begun ∙ with-reports .ends .begun;
       numbers = by-numbers calls (one-run .refusals);
-      by-31 = whole 31 onOther (one-run .unchanged .1 .0);
-      by-31-old = whole 31 onOld (one-run .unchanged .1 .1 .0);
-      by-1 = whole 1 (shortReport between) (one-run .unchanged .1 .1 .1 .0);
-      by-21 = whole 21 (badRom between) (one-run .unchanged .1 .1 .1 .1 .0);
-      next = one-run .goes-on (last wantedImage) (sym (one-run .ends .image)) (on-panel (last wantedImage) refl refl (lit≤ tt)) (lit≤ tt) (lit≤ tt);
+      by-31 = whole upd546Sheet 31 onOther (one-run .unchanged .1 .0);
+      by-31-old = whole upd546Sheet 31 onOld (one-run .unchanged .1 .1 .0);
+      by-1 = whole upd546Sheet 1 (shortReport between) (one-run .unchanged .1 .1 .1 .0);
+      by-21 = whole upd546Sheet 21 (badRom between) (one-run .unchanged .1 .1 .1 .1 .0);
+      next =
+          one-run .goes-on (last wantedImage) (sym (one-run .ends .image)) (on-panel (last wantedImage) refl refl refl (lit≤ tt))
+          (lit≤ tt) (lit≤ tt);
       saved = rewrites .saved;
       owed-byte = ap (λ (bytes : List ℕ). getD bytes 17 0) (rewrites .image);
       owed-kept = ap (λ (r : RestoreAnswer State). r .state .core .owed) (rewrites .restores);

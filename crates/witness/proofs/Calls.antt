@@ -11,9 +11,11 @@ use Rattle.runs.specs.TwoRunners.{RunAnswer, stopped, logBound}
 use Rattle.runs.specs.Laws.{Panel}
 use Rattle.runs.specs.Lists.{Call, Each, refusal, documentNumber, WrittenBy, Lent, Meant, runs, StopsHave, RefusedByNumbers, EndsAsOneRun}
 use Rattle.upd546.specs.declared.State.{State}
+use Rattle.upd546.specs.declared.Sheet.{Sheet}
 use Rattle.upd546.specs.TheMachine.{fresh}
+use Rattle.upd546.specs.TheSheet.{upd546Sheet}
 use Rattle.upd546.specs.StateImage.{stateNumber}
-use Rattle.upd546.specs.TwoRunners.{upd546}
+use Rattle.upd546.specs.TwoRunners.{chip, upd546}
 use Rattle.laws.proofs.Lists.{below-all}
 use Rattle.laws.proofs.Demand3.{every-list}
 use Rattle.witness.specs.Calls.{rom, sched, cut, kept, high, keptHigh, calls, carriedOut, ListFigures}
@@ -21,26 +23,35 @@ use Rattle.witness.proofs.Opened.{opened}
 
 pub panel : Panel upd546 rom sched
 unfolding opened
-panel = record { rom-bytes = below-all 256 rom (lit< tt) refl; sched-bytes = below-all 256 sched (lit< tt) refl; not-refused = refl }
+panel = record {
+  legal = refl;
+  rom-bytes = below-all 256 rom (lit< tt) refl;
+  sched-bytes = below-all 256 sched (lit< tt) refl;
+  not-refused = refl;
+}
 
-pub sound : stateNumber fresh ≡ 0
+pub sound : stateNumber upd546Sheet fresh ≡ 0
 unfolding opened
 sound = refl
 
 -- a run on the panel, from the state held
-lent : (held : State) (log : List ℕ) (n : ℕ) → logBound n ≤ length log → Lent upd546 rom sched held rom sched held log n
+lent : (held : State) (log : List ℕ) (n : ℕ) → logBound n ≤ length log → Lent rom sched held rom sched held log n
 lent held log n room = record { same-rom = refl; same-sched = refl; same-state = refl; room = room }
 
-meant : Meant upd546 rom sched fresh calls
+meant : Meant chip upd546Sheet rom sched fresh calls
 unfolding opened
 meant =
     let one : WrittenBy upd546 cut kept = record { version = One; buffer = replicate 90 9; done = refl; same = refl } in
     let two : WrittenBy upd546 high keptHigh = record { version = Two; buffer = replicate 82 9; done = refl; same = refl } in
-    (lent _ _ _ (lit≤ tt), (refl, (one, (lent _ _ _ (lit≤ tt), (refl, (two, (lent _ _ _ (lit≤ tt), (lent _ _ _ (lit≤ tt), tt))))))))
+    record {
+      one-sheet = (refl, (refl, (refl, (refl, (refl, (refl, (refl, (refl, tt))))))));
+      given =
+          (lent _ _ _ (lit≤ tt), (refl, (one, (lent _ _ _ (lit≤ tt), (refl, (two, (lent _ _ _ (lit≤ tt), (lent _ _ _ (lit≤ tt), tt))))))));
+    }
 
 -- DEMAND 3, of this list
-one-run : EndsAsOneRun upd546 rom sched fresh calls
-one-run = every-list rom sched fresh calls panel sound meant
+one-run : EndsAsOneRun chip upd546Sheet rom sched fresh calls
+one-run = every-list upd546Sheet rom sched fresh calls panel sound meant
 
 -- a stop is no finish
 pub a-stop : (k : ℕ) → some k ≡ none → ⊥
@@ -52,7 +63,7 @@ all-23 [] h = tt
 all-23 (a ∷ l) h = (λ k e. let same = h .0 k e in cc, all-23 l (h .1))
 
 -- the numbers of a list are the documents'
-by-numbers : (l : List (Call State)) → RefusedByNumbers upd546 l → map (refusal upd546) l ≡ map (documentNumber upd546) l
+pub by-numbers : (l : List (Call Sheet State)) → RefusedByNumbers chip l → map (refusal chip) l ≡ map (documentNumber chip) l
 by-numbers [] h = refl
 by-numbers (c ∷ l) h = ap₂ (λ (k : ℕ) (ks : List ℕ). k ∷ ks) (h .0) (by-numbers l (h .1))
 
@@ -65,7 +76,7 @@ figures = record {
   image-one = one-run .ends .image One (replicate 82 9);
   counts = record { log = one-run .ends .log; cycles = one-run .ends .cycles; begun = one-run .ends .begun; clocks = one-run .ends .clocks };
   not-all-finish = λ all. a-stop 23 (one-run .ends .finish .0 all);
-  each-stop = all-23 (runs upd546 carriedOut) (one-run .ends .stops);
+  each-stop = all-23 (runs chip carriedOut) (one-run .ends .stops);
   call = λ kind.
       let one = one-run .call (lit≤ tt) kind (replicate 224 0) (lit≤ tt) in
       record {

@@ -10,16 +10,18 @@ use borrow.Author.Tests.{ne-eqb}
 use Rattle.runs.specs.Machine.{went}
 use Rattle.runs.specs.TwoRunners.{Ran, unbroken}
 use Rattle.upd546.specs.declared.State.{State}
+use Rattle.upd546.specs.declared.Sheet.{Sheet}
 use Rattle.upd546.specs.Bytes.{bitAt}
+use Rattle.upd546.specs.TheSheet.{upd546Sheet}
 use Rattle.upd546.specs.TheMachine.{byteAt, fresh}
 use Rattle.upd546.specs.Parts.{setInt, setInte}
 use Rattle.upd546.specs.TheLineSchedule.{linesAt}
-use Rattle.upd546.specs.Instructions as chip
+use Rattle.upd546.specs.Instructions as codes
 use Rattle.upd546.specs.Instructions.{Given, Instruction, instruction}
 use Rattle.upd546.specs.OneMachineCycle.{blocks, counted, cycle}
 use Rattle.upd546.specs.BenchCases.{from}
 use Rattle.upd546.specs.StateImage.{stateNumber}
-use Rattle.upd546.specs.TwoRunners.{upd546}
+use Rattle.upd546.specs.TwoRunners.{chip, upd546}
 use Rattle.laws.specs.Reading.{ReadsEither}
 use Rattle.laws.specs.Reset.{Counts, noReset}
 use Rattle.claims.specs.Strings.{Stand, Passed, FallsIn, FallKept}
@@ -80,8 +82,8 @@ string k n to s r p = record {
 none-blocks : (mark : ℕ) → (mark ≡ 1 → ⊥) → (mark ≡ 2 → ⊥) → (mark ≡ 4 → ⊥) → blocks mark ≡ false
 none-blocks mark a b c = rw (ne-eqb mark 1 a, ne-eqb mark 2 b, ne-eqb mark 4 c)
 
-fall : (rom sched : List ℕ) (n to : ℕ) (s : State) → FallKept rom sched n to s → OfEveryFall rom sched n to s
-fall rom sched n to s p = record {
+fall : (sheet : Sheet) (rom sched : List ℕ) (n to : ℕ) (s : State) → FallKept sheet rom sched n to s → OfEveryFall sheet rom sched n to s
+fall sheet rom sched n to s p = record {
   number = p .behind .number;
   cycles = p .behind .cycles;
   pc = p .behind .pc;
@@ -96,8 +98,8 @@ fall rom sched n to s p = record {
         inte = ap (λ (v : State). v .core .interrupt .inte) (sym e) ∙ t;
         mark = ap (λ (v : State). blocks (v .core .mark)) (sym e) ∙ none-blocks (u .core .mark) l x y;
       }) in
-      let back : r ≡ unbroken upd546 rom sched (n + 1 + unbroken upd546 rom sched (n + 1) s .state .core .owed + 1) s =
-      f ∙ ap (λ (v : State). unbroken upd546 rom sched (n + 1 + v .core .owed + 1) s) e in (
+      let back : r ≡ unbroken (chip sheet) rom sched (n + 1 + unbroken (chip sheet) rom sched (n + 1) s .state .core .owed + 1) s =
+      f ∙ ap (λ (v : State). unbroken (chip sheet) rom sched (n + 1 + v .core .owed + 1) s) e in (
         ap (λ (a : Ran State). a .number) back ∙ q .number,
         ap (λ (a : Ran State). a .state .core .flow .pc) back ∙ q .pc,
         ap (λ (a : Ran State). getD (a .state .core .flow .stack) 0 0) back ∙ q .return ∙ ap (λ (v : State). v .core .flow .pc) (sym e),
@@ -129,9 +131,10 @@ reset sched s t w b c e =
       staying = r .staying;
     }
 
-counts : (rom sched : List ℕ) (s t : State) (w : List ℕ) (b : ℕ) → cycle rom sched s ≡ went t w b → OfEveryCount (linesAt sched (s .cycle .0)) s t w b
-counts rom sched s t w b e =
-    let c = every-cycle-counts-res rom sched s t w b e in
+counts : (sheet : Sheet) (rom sched : List ℕ) (s t : State) (w : List ℕ) (b : ℕ) → cycle sheet rom sched s ≡ went t w b
+    → OfEveryCount (linesAt sched (s .cycle .0)) s t w b
+counts sheet rom sched s t w b e =
+    let c = every-cycle-counts-res sheet rom sched s t w b e in
     record {
       rises = c .rises;
       low = λ z. c .count ∙ ap (λ (res : ℕ). counted res (s .count)) z;
@@ -139,9 +142,9 @@ counts rom sched s t w b e =
       reset = reset sched s t w b c;
     }
 
-widths : (s : State) → stateNumber s ≡ 0 → Widths s
-widths s e =
-    let v = accepted-valid s e in
+widths : (sheet : Sheet) (s : State) → stateNumber sheet s ≡ 0 → Widths s
+widths sheet s e =
+    let v = accepted-valid sheet s e in
     let c = v .core .scalars in
     record {
       numbers = (
@@ -154,32 +157,36 @@ widths s e =
       ram = (v .ram .count, v .ram .below);
     }
 
-pub facts : CycleFacts
-facts = record {
+pub facts : (sheet : Sheet) → CycleFacts sheet
+facts sheet = record {
   ports = λ l latches.
       let r = c-and-d-read-back l latches in
       record { a = r .a; b = r .b; c = λ k. either _ _ _ k (r .c k); d = λ k. either _ _ _ k (r .d k); others = r .others };
   marks = λ c. let h = marks-hold-back c in record { ldi = h .ldi; ei = h .ei; li = h .li };
-  li = λ rom sched k s o m l n. string _ _ _ s _ (load-strings-hold-together .li rom sched k s o m l n);
-  ldi = λ rom sched k s o m l n. string _ _ _ s _ (load-strings-hold-together .ldi rom sched k s o m l n);
-  li-falls = λ rom sched k m s o i l h f z. fall rom sched _ _ s (load-strings-keep-falls .li rom sched k m s o i l h f z);
-  ldi-falls = λ rom sched k m s o i l h f z. fall rom sched _ _ s (load-strings-keep-falls .ldi rom sched k m s o i l h f z);
-  tm = λ rom sched s i k d w. let t = tm-set-after-stm rom sched s i k d w in record { cycles = t .cycles; before = t .before; from = t .from };
-  accepted = widths;
-  valid = valid-accepted;
-  keeps = λ rom sched s t w b br bs p v h e.
-      let c = cycle-keeps rom sched s t w b br bs p v h e in
-      (c .valid, c .rises, c .records);
-  begins-one = begins-one;
-  counts = counts;
-  runs-count = every-run-counts-res;
+  li = λ rom sched k s o m l n. string _ _ _ s _ (load-strings-hold-together .li sheet rom sched k s o m l n);
+  ldi = λ rom sched k s o m l n. string _ _ _ s _ (load-strings-hold-together .ldi sheet rom sched k s o m l n);
+  li-falls = λ rom sched k m s v o i l h f z.
+      fall sheet rom sched _ _ s (load-strings-keep-falls .li sheet rom sched k m s v o i l h f z);
+  ldi-falls = λ rom sched k m s v o i l h f z.
+      fall sheet rom sched _ _ s (load-strings-keep-falls .ldi sheet rom sched k m s v o i l h f z);
+  tm = λ rom sched s i k d w.
+      let t = tm-set-after-stm sheet rom sched s i k d w in
+      record { cycles = t .cycles; before = t .before; from = t .from };
+  accepted = widths sheet;
+  valid = valid-accepted sheet;
+  keeps = λ few rom sched s t w b br bs p v h e.
+      let c = cycle-keeps sheet few rom sched s t w b br bs p v h e in
+      (c .valid, c .rises, c .records, c .levels, c .rows);
+  begins-one = begins-one sheet;
+  counts = counts sheet;
+  runs-count = every-run-counts-res sheet;
   lines = lines-same;
   register-at = register-at;
   position-at = position-at;
   tick-left = tick-left;
   running-left = running-left;
-  jump-unbroken = jump-unbroken;
-  jump-in-room = jump-in-room;
+  jump-unbroken = jump-unbroken sheet;
+  jump-in-room = jump-in-room sheet;
 }
 
 -- IN FIGURES
@@ -196,7 +203,7 @@ res-high k h (suc (suc (suc (suc (suc i))))) l = absurd (omega arith)
 
 counted-high : (k : ℕ) → k ≤ 5 → panelFrom 1 k .cycles ≡ k → panelFrom 1 k .state .count ≡ min 4 (0 + k)
 unfolding opened
-counted-high k h e = facts .runs-count calls.rom calls.sched k (panelAt 1) (lit≤ tt) e (res-high k h)
+counted-high k h e = facts upd546Sheet .runs-count calls.rom calls.sched k (panelAt 1) (lit≤ tt) e (res-high k h)
 
 -- cycle k of that panel
 abbrev OfPanel : ℕ → Type 0
@@ -204,18 +211,19 @@ OfPanel k =
     OfEveryCount (linesAt calls.sched (panelAt k .cycle .0)) (panelAt k) (panelFrom k 1 .state) (panelFrom k 1 .bytes) (panelFrom k 1 .begun)
 
 panel-counts : (k : ℕ)
-    → cycle calls.rom calls.sched (panelAt k) ≡ went (panelFrom k 1 .state) (panelFrom k 1 .bytes) (panelFrom k 1 .begun) → OfPanel k
-panel-counts k e = facts .counts calls.rom calls.sched _ _ _ _ e
+    → cycle upd546Sheet calls.rom calls.sched (panelAt k) ≡ went (panelFrom k 1 .state) (panelFrom k 1 .bytes) (panelFrom k 1 .begun)
+    → OfPanel k
+panel-counts k e = facts upd546Sheet .counts calls.rom calls.sched _ _ _ _ e
 
-li-stands : Stand loads chip.li 2 1
+li-stands : Stand upd546Sheet loads codes.li 2 1
 unfolding opened
 li-stands = (refl, refl, refl, (refl, refl, refl, tt))
 
-ldi-stands : Stand loads chip.ldi 1 5
+ldi-stands : Stand upd546Sheet loads codes.ldi 1 5
 unfolding opened
 ldi-stands = (refl, refl, refl, tt)
 
-edge-stands : Stand edge chip.li 2 0
+edge-stands : Stand upd546Sheet edge codes.li 2 0
 unfolding opened
 edge-stands = (refl, refl, refl, (refl, refl, refl, tt))
 
@@ -224,22 +232,31 @@ unfolding opened
 edge-falls = (refl, refl)
 
 -- NOP isn't TIT: it leaves an INT that is set
-nop-other : chip.nop ≡ chip.tit → ⊥
+nop-other : codes.nop ≡ codes.tit → ⊥
 nop-other e =
-    let g : Given = record { core = from (setInt 1) .core; after = 0; code = 0; second = 0; word = 0; lines = linesAt [] 0; ports = [] } in
+    let g : Given = record {
+      core = from (setInt 1) .core;
+      after = 0;
+      code = 0;
+      second = 0;
+      word = 0;
+      lines = linesAt [] 0;
+      ports = [];
+      sheet = upd546Sheet;
+    } in
     let z : _≡_ {A = ℕ} 1 0 = ap (λ (i : Instruction). i .effect g .core .interrupt .int) e in
     absurd (omega arith)
 
-due : StmDue waits [] fresh 0
+due : StmDue upd546Sheet waits [] fresh 0
 unfolding opened noReset
 due = record { no-reset = refl; owed = refl; free = refl; code-in = refl; code = refl; second-in = refl; operand = refl }
 
 pub figures : CycleFigures
 unfolding opened noReset withoutStm
 figures =
-    let li = facts .li loads [] 2 (after loads 1) refl refl li-stands refl in
-    let ldi = facts .ldi loads [] 1 (after loads 5) refl refl ldi-stands refl in
-    let kept = facts .li-falls edge edgeLines 2 1 (from (setInte 1)) refl refl edge-stands (lit< tt) edge-falls refl in
+    let li = facts upd546Sheet .li loads [] 2 (after loads 1) refl refl li-stands refl in
+    let ldi = facts upd546Sheet .ldi loads [] 1 (after loads 5) refl refl ldi-stands refl in
+    let kept = facts upd546Sheet .li-falls edge edgeLines 2 1 (from (setInte 1)) refl refl refl edge-stands (lit< tt) edge-falls refl in
     let accepted =
     kept .accepted (edgeAfter 2) (edgeAfter 3) (unbroken upd546 edge edgeLines 4 (from (setInte 1))) refl refl refl refl refl nop-other refl
     (λ e. omega arith) (λ e. omega arith) (λ e. omega arith) in
@@ -258,6 +275,6 @@ figures =
       reset-latch = ap (λ (t : State). getD (t .ports) 2 0) (reached .state);
       reset-acc = ap (λ (t : State). t .core .registers .acc) (reached .state);
       held-bytes = panel-counts 5 refl .reset refl .staying refl;
-      tm-before = facts .tm waits [] fresh 0 62 due refl .before (lit< tt);
-      tm-from = facts .tm waits [] fresh 0 63 due refl .from (lit≤ tt);
+      tm-before = facts upd546Sheet .tm waits [] fresh 0 62 due refl .before (lit< tt);
+      tm-from = facts upd546Sheet .tm waits [] fresh 0 63 due refl .from (lit≤ tt);
     }

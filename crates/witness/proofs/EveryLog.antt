@@ -29,13 +29,13 @@ waits-as log c r i h =
     ap (λ (x : Reading). waitsOf (x .carried) i) r ∙ rise
 
 days : EveryDay
-days rom sched s calls p v m h =
-    let r = every-list-reports-as-one-run rom sched s calls p v m h in
+days sheet rom sched s calls p v m h =
+    let r = every-list-reports-as-one-run sheet rom sched s calls p v m h in
     record { accepted = r .accepted; waits = waits-as _ _ (r .report) }
 
 call-days : EveryCallDay
-call-days rom sched s calls p v m h =
-    let r = every-list-of-calls-reports-as-one-run rom sched s calls p v m h in
+call-days sheet rom sched s calls p v m h =
+    let r = every-list-of-calls-reports-as-one-run sheet rom sched s calls p v m h in
     record { accepted = r .accepted; waits = waits-as _ _ (r .report) }
 
 pub facts : LogFacts

@@ -4,10 +4,12 @@ use mathlib.Core.List.{[], _∷_}
 use lib.Dec.{leb, lit≤}
 use Rattle.runs.specs.Refusals.{cycleLimit, firstOf, unless}
 use Rattle.runs.specs.TwoRunners.{runNumber}
+use Rattle.runs.specs.Laws.{Panel}
 use Rattle.runs.proofs.Refusals.{first-past}
 use Rattle.upd546.specs.TheMachine.{fresh}
+use Rattle.upd546.specs.TheSheet.{sheetNumber, upd546Sheet}
 use Rattle.upd546.specs.StateImage.{stateNumber}
-use Rattle.upd546.specs.TwoRunners.{panelNumber}
+use Rattle.upd546.specs.TwoRunners.{panelNumber, upd546}
 use Rattle.generator.specs.Loads.{nextOf, stepped, drawn, drawnBytes, romOf, cycleFrom, recordFrom, lastDrawn, scheduleOf}
 use Rattle.generator.specs.EveryLoad.{AcceptedSchedule}
 use Rattle.generator.proofs.EveryLoad.{every-schedule, every-rom, every-load, every-beginning}
@@ -26,13 +28,18 @@ unfolding nextOf stepped drawn cycleFrom recordFrom lastDrawn scheduleOf
 one = refl
 
 -- neither state nor n is refused
-others : firstOf (stateNumber fresh ∷ unless (leb 10000000 cycleLimit) 2 ∷ []) ≡ 0
+others : firstOf (stateNumber upd546Sheet fresh ∷ unless (leb 10000000 cycleLimit) 2 ∷ []) ≡ 0
 unfolding opened
 others = refl
 
+panel : Panel upd546 (romOf 7) longest
+panel = every-load 7 20 4096 (lit≤ tt)
+
 accepts : tenMillion (romOf 7) longest ≡ 0
 unfolding runNumber
-accepts = first-past (panelNumber (romOf 7) longest) _ (every-load 7 20 4096 (lit≤ tt) .not-refused) ∙ others
+accepts =
+    first-past (sheetNumber upd546Sheet) _ (panel .legal) ∙ first-past (panelNumber upd546Sheet (romOf 7) longest) _ (panel .not-refused)
+    ∙ others
 
 pub figures : LoadFigures
 figures =

@@ -1,16 +1,17 @@
 -- What to unfold where a figure is computed: the chip, the runners, save and restore, under one name. Assumes nothing.
 use Rattle.runs.specs.Refusals.{firstOf}
-use Rattle.runs.specs.TwoRunners.{unbroken, within, strides, runNumber, plain, skipping, saveNumber, saveAnswer, restoreAnswer, currentNumber, currentAnswer}
+use Rattle.runs.specs.TwoRunners.{unbroken, within, strides, runNumber, plain, skipping, saveNumber, saveAnswer, restoreNumber, restoreAnswer, currentNumber, currentAnswer}
 use Rattle.upd546.specs.Sequences.{allOf}
-use Rattle.upd546.specs.TheMachine.{follows, past, placeOf}
+use Rattle.upd546.specs.TheSheet.{legal, sheetNumber, rowExists}
+use Rattle.upd546.specs.TheMachine.{follows, past, placeOf, placeIn}
 use Rattle.upd546.specs.TheLineSchedule.{recordCycle, recordLines, linesAmong, linesAt, bytesNumber, orderNumber, recordsNumber, scheduleNumber, noneAmong, noRecord}
 use Rattle.upd546.specs.Timer.{stepRegister, tick, stepsTo, positionOf, ticksLeft}
 use Rattle.upd546.specs.Ports.{readPort, outputs, bitOutputs}
 use Rattle.upd546.specs.Instructions.{instruction}
 use Rattle.upd546.specs.OneMachineCycle.{accepts, accepted, taken, paid, ticked, given, instructionStop, passedOver, begun, execute, ordinaryCycle, cleared, resetCycle, cycle}
-use Rattle.upd546.specs.StateImage.{imageOf, ofImage, registersSound, flowSound, interruptSound, timerSound, coreSound, portsSound, ramSound, stateSound, stateNumber, versionNumber, fieldsNumber, imageNumber}
+use Rattle.upd546.specs.StateImage.{imageOf, ofImage, registersSound, flowSound, interruptSound, timerSound, coreSound, portsSound, ramSound, fieldsSound, absentZero, stateSound, stateNumber, versionNumber, fieldsNumber, imageNumber}
 use Rattle.upd546.specs.TwoRunners.{atTtm, atJcpBack, mayJump, jumpable, largest, waitLength, resetFar, jumpLength, panelNumber}
 
 unfoldable pub opened : Unit {0}
-unfolding firstOf unbroken within strides runNumber plain skipping saveNumber saveAnswer restoreAnswer currentNumber currentAnswer allOf follows past placeOf recordCycle recordLines linesAmong linesAt bytesNumber orderNumber recordsNumber scheduleNumber noneAmong noRecord stepRegister tick stepsTo positionOf ticksLeft readPort outputs bitOutputs instruction accepts accepted taken paid ticked given instructionStop passedOver begun execute ordinaryCycle cleared resetCycle cycle imageOf ofImage registersSound flowSound interruptSound timerSound coreSound portsSound ramSound stateSound stateNumber versionNumber fieldsNumber imageNumber atTtm atJcpBack mayJump jumpable largest waitLength resetFar jumpLength panelNumber
+unfolding firstOf unbroken within strides runNumber plain skipping saveNumber saveAnswer restoreNumber restoreAnswer currentNumber currentAnswer allOf follows past legal sheetNumber rowExists placeOf placeIn recordCycle recordLines linesAmong linesAt bytesNumber orderNumber recordsNumber scheduleNumber noneAmong noRecord stepRegister tick stepsTo positionOf ticksLeft readPort outputs bitOutputs instruction accepts accepted taken paid ticked given instructionStop passedOver begun execute ordinaryCycle cleared resetCycle cycle imageOf ofImage registersSound flowSound interruptSound timerSound coreSound portsSound ramSound fieldsSound absentZero stateSound stateNumber versionNumber fieldsNumber imageNumber atTtm atJcpBack mayJump jumpable largest waitLength resetFar jumpLength panelNumber
 opened = tt

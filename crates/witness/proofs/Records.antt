@@ -8,6 +8,7 @@ use lib.ListN.{length, take, replicate}
 use Rattle.runs.specs.Laws.{Bytes}
 use Rattle.runs.specs.Lists.{plainOne, skippingOne, runAnswer}
 use Rattle.upd546.specs.TheMachine.{fresh}
+use Rattle.upd546.specs.TheSheet.{upd546Sheet}
 use Rattle.upd546.specs.Ports.{Write}
 use Rattle.upd546.specs.TwoRunners.{upd546}
 use Rattle.laws.specs.Writes.{Logged, write, reset}
@@ -65,7 +66,11 @@ figures =
     let sched-bytes : Bytes sched = below-all 256 sched (lit< tt) refl in
     record {
       entries = λ kind. ap (entriesIn 7) (calls.figures .call kind .log);
-      in-order = in-order (every-run-writes-records plainOne rom sched fresh (replicate 224 0) 14 rom-bytes sched-bytes) (lit≤ tt) 7 (lit≤ tt);
-      in-order-from-1 = in-order (every-run-writes-records skippingOne rom sched back (replicate 48 0) 3 rom-bytes sched-bytes) (lit≤ tt) 1 (lit≤ tt);
+      in-order =
+          in-order (every-run-writes-records upd546Sheet plainOne rom sched fresh (replicate 224 0) 14 rom-bytes sched-bytes)
+          (lit≤ tt) 7 (lit≤ tt);
+      in-order-from-1 =
+          in-order (every-run-writes-records upd546Sheet skippingOne rom sched back (replicate 48 0) 3 rom-bytes sched-bytes)
+          (lit≤ tt) 1 (lit≤ tt);
       day = log-grows 16 (take 16 wantedLog ++ replicate 48 0) (runAnswer upd546 skippingOne rom sched back (replicate 48 0) 3) (lit≤ tt);
     }

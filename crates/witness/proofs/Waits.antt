@@ -11,8 +11,9 @@ use Rattle.runs.specs.Laws.{Panel}
 use Rattle.runs.specs.Lists.{WrittenBy, Lent, Meant}
 use Rattle.upd546.specs.declared.State.{State}
 use Rattle.upd546.specs.TheMachine.{fresh}
+use Rattle.upd546.specs.TheSheet.{upd546Sheet}
 use Rattle.upd546.specs.StateImage.{imageOf}
-use Rattle.upd546.specs.TwoRunners.{upd546}
+use Rattle.upd546.specs.TwoRunners.{chip, upd546}
 use Rattle.laws.proofs.Lists.{below-all}
 use Rattle.calls.specs.Call.{BoardCall, imageRun, callAnswer}
 use Rattle.calls.specs.Lists.{PanelLent, callsNotRefused, CallLent}
@@ -77,34 +78,47 @@ darkened = reset-closes-all-waits calling startOfDay 60 (accepts .0) (lit≤ tt)
 
 panel : Panel upd546 lampRom lampSched
 unfolding opened
-panel = record { rom-bytes = below-all 256 lampRom (lit< tt) refl; sched-bytes = below-all 256 lampSched (lit< tt) refl; not-refused = refl }
+panel = record {
+  legal = refl;
+  rom-bytes = below-all 256 lampRom (lit< tt) refl;
+  sched-bytes = below-all 256 lampSched (lit< tt) refl;
+  not-refused = refl;
+}
 
-lent : (held : State) (log : List ℕ) (n : ℕ) → logBound n ≤ length log → Lent upd546 lampRom lampSched held lampRom lampSched held log n
+lent : (held : State) (log : List ℕ) (n : ℕ) → logBound n ≤ length log → Lent lampRom lampSched held lampRom lampSched held log n
 lent held log n room = record { same-rom = refl; same-sched = refl; same-state = refl; room = room }
 
-meant : Meant upd546 lampRom lampSched fresh lampCalls
+meant : Meant chip upd546Sheet lampRom lampSched fresh lampCalls
 unfolding opened
 meant =
     let written : WrittenBy upd546 lit keptLit = record { version = Two; buffer = replicate 82 9; done = refl; same = refl } in
-    (lent _ _ _ (lit≤ tt), (refl, (written, (lent _ _ _ (lit≤ tt), tt))))
+    record { one-sheet = (refl, (refl, (refl, (refl, tt)))); given = (lent _ _ _ (lit≤ tt), (refl, (written, (lent _ _ _ (lit≤ tt), tt)))) }
 
-one-day : ReportsAsOneRun upd546 lampRom lampSched fresh lampCalls
+one-day : ReportsAsOneRun chip upd546Sheet lampRom lampSched fresh lampCalls
 unfolding opened
-one-day = every-list-reports-as-one-run lampRom lampSched fresh lampCalls panel sound meant (lit≤ tt)
+one-day = every-list-reports-as-one-run upd546Sheet lampRom lampSched fresh lampCalls panel sound meant (lit≤ tt)
 
 -- and by the board's calls
-on-panel : (c : BoardCall) → c .rom ≡ lampRom → c .sched ≡ lampSched → logBound (c .n) ≤ length (c .log) → PanelLent lampRom lampSched c
-on-panel c same-rom same-sched room = record { same-rom = same-rom; same-sched = same-sched; room = room }
+on-panel : (c : BoardCall) → c .sheet ≡ upd546Sheet → c .rom ≡ lampRom → c .sched ≡ lampSched → logBound (c .n) ≤ length (c .log)
+    → PanelLent upd546Sheet lampRom lampSched c
+on-panel c same-sheet same-rom same-sched room = record {
+  same-sheet = same-sheet;
+  same-rom = same-rom;
+  same-sched = same-sched;
+  room = room;
+}
 
-lent-first : CallLent upd546 lampRom lampSched (imageOf Two fresh) firstLamp
-lent-first = record { same-image = refl; lent = λ e. on-panel firstLamp refl refl (lit≤ tt) }
+lent-first : CallLent chip upd546Sheet lampRom lampSched (imageOf Two fresh) firstLamp
+lent-first = record { same-image = refl; lent = λ e. on-panel firstLamp refl refl refl (lit≤ tt) }
 
-lent-second : CallLent upd546 lampRom lampSched (callAnswer upd546 firstLamp .image) secondLamp
-lent-second = record { same-image = refl; lent = λ e. on-panel secondLamp refl refl (lit≤ tt) }
+lent-second : CallLent chip upd546Sheet lampRom lampSched (callAnswer upd546 firstLamp .image) secondLamp
+lent-second = record { same-image = refl; lent = λ e. on-panel secondLamp refl refl refl (lit≤ tt) }
 
-board-day : CallsReportAsOneRun upd546 lampRom lampSched fresh (callsNotRefused upd546 lampBoard)
+board-day : CallsReportAsOneRun chip upd546Sheet lampRom lampSched fresh (callsNotRefused chip lampBoard)
 unfolding opened imageRun callAnswer
-board-day = every-list-of-calls-reports-as-one-run lampRom lampSched fresh lampBoard panel sound (lent-first, (lent-second, tt)) (lit≤ tt)
+board-day =
+    every-list-of-calls-reports-as-one-run upd546Sheet lampRom lampSched fresh lampBoard panel sound
+    (lent-first, (lent-second, tt)) (lit≤ tt)
 
 pub figures : WaitFigures
 unfolding read imageRun callAnswer

@@ -8,9 +8,10 @@ use Rattle.runs.specs.declared.Version.the-variants.{One, Two}
 use Rattle.runs.specs.TwoRunners.{stopped, refused, saveAnswer, restoreAnswer}
 use Rattle.runs.specs.Lists.{Each}
 use Rattle.upd546.specs.TheMachine.{fresh}
+use Rattle.upd546.specs.TheSheet.{upd546Sheet}
 use Rattle.upd546.specs.StateImage.{imageOf}
-use Rattle.upd546.specs.TwoRunners.{upd546}
-use Rattle.calls.specs.Call.{BoardCall, BoardAnswer, callAnswer}
+use Rattle.upd546.specs.TwoRunners.{chip, upd546}
+use Rattle.calls.specs.Call.{BoardCall, BoardAnswer, callAnswer, boardAnswer}
 use Rattle.calls.specs.EveryCall.{endBy, callRefusal, figureAt}
 use Rattle.calls.specs.Lists.{callsNotRefused, imageAfter, callLogs, figureTotal, joined}
 use Rattle.witness.specs.Calls.{rom, sched, entryBytes, wantedLog, wantedImage}
@@ -19,19 +20,55 @@ use Rattle.witness.specs.Calls.{rom, sched, entryBytes, wantedLog, wante
 
 -- one cycle, by the plain runner, on a log of just 16n bytes: OCD is cut in two
 abbrev pub first : List ℕ → BoardCall
-first image = record { image = image; rom = rom; sched = sched; log = replicate 16 7; n = 1; runner = 0; report = replicate 34 9 }
+first image = record {
+  image = image;
+  rom = rom;
+  sched = sched;
+  log = replicate 16 7;
+  n = 1;
+  runner = 0;
+  report = replicate 34 9;
+  sheet = upd546Sheet;
+}
 
 -- thirteen cycles, over a reset, by the timer-skipping runner: 256 isn't 0
 abbrev pub second : List ℕ → BoardCall
-second image = record { image = image; rom = rom; sched = sched; log = replicate 208 0; n = 13; runner = 256; report = replicate 32 9 }
+second image = record {
+  image = image;
+  rom = rom;
+  sched = sched;
+  log = replicate 208 0;
+  n = 13;
+  runner = 256;
+  report = replicate 32 9;
+  sheet = upd546Sheet;
+}
 
 -- a report of 31 bytes, with a ROM that 21 would refuse
 abbrev pub shortReport : List ℕ → BoardCall
-shortReport image = record { image = image; rom = []; sched = []; log = []; n = 5; runner = 0; report = replicate 31 9 }
+shortReport image = record {
+  image = image;
+  rom = [];
+  sched = [];
+  log = [];
+  n = 5;
+  runner = 0;
+  report = replicate 31 9;
+  sheet = upd546Sheet;
+}
 
 -- a ROM of one byte
 abbrev pub badRom : List ℕ → BoardCall
-badRom image = record { image = image; rom = 1 ∷ []; sched = []; log = 6 ∷ 6 ∷ []; n = 5; runner = 1; report = replicate 33 9 }
+badRom image = record {
+  image = image;
+  rom = 1 ∷ [];
+  sched = [];
+  log = 6 ∷ 6 ∷ [];
+  n = 5;
+  runner = 1;
+  report = replicate 33 9;
+  sheet = upd546Sheet;
+}
 
 -- the same ROM with an image that is none: 31 comes before 21
 abbrev pub onOther : BoardCall
@@ -43,7 +80,7 @@ onOld = badRom (imageOf One fresh)
 
 -- no cycles, at the end, and no log
 abbrev pub last : List ℕ → BoardCall
-last image = record { image = image; rom = rom; sched = sched; log = []; n = 0; runner = 0; report = replicate 32 0 }
+last image = record { image = image; rom = rom; sched = sched; log = []; n = 0; runner = 0; report = replicate 32 0; sheet = upd546Sheet }
 
 abbrev pub start : List ℕ
 start = imageOf Two fresh
@@ -74,21 +111,21 @@ left k c report = record { number = k; image = c .image; log = c .log; report = 
 
 pub record BoardFigures : Type 0 where
   -- `ends`
-  pub image : imageAfter upd546 start carriedOut ≡ wantedImage
-  pub restored : restoreAnswer upd546 (imageAfter upd546 start carriedOut) .state .core .flow .pc ≡ 4
-  pub log : joined (callLogs upd546 carriedOut) ≡ wantedLog
-  pub cycles : figureTotal upd546 0 carriedOut ≡ 11
-  pub begun : figureTotal upd546 8 carriedOut ≡ 6
-  pub not-all-finish : Each (λ c. callAnswer upd546 c .number ≡ 0) carriedOut → ⊥
-  pub each-stop : Each (λ c. (k : ℕ) → callAnswer upd546 c .number ≡ suc k → suc k ≡ 23) carriedOut
+  pub image : imageAfter chip start carriedOut ≡ wantedImage
+  pub restored : restoreAnswer upd546 (imageAfter chip start carriedOut) .state .core .flow .pc ≡ 4
+  pub log : joined (callLogs chip carriedOut) ≡ wantedLog
+  pub cycles : figureTotal chip 0 carriedOut ≡ 11
+  pub begun : figureTotal chip 8 carriedOut ≡ 6
+  pub not-all-finish : Each (λ c. boardAnswer chip c .number ≡ 0) carriedOut → ⊥
+  pub each-stop : Each (λ c. (k : ℕ) → boardAnswer chip c .number ≡ suc k → suc k ≡ 23) carriedOut
   -- and of the first call alone
   pub all-finish : callAnswer upd546 (first start) .number ≡ 0
   -- `nothing`
-  pub joined-log : joined (callLogs upd546 reportedCalls) ≡ wantedLog
-  pub all-cycles : figureTotal upd546 0 reportedCalls ≡ 11
-  pub all-begun : figureTotal upd546 8 reportedCalls ≡ 6
+  pub joined-log : joined (callLogs chip reportedCalls) ≡ wantedLog
+  pub all-cycles : figureTotal chip 0 reportedCalls ≡ 11
+  pub all-begun : figureTotal chip 8 reportedCalls ≡ 6
   -- `refusals`, `unchanged`
-  pub numbers : map (callRefusal upd546) calls ≡ 0 ∷ 31 ∷ 31 ∷ 1 ∷ 21 ∷ 0 ∷ []
+  pub numbers : map (λ c. callRefusal (chip (c .sheet)) c) calls ≡ 0 ∷ 31 ∷ 31 ∷ 1 ∷ 21 ∷ 0 ∷ []
   pub by-31 : callAnswer upd546 onOther ≡ left 31 onOther (replicate 32 0 ++ (9 ∷ []))
   pub by-31-old : callAnswer upd546 onOld ≡ left 31 onOld (replicate 32 0 ++ (9 ∷ []))
   pub by-1 : callAnswer upd546 (shortReport between) ≡ left 1 (shortReport between) (replicate 31 9)
@@ -112,5 +149,5 @@ pub record BoardFigures : Type 0 where
   pub refused-cycles : figureAt upd546 0 (badRom between) ≡ 0
   pub refused-written : figureAt upd546 16 (badRom between) ≡ 0
   -- `EveryListOnOneImageIsMeant`, `EveryAcceptedImageEndsAsOneRun`
-  pub one-image : imageAfter upd546 start onOne ≡ wantedImage
-  pub one-image-log : joined (callLogs upd546 (callsNotRefused upd546 onOne)) ≡ wantedLog
+  pub one-image : imageAfter chip start onOne ≡ wantedImage
+  pub one-image-log : joined (callLogs chip (callsNotRefused chip onOne)) ≡ wantedLog

@@ -9,9 +9,11 @@ use Rattle.runs.specs.TwoRunners.{RunAnswer, stopped, refused, saveAnswer, rest
 use Rattle.runs.specs.Lists.{Kind, plainOne, skippingOne, Call, run, save, restore, Each, runAnswer, refusal, last, WrittenBy}
 use Rattle.runs.specs.Lists.{finalImage, runs, runLog, joinedLog, cycleTotal, begunTotal, clockTotal, AllFinish}
 use Rattle.upd546.specs.declared.State.{State}
+use Rattle.upd546.specs.declared.Sheet.{Sheet}
 use Rattle.upd546.specs.TheMachine.{fresh}
+use Rattle.upd546.specs.TheSheet.{upd546Sheet}
 use Rattle.upd546.specs.BenchCases.{romAt}
-use Rattle.upd546.specs.TwoRunners.{upd546}
+use Rattle.upd546.specs.TwoRunners.{chip, upd546}
 
 -- document 01's example: OCD A5, LI 3, OE, and a code that is none
 abbrev pub rom : List ℕ
@@ -45,33 +47,33 @@ abbrev pub stop : State
 stop = runAnswer upd546 skippingOne rom sched again (replicate 144 0) 9 .state
 
 -- refused are the first by 21, the third by 11, the fourth by 1, the sixth by 31 and the ninth by 54
-abbrev pub calls : List (Call State)
+abbrev pub calls : List (Call Sheet State)
 calls =
-    run plainOne (1 ∷ []) [] fresh [] 5
-    ∷ run plainOne rom sched fresh (replicate 16 7) 1
-    ∷ run skippingOne rom (1 ∷ []) cut (6 ∷ 6 ∷ []) 5
-    ∷ save One cut (replicate 80 9)
-    ∷ save One cut (replicate 90 9)
-    ∷ restore []
-    ∷ restore kept
-    ∷ run skippingOne rom sched back (replicate 48 0) 3
-    ∷ save One high []
-    ∷ save Two high (replicate 82 9)
-    ∷ restore keptHigh
-    ∷ run skippingOne rom sched again (replicate 144 0) 9
-    ∷ run plainOne rom sched stop (replicate 16 0) 1
+    run plainOne (1 ∷ []) [] fresh [] 5 upd546Sheet
+    ∷ run plainOne rom sched fresh (replicate 16 7) 1 upd546Sheet
+    ∷ run skippingOne rom (1 ∷ []) cut (6 ∷ 6 ∷ []) 5 upd546Sheet
+    ∷ save One cut (replicate 80 9) upd546Sheet
+    ∷ save One cut (replicate 90 9) upd546Sheet
+    ∷ restore [] upd546Sheet
+    ∷ restore kept upd546Sheet
+    ∷ run skippingOne rom sched back (replicate 48 0) 3 upd546Sheet
+    ∷ save One high [] upd546Sheet
+    ∷ save Two high (replicate 82 9) upd546Sheet
+    ∷ restore keptHigh upd546Sheet
+    ∷ run skippingOne rom sched again (replicate 144 0) 9 upd546Sheet
+    ∷ run plainOne rom sched stop (replicate 16 0) 1 upd546Sheet
     ∷ []
 
-abbrev pub carriedOut : List (Call State)
+abbrev pub carriedOut : List (Call Sheet State)
 carriedOut =
-    run plainOne rom sched fresh (replicate 16 7) 1
-    ∷ save One cut (replicate 90 9)
-    ∷ restore kept
-    ∷ run skippingOne rom sched back (replicate 48 0) 3
-    ∷ save Two high (replicate 82 9)
-    ∷ restore keptHigh
-    ∷ run skippingOne rom sched again (replicate 144 0) 9
-    ∷ run plainOne rom sched stop (replicate 16 0) 1
+    run plainOne rom sched fresh (replicate 16 7) 1 upd546Sheet
+    ∷ save One cut (replicate 90 9) upd546Sheet
+    ∷ restore kept upd546Sheet
+    ∷ run skippingOne rom sched back (replicate 48 0) 3 upd546Sheet
+    ∷ save Two high (replicate 82 9) upd546Sheet
+    ∷ restore keptHigh upd546Sheet
+    ∷ run skippingOne rom sched again (replicate 144 0) 9 upd546Sheet
+    ∷ run plainOne rom sched stop (replicate 16 0) 1 upd546Sheet
     ∷ []
 
 -- a record of the log, of a cycle below 256
@@ -123,25 +125,26 @@ pub record OneCall (a : RunAnswer State) : Type 0 where
 
 pub record ListFigures : Type 0 where
   -- `ends`
-  pub pc : last upd546 fresh carriedOut .core .flow .pc ≡ 4
-  pub cycle : last upd546 fresh carriedOut .cycle .0 ≡ 11
-  pub image : finalImage upd546 fresh carriedOut Two (replicate 83 9) ≡ record { number = 0; buffer = wantedImage ++ (9 ∷ []) }
-  pub image-one : finalImage upd546 fresh carriedOut One (replicate 82 9) ≡ record { number = 0; buffer = wantedOld ++ (9 ∷ []) }
-  pub counts : Counts (runs upd546 carriedOut)
-  pub not-all-finish : AllFinish (runs upd546 carriedOut) → ⊥
-  pub each-stop : Each (λ a. (k : ℕ) → a .end ≡ stopped k → k ≡ 23) (runs upd546 carriedOut)
+  pub pc : last chip fresh carriedOut .core .flow .pc ≡ 4
+  pub cycle : last chip fresh carriedOut .cycle .0 ≡ 11
+  pub image : finalImage chip upd546Sheet fresh carriedOut Two (replicate 83 9) ≡ record { number = 0; buffer = wantedImage ++ (9 ∷ []) }
+  pub image-one : finalImage chip upd546Sheet fresh carriedOut One (replicate 82 9) ≡ record { number = 0; buffer = wantedOld ++ (9 ∷ []) }
+  pub counts : Counts (runs chip carriedOut)
+  pub not-all-finish : AllFinish (runs chip carriedOut) → ⊥
+  pub each-stop : Each (λ a. (k : ℕ) → a .end ≡ stopped k → k ≡ 23) (runs chip carriedOut)
   -- `call`
   pub call : (kind : Kind) → OneCall (runAnswer upd546 kind rom sched fresh (replicate 224 0) 14)
   -- `nothing`, `unchanged`, `refusals`
-  pub with-refused : Counts (runs upd546 calls)
+  pub with-refused : Counts (runs chip calls)
   pub by-21 : runAnswer upd546 plainOne (1 ∷ []) [] fresh [] 5 ≡ unmoved 21 fresh []
   pub by-11 : runAnswer upd546 skippingOne rom (1 ∷ []) cut (6 ∷ 6 ∷ []) 5 ≡ unmoved 11 cut (6 ∷ 6 ∷ [])
   pub by-1 : saveAnswer upd546 One cut (replicate 80 9) ≡ record { number = 1; buffer = replicate 80 9 }
   pub by-31 : restoreAnswer upd546 [] ≡ record { number = 31; state = fresh }
   pub by-54 : saveAnswer upd546 One high [] ≡ record { number = 54; buffer = [] }
-  pub numbers : map (refusal upd546) calls ≡ 21 ∷ 0 ∷ 11 ∷ 1 ∷ 0 ∷ 31 ∷ 0 ∷ 0 ∷ 54 ∷ 0 ∷ 0 ∷ 0 ∷ 0 ∷ []
+  pub numbers : map (refusal chip) calls ≡ 21 ∷ 0 ∷ 11 ∷ 1 ∷ 0 ∷ 31 ∷ 0 ∷ 0 ∷ 54 ∷ 0 ∷ 0 ∷ 0 ∷ 0 ∷ []
   -- `goes-on`: to the cycle limit
-  pub next-run : (kind : Kind) (log : List ℕ) → refusal upd546 (run kind rom sched (last upd546 fresh carriedOut) log 281474976710641) ≡ 0
-  pub next-save : refusal upd546 (save Two (last upd546 fresh carriedOut) (replicate 82 0)) ≡ 0
-  pub next-save-one : refusal upd546 (save One (last upd546 fresh carriedOut) (replicate 81 0)) ≡ 0
-  pub next-restore : (bytes : List ℕ) → WrittenBy upd546 (last upd546 fresh carriedOut) bytes → refusal upd546 (restore bytes) ≡ 0
+  pub next-run : (kind : Kind) (log : List ℕ)
+      → refusal chip (run kind rom sched (last chip fresh carriedOut) log 281474976710641 upd546Sheet) ≡ 0
+  pub next-save : refusal chip (save Two (last chip fresh carriedOut) (replicate 82 0) upd546Sheet) ≡ 0
+  pub next-save-one : refusal chip (save One (last chip fresh carriedOut) (replicate 81 0) upd546Sheet) ≡ 0
+  pub next-restore : (bytes : List ℕ) → WrittenBy upd546 (last chip fresh carriedOut) bytes → refusal chip (restore bytes upd546Sheet) ≡ 0

@@ -5,7 +5,7 @@ use mathlib.Core.Path.{_≡_}
 use mathlib.Core.Bool.{true, false}
 use mathlib.Core.List.{List, [], _∷_, _++_}
 use mathlib.Core.Option.{none}
-use lib.ListN.{length, getD}
+use lib.ListN.{length, getD, drop}
 use Rattle.runs.specs.Machine.{went}
 use Rattle.runs.specs.TwoRunners.{Ran, unbroken, within}
 use Rattle.runs.specs.Laws.{Bytes}
@@ -13,19 +13,21 @@ use Rattle.runs.specs.Lists.{Each}
 use Rattle.upd546.specs.declared.Core.{Core}
 use Rattle.upd546.specs.declared.Lines.{Lines}
 use Rattle.upd546.specs.declared.State.{State}
+use Rattle.upd546.specs.declared.Sheet.{Sheet}
 use Rattle.upd546.specs.declared.Timer.{Timer}
 use Rattle.upd546.specs.Bytes.{bitAt, bytesOf}
-use Rattle.upd546.specs.TheMachine.{past, fresh}
+use Rattle.upd546.specs.TheSheet.{sheetNumber}
+use Rattle.upd546.specs.TheMachine.{storedRows, past, fresh}
 use Rattle.upd546.specs.Parts.{setInte}
-use Rattle.upd546.specs.TheLineSchedule.{linesAt, noRecord}
+use Rattle.upd546.specs.TheLineSchedule.{scheduleNumber, linesAt, noRecord}
 use Rattle.upd546.specs.Timer.{tick, registerAfter, positionOf, ticksLeft}
 use Rattle.upd546.specs.Ports.{latchOf, readPort}
-use Rattle.upd546.specs.Instructions as chip
+use Rattle.upd546.specs.Instructions as codes
 use Rattle.upd546.specs.Instructions.{instruction}
 use Rattle.upd546.specs.OneMachineCycle.{accepts, cycle}
-use Rattle.upd546.specs.StateImage.{stateNumber}
+use Rattle.upd546.specs.StateImage.{rowsZero, absentZero, stateNumber}
 use Rattle.upd546.specs.BenchCases.{romAt, from, recordAt}
-use Rattle.upd546.specs.TwoRunners.{upd546, panelNumber, jumpLength}
+use Rattle.upd546.specs.TwoRunners.{chip, upd546, jumpLength}
 use Rattle.laws.specs.Timer.{timerLeft}
 use Rattle.laws.specs.Jump.{stateAfterJump}
 use Rattle.laws.specs.Valid.{Valid}
@@ -80,17 +82,19 @@ pub record OfEveryString (k n to : ℕ) (s : State) (r : Ran State) : Type 0 whe
 -- R-5, `LoadStringsKeepFalls`: INT at the boundary behind the string, in n cycles from s, and where the run goes on from there: the
 -- next cycle, from t to u, begins an instruction that isn't TIT, with INTE 1 and none of the marks LDI, EI and LI behind it, and no
 -- cycle from t up to the acceptance is a reset cycle
-pub record OfEveryFall (rom sched : List ℕ) (n to : ℕ) (s : State) : Type 0 where
-  pub number : unbroken upd546 rom sched n s .number ≡ none
-  pub cycles : unbroken upd546 rom sched n s .cycles ≡ n
-  pub pc : unbroken upd546 rom sched n s .state .core .flow .pc ≡ to
-  pub int : unbroken upd546 rom sched n s .state .core .interrupt .int ≡ 1
-  pub inte : unbroken upd546 rom sched n s .state .core .interrupt .inte ≡ s .core .interrupt .inte
-  pub held : accepts (unbroken upd546 rom sched n s .state .core) ≡ false
-  pub accepted : (t u : State) (r : Ran State) → t ≡ unbroken upd546 rom sched n s .state → u ≡ unbroken upd546 rom sched (n + 1) s .state
-      → r ≡ unbroken upd546 rom sched (n + 1 + u .core .owed + 1) s → noReset sched (1 + u .core .owed + 1) (t .cycle .0) (t .count) ≡ true
-      → unbroken upd546 rom sched (n + 1) s .number ≡ none
-      → (instruction (getD rom to 0) ≡ chip.tit → ⊥) → u .core .interrupt .inte ≡ 1
+pub record OfEveryFall (sheet : Sheet) (rom sched : List ℕ) (n to : ℕ) (s : State) : Type 0 where
+  pub number : unbroken (chip sheet) rom sched n s .number ≡ none
+  pub cycles : unbroken (chip sheet) rom sched n s .cycles ≡ n
+  pub pc : unbroken (chip sheet) rom sched n s .state .core .flow .pc ≡ to
+  pub int : unbroken (chip sheet) rom sched n s .state .core .interrupt .int ≡ 1
+  pub inte : unbroken (chip sheet) rom sched n s .state .core .interrupt .inte ≡ s .core .interrupt .inte
+  pub held : accepts (unbroken (chip sheet) rom sched n s .state .core) ≡ false
+  pub accepted : (t u : State) (r : Ran State) → t ≡ unbroken (chip sheet) rom sched n s .state
+      → u ≡ unbroken (chip sheet) rom sched (n + 1) s .state
+      → r ≡ unbroken (chip sheet) rom sched (n + 1 + u .core .owed + 1) s
+      → noReset sched (1 + u .core .owed + 1) (t .cycle .0) (t .count) ≡ true
+      → unbroken (chip sheet) rom sched (n + 1) s .number ≡ none
+      → (instruction (getD rom to 0) ≡ codes.tit → ⊥) → u .core .interrupt .inte ≡ 1
       → (u .core .mark ≡ 1 → ⊥) → (u .core .mark ≡ 2 → ⊥) → (u .core .mark ≡ 4 → ⊥)
       → (r .number ≡ none) × (r .state .core .flow .pc ≡ 0x03C) × (getD (r .state .core .flow .stack) 0 0 ≡ u .core .flow .pc)
       × (r .state .core .interrupt .inte ≡ 0)
@@ -167,37 +171,43 @@ pub record Widths (s : State) : Type 0 where
 abbrev pub jumped : ℕ → State → Ran State
 jumped j s = record { state = stateAfterJump j s; bytes = []; cycles = j; begun = j; number = none }
 
-pub record CycleFacts : Type 0 where
+pub record CycleFacts (sheet : Sheet) : Type 0 where
   pub ports : (l : Lines) (latches : List ℕ) → OfEveryPort l latches
   pub marks : (c : Core) → OfEveryMark c
-  pub li : (rom sched : List ℕ) (k : ℕ) (s : State) → s .core .owed ≡ 0 → s .core .mark ≡ 4 → Stand rom chip.li k (s .core .flow .pc)
+  pub li : (rom sched : List ℕ) (k : ℕ) (s : State) → s .core .owed ≡ 0 → s .core .mark ≡ 4 → Stand sheet rom codes.li k (s .core .flow .pc)
       → noReset sched (1 * k) (s .cycle .0) (s .count) ≡ true
-      → OfEveryString k (1 * k) (past (1 * k) (s .core .flow .pc)) s (unbroken upd546 rom sched (1 * k) s)
-  pub ldi : (rom sched : List ℕ) (k : ℕ) (s : State) → s .core .owed ≡ 0 → s .core .mark ≡ 1 → Stand rom chip.ldi k (s .core .flow .pc)
+      → OfEveryString k (1 * k) (past (1 * k) (s .core .flow .pc)) s (unbroken (chip sheet) rom sched (1 * k) s)
+  pub ldi : (rom sched : List ℕ) (k : ℕ) (s : State) → s .core .owed ≡ 0 → s .core .mark ≡ 1
+      → Stand sheet rom codes.ldi k (s .core .flow .pc)
       → noReset sched (2 * k) (s .cycle .0) (s .count) ≡ true
-      → OfEveryString k (2 * k) (past (2 * k) (s .core .flow .pc)) s (unbroken upd546 rom sched (2 * k) s)
-  pub li-falls : (rom sched : List ℕ) (k m : ℕ) (s : State) → s .core .owed ≡ 0 → s .core .interrupt .int ≡ 0
-      → Stand rom chip.li k (s .core .flow .pc) → m < 1 * k → FallsIn sched s m
+      → OfEveryString k (2 * k) (past (2 * k) (s .core .flow .pc)) s (unbroken (chip sheet) rom sched (2 * k) s)
+  pub li-falls : (rom sched : List ℕ) (k m : ℕ) (s : State) → sheetNumber sheet ≡ 0 → s .core .owed ≡ 0 → s .core .interrupt .int ≡ 0
+      → Stand sheet rom codes.li k (s .core .flow .pc) → m < 1 * k → FallsIn sched s m
       → noReset sched (1 * k) (s .cycle .0) (s .count) ≡ true
-      → OfEveryFall rom sched (1 * k) (past (1 * k) (s .core .flow .pc)) s
-  pub ldi-falls : (rom sched : List ℕ) (k m : ℕ) (s : State) → s .core .owed ≡ 0 → s .core .interrupt .int ≡ 0
-      → Stand rom chip.ldi k (s .core .flow .pc) → m < 2 * k → FallsIn sched s m
+      → OfEveryFall sheet rom sched (1 * k) (past (1 * k) (s .core .flow .pc)) s
+  pub ldi-falls : (rom sched : List ℕ) (k m : ℕ) (s : State) → sheetNumber sheet ≡ 0 → s .core .owed ≡ 0 → s .core .interrupt .int ≡ 0
+      → Stand sheet rom codes.ldi k (s .core .flow .pc) → m < 2 * k → FallsIn sched s m
       → noReset sched (2 * k) (s .cycle .0) (s .count) ≡ true
-      → OfEveryFall rom sched (2 * k) (past (2 * k) (s .core .flow .pc)) s
-  pub tm : (rom sched : List ℕ) (s : State) (i k : ℕ) → StmDue rom sched s i → withoutStm rom sched k (unbroken upd546 rom sched 2 s .state) ≡ true
-      → OfEveryStm i k (unbroken upd546 rom sched (2 + k) s)
+      → OfEveryFall sheet rom sched (2 * k) (past (2 * k) (s .core .flow .pc)) s
+  pub tm : (rom sched : List ℕ) (s : State) (i k : ℕ) → StmDue sheet rom sched s i
+      → withoutStm sheet rom sched k (unbroken (chip sheet) rom sched 2 s .state) ≡ true
+      → OfEveryStm i k (unbroken (chip sheet) rom sched (2 + k) s)
   -- `accepted-valid`, `valid-accepted`, `cycle-keeps`, `begins-one`
-  pub accepted : (s : State) → stateNumber s ≡ 0 → Widths s
-  pub valid : (s : State) → Valid s → stateNumber s ≡ 0
-  pub keeps : (rom sched : List ℕ) (s t : State) (w : List ℕ) (b : ℕ) → Bytes rom → Bytes sched → panelNumber rom sched ≡ 0 → Valid s
-      → s .cycle .0 < 281474976710655 → cycle rom sched s ≡ went t w b
+  pub accepted : (s : State) → stateNumber sheet s ≡ 0 → Widths s
+  pub valid : (s : State) → Valid s → absentZero sheet s ≡ true → stateNumber sheet s ≡ 0
+  pub keeps : sheet .levels ≤ 3 → (rom sched : List ℕ) (s t : State) (w : List ℕ) (b : ℕ) → Bytes rom → Bytes sched
+      → scheduleNumber sched ≡ 0 → Valid s
+      → s .cycle .0 < 281474976710655 → cycle sheet rom sched s ≡ went t w b
       → Valid t × (t .cycle .0 ≡ suc (s .cycle .0)) × (length w ≤ 16)
-  pub begins-one : (rom sched : List ℕ) (s t : State) (w : List ℕ) (b : ℕ) → cycle rom sched s ≡ went t w b → b ≤ 1
+      × (drop (sheet .levels) (t .core .flow .stack) ≡ drop (sheet .levels) (s .core .flow .stack))
+      × (rowsZero sheet storedRows (s .ram) ≡ true → rowsZero sheet storedRows (t .ram) ≡ true)
+  pub begins-one : (rom sched : List ℕ) (s t : State) (w : List ℕ) (b : ℕ) → cycle sheet rom sched s ≡ went t w b → b ≤ 1
   -- `EveryCycleCountsRes`, `EveryRunCountsRes`
-  pub counts : (rom sched : List ℕ) (s t : State) (w : List ℕ) (b : ℕ) → cycle rom sched s ≡ went t w b
+  pub counts : (rom sched : List ℕ) (s t : State) (w : List ℕ) (b : ℕ) → cycle sheet rom sched s ≡ went t w b
       → OfEveryCount (linesAt sched (s .cycle .0)) s t w b
-  pub runs-count : (rom sched : List ℕ) (k : ℕ) (s : State) → s .count ≤ 4 → unbroken upd546 rom sched k s .cycles ≡ k
-      → ((i : ℕ) → i < k → linesAt sched (s .cycle .0 + i) .res ≡ 1) → unbroken upd546 rom sched k s .state .count ≡ min 4 (s .count + k)
+  pub runs-count : (rom sched : List ℕ) (k : ℕ) (s : State) → s .count ≤ 4 → unbroken (chip sheet) rom sched k s .cycles ≡ k
+      → ((i : ℕ) → i < k → linesAt sched (s .cycle .0 + i) .res ≡ 1)
+      → unbroken (chip sheet) rom sched k s .state .count ≡ min 4 (s .count + k)
   -- `lines-same`
   pub lines : (sched : List ℕ) (n m : ℕ) → n ≤ m → noRecord sched (n + 1) (m + 1) ≡ true → linesAt sched m ≡ linesAt sched n
   -- `register-at`, `position-at`, `tick-left`, `running-left`
@@ -206,10 +216,11 @@ pub record CycleFacts : Type 0 where
   pub tick-left : (tm k : ℕ) → tick (timerLeft tm (suc k)) ≡ timerLeft tm k
   pub running-left : (t : Timer) → 0 < t .register → t .register < 64 → t ≡ timerLeft (t .tm) (ticksLeft t)
   -- `jump-unbroken`, `jump-in-room`
-  pub jump-unbroken : (rom sched : List ℕ) (s : State) (left j : ℕ) → jumpLength rom sched s left ≡ j → (j ≡ 0 → ⊥) → Valid s
-      → unbroken upd546 rom sched j s ≡ jumped j s
-  pub jump-in-room : (rom sched : List ℕ) (s : State) (left j : ℕ) → jumpLength rom sched s left ≡ j → (j ≡ 0 → ⊥) → Valid s → (room : ℕ)
-      → within upd546 rom sched room j s ≡ jumped j s
+  pub jump-unbroken : (rom sched : List ℕ) (s : State) (left j : ℕ) → jumpLength sheet rom sched s left ≡ j → (j ≡ 0 → ⊥) → Valid s
+      → unbroken (chip sheet) rom sched j s ≡ jumped j s
+  pub jump-in-room : (rom sched : List ℕ) (s : State) (left j : ℕ) → jumpLength sheet rom sched s left ≡ j → (j ≡ 0 → ⊥) → Valid s
+      → (room : ℕ)
+      → within (chip sheet) rom sched room j s ≡ jumped j s
 
 -- IN FIGURES: the premises of six of them, as they are met
 

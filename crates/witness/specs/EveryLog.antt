@@ -8,14 +8,16 @@ use lib.ListN.{length, take}
 use Rattle.runs.specs.declared.Version.the-variants.{Two}
 use Rattle.runs.specs.Machine.{Machine}
 use Rattle.runs.specs.TwoRunners.{unbroken, runNumber}
-use Rattle.runs.specs.Laws.{Bytes, Panel, NumberLaws, Laws}
+use Rattle.runs.specs.Laws.{Bytes, Panel, JumpLaws, NumberLaws, Laws}
 use Rattle.runs.specs.EveryRun.{EveryRunCountsWithin}
 use Rattle.runs.specs.Lists.{Kind, Call, run, refusal, notRefused, Meant, asked, EveryListEndsAsOneRun}
 use Rattle.upd546.specs.declared.State.{State}
+use Rattle.upd546.specs.declared.Sheet.{Sheet}
 use Rattle.upd546.specs.Bytes.{bytesOf}
+use Rattle.upd546.specs.TheSheet.{upd546Sheet}
 use Rattle.upd546.specs.StateImage.{imageOf, stateNumber}
 use Rattle.upd546.specs.TheLineSchedule.{scheduleNumber}
-use Rattle.upd546.specs.TwoRunners.{upd546}
+use Rattle.upd546.specs.TwoRunners.{chip, upd546}
 use Rattle.laws.specs.Records.{EveryRunWritesRecords}
 use Rattle.calls.specs.Call.{BoardCall}
 use Rattle.calls.specs.Lists.{callsNotRefused, OnOneImage, callLogs, callsAsk}
@@ -63,39 +65,47 @@ EveryParts =
 
 -- `EveryListReportsAsOneRun`, for all cycles up to the limit. On each landing the waits of the day are then the lamps lit in the
 -- unbroken run's log.
-pub record OfEveryDay (rom sched : List ℕ) (s : State) (calls : List (Call State)) : Type 0 where
-  pub accepted : AllAccepted startOfDay (listLogs upd546 calls)
+pub record OfEveryDay (sheet : Sheet) (rom sched : List ℕ) (s : State) (calls : List (Call Sheet State)) : Type 0 where
+  pub accepted : AllAccepted startOfDay (listLogs chip calls)
   pub waits : (i : ℕ) → i < 4
-      → waitsOf (carriedOn startOfDay (listLogs upd546 calls)) i ≡ lampsLit 0 i (unbroken upd546 rom sched (asked upd546 (notRefused upd546 calls)) s .bytes)
+      → waitsOf (carriedOn startOfDay (listLogs chip calls)) i
+      ≡ lampsLit 0 i (unbroken (chip sheet) rom sched (asked chip (notRefused chip calls)) s .bytes)
 
 abbrev pub EveryDay : Type 0
 EveryDay =
-    (rom sched : List ℕ) (s : State) (calls : List (Call State)) → Panel upd546 rom sched → stateNumber s ≡ 0 → Meant upd546 rom sched s calls
-    → s .cycle .0 + asked upd546 (notRefused upd546 calls) ≤ 281474976710655 → OfEveryDay rom sched s calls
+    (sheet : Sheet) (rom sched : List ℕ) (s : State) (calls : List (Call Sheet State)) → Panel (chip sheet) rom sched
+    → stateNumber sheet s ≡ 0 → Meant chip sheet rom sched s calls
+    → s .cycle .0 + asked chip (notRefused chip calls) ≤ 281474976710655 → OfEveryDay sheet rom sched s calls
 
--- the same of any machine, by what is promised of its lists, of the counts of its runs and of their log records
-abbrev pub AnyDay : {S : Type 0} → Machine S → Type 0
-AnyDay {S} M =
-    EveryListEndsAsOneRun M → EveryRunCountsWithin M → EveryRunWritesRecords M → (rom sched : List ℕ) (s : S) (calls : List (Call S)) → Panel M rom sched → M .stateNumber s ≡ 0 → Meant M rom sched s calls
-    → M .at s + asked M (notRefused M calls) ≤ 281474976710655 → ReportsAsOneRun M rom sched s calls
+-- the same of any machines, one for each sheet, by what is promised of their lists, of the counts of their runs and of their log records
+abbrev pub AnyDay : {A S : Type 0} → (A → Machine S) → Type 0
+AnyDay {A} {S} M =
+    EveryListEndsAsOneRun M → ((sheet : A) → EveryRunCountsWithin (M sheet)) → ((sheet : A) → EveryRunWritesRecords (M sheet))
+    → (sheet : A) (rom sched : List ℕ) (s : S) (calls : List (Call A S)) → Panel (M sheet) rom sched → M sheet .stateNumber s ≡ 0
+    → Meant M sheet rom sched s calls → M sheet .at s + asked M (notRefused M calls) ≤ 281474976710655
+    → ReportsAsOneRun M sheet rom sched s calls
 
 -- `EveryListOfCallsReportsAsOneRun`: the same of the log bytes that the board gets
-pub record OfEveryCallDay (rom sched : List ℕ) (s : State) (cs : List BoardCall) : Type 0 where
-  pub accepted : AllAccepted startOfDay (callLogs upd546 cs)
-  pub waits : (i : ℕ) → i < 4 → waitsOf (carriedOn startOfDay (callLogs upd546 cs)) i ≡ lampsLit 0 i (unbroken upd546 rom sched (callsAsk cs) s .bytes)
+pub record OfEveryCallDay (sheet : Sheet) (rom sched : List ℕ) (s : State) (cs : List BoardCall) : Type 0 where
+  pub accepted : AllAccepted startOfDay (callLogs chip cs)
+  pub waits : (i : ℕ) → i < 4
+      → waitsOf (carriedOn startOfDay (callLogs chip cs)) i ≡ lampsLit 0 i (unbroken (chip sheet) rom sched (callsAsk cs) s .bytes)
 
 abbrev pub EveryCallDay : Type 0
 EveryCallDay =
-    (rom sched : List ℕ) (s : State) (calls : List BoardCall) → Panel upd546 rom sched → stateNumber s ≡ 0
-    → OnOneImage upd546 rom sched (imageOf Two s) (callsNotRefused upd546 calls)
-    → s .cycle .0 + callsAsk (callsNotRefused upd546 calls) ≤ 281474976710655 → OfEveryCallDay rom sched s (callsNotRefused upd546 calls)
+    (sheet : Sheet) (rom sched : List ℕ) (s : State) (calls : List BoardCall) → Panel (chip sheet) rom sched → stateNumber sheet s ≡ 0
+    → OnOneImage chip sheet rom sched (imageOf Two s) (callsNotRefused chip calls)
+    → s .cycle .0 + callsAsk (callsNotRefused chip calls) ≤ 281474976710655 → OfEveryCallDay sheet rom sched s (callsNotRefused chip calls)
 
--- of any machine, by its laws and what is promised of its lists
-abbrev pub AnyCallDay : {S : Type 0} → Machine S → Type 0
+-- of any machines, by their laws and what is promised of their lists
+abbrev pub AnyCallDay : {S : Type 0} → (Sheet → Machine S) → Type 0
 AnyCallDay {S} M =
-    Laws M → NumberLaws M → EveryListReportsAsOneRun M → (rom sched : List ℕ) (s : S) (calls : List BoardCall) → Panel M rom sched → M .stateNumber s ≡ 0
-    → OnOneImage M rom sched (M .image Two s) (callsNotRefused M calls) → M .at s + callsAsk (callsNotRefused M calls) ≤ 281474976710655
-    → CallsReportAsOneRun M rom sched s (callsNotRefused M calls)
+    ((sheet : Sheet) → M sheet .ownNumber ≡ 0 → Laws (M sheet)) → ((sheet : Sheet) → JumpLaws (M sheet))
+    → ((sheet : Sheet) → NumberLaws (M sheet)) → EveryListReportsAsOneRun M → (sheet : Sheet) (rom sched : List ℕ) (s : S)
+    (calls : List BoardCall) → Panel (M sheet) rom sched → M sheet .stateNumber s ≡ 0
+    → OnOneImage M sheet rom sched (M sheet .image Two s) (callsNotRefused M calls)
+    → M sheet .at s + callsAsk (callsNotRefused M calls) ≤ 281474976710655
+    → CallsReportAsOneRun M sheet rom sched s (callsNotRefused M calls)
 
 -- R-4, of every seed; a ROM and a schedule may be of two
 pub record OfEverySeed (seed seed′ : ℕ) : Type 0 where
@@ -106,8 +116,9 @@ pub record OfEverySeed (seed seed′ : ℕ) : Type 0 where
       × (runNumber upd546 rom (scheduleOf seed m) s n ≡ 11 → ⊥)
       × (runNumber upd546 rom (scheduleOf seed m) s n ≡ 13 → ⊥)
       × (runNumber upd546 rom (scheduleOf seed m) s n ≡ 14 → ⊥)
-  pub taken : (m : ℕ) → m ≤ 4096 → (kind : Kind) (rom : List ℕ) (s : State) (log : List ℕ) (n : ℕ) → length rom ≡ 2000 → stateNumber s ≡ 0
-      → s .cycle .0 + n ≤ 281474976710655 → refusal upd546 (run kind rom (scheduleOf seed m) s log n) ≡ 0
+  pub taken : (m : ℕ) → m ≤ 4096 → (kind : Kind) (rom : List ℕ) (s : State) (log : List ℕ) (n : ℕ) → length rom ≡ 2000
+      → stateNumber upd546Sheet s ≡ 0
+      → s .cycle .0 + n ≤ 281474976710655 → refusal chip (run kind rom (scheduleOf seed m) s log n upd546Sheet) ≡ 0
   -- `EveryRom`
   pub rom : (sched : List ℕ) (s : State) (n : ℕ) → runNumber upd546 (romOf seed) sched s n ≡ 21 → ⊥
   -- `EveryLoad`
@@ -120,7 +131,7 @@ pub record LogFacts : Type 1 where
   pub records : (c : Carried) → OfEveryRecord c
   pub parts : EveryParts
   pub days : EveryDay
-  pub any-days : {S : Type 0} (M : Machine S) → AnyDay M
+  pub any-days : {A S : Type 0} (M : A → Machine S) → AnyDay M
   pub call-days : EveryCallDay
-  pub any-call-days : {S : Type 0} (M : Machine S) → AnyCallDay M
+  pub any-call-days : {S : Type 0} (M : Sheet → Machine S) → AnyCallDay M
   pub seeds : (seed seed′ : ℕ) → OfEverySeed seed seed′

@@ -6,6 +6,7 @@ use lib.ListN.{set, take, replicate}
 use Rattle.runs.specs.declared.Version.the-variants.{One, Two}
 use Rattle.runs.specs.TwoRunners.{saveAnswer, restoreAnswer}
 use Rattle.runs.specs.Versions.{convertAnswer}
+use Rattle.upd546.specs.TheSheet.{upd546Sheet}
 use Rattle.upd546.specs.StateImage.{imageOf, stateNumber, versionNumber}
 use Rattle.upd546.specs.TwoRunners.{upd546}
 use Rattle.laws.specs.Images.{ImageOfSome}
@@ -35,14 +36,14 @@ pub record ImageFigures : Type 0 where
   pub restored-saves-one : saveAnswer upd546 One (restoreAnswer upd546 wantedOld .state) (replicate 83 9)
       ≡ record { number = 0; buffer = wantedOld ++ (9 ∷ 9 ∷ []) }
   -- `AcceptedExactly`
-  pub accepted : ImageOfSome wantedImage
-  pub accepted-state : stateNumber (accepted .state) ≡ 0
+  pub accepted : ImageOfSome upd546Sheet wantedImage
+  pub accepted-state : stateNumber upd546Sheet (accepted .state) ≡ 0
   pub accepted-version : versionNumber Two (accepted .state) ≡ 0
   pub accepted-bytes : wantedImage ≡ imageOf Two (accepted .state)
-  pub accepted-old : ImageOfSome wantedOld
+  pub accepted-old : ImageOfSome upd546Sheet wantedOld
   pub old-version : versionNumber One (accepted-old .state) ≡ 0
   pub old-bytes : wantedOld ≡ imageOf One (accepted-old .state)
-  pub not-accepted : ImageOfSome damaged → ⊥
+  pub not-accepted : ImageOfSome upd546Sheet damaged → ⊥
   -- `EveryVersionOneImageComesBack`
   pub forward : saveAnswer upd546 Two (restoreAnswer upd546 wantedOld .state) (replicate 82 9) .number ≡ 0
   pub taken : restoreAnswer upd546 forth ≡ restoreAnswer upd546 wantedOld

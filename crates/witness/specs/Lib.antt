@@ -9,3 +9,4 @@ pub mod Loads
 pub mod EveryLog
 pub mod EveryCycle
 pub mod EveryCall
+pub mod Sheets

@@ -6,9 +6,11 @@ use lib.ListN.{length, replicate}
 use Rattle.runs.specs.declared.Version.the-variants.{Two}
 use Rattle.runs.specs.Lists.{plainOne, skippingOne, Call, save, notRefused, last, runs, joinedLog, AllFinish, asked, Slice, sliceCalls}
 use Rattle.upd546.specs.declared.State.{State}
+use Rattle.upd546.specs.declared.Sheet.{Sheet}
 use Rattle.upd546.specs.TheMachine.{fresh}
+use Rattle.upd546.specs.TheSheet.{upd546Sheet}
 use Rattle.upd546.specs.BenchCases.{romAt}
-use Rattle.upd546.specs.TwoRunners.{upd546}
+use Rattle.upd546.specs.TwoRunners.{chip}
 
 -- STM 80, TTM and a JCP back to it, IA, OE
 abbrev pub rom : List ℕ
@@ -26,12 +28,12 @@ slices =
     ∷ record { kind = skippingOne; log = replicate 240 0; n = 15; buffer = replicate 82 1 }
     ∷ []
 
-abbrev pub calls : List (Call State)
-calls = sliceCalls upd546 rom sched fresh slices
+abbrev pub calls : List (Call Sheet State)
+calls = sliceCalls chip upd546Sheet rom sched fresh slices
 
 -- a refused save before them
-abbrev pub withRefused : List (Call State)
-withRefused = save Two fresh [] ∷ calls
+abbrev pub withRefused : List (Call Sheet State)
+withRefused = save Two fresh [] upd546Sheet ∷ calls
 
 -- 5 to E at cycle 70
 abbrev pub wantedLog : List ℕ
@@ -39,9 +41,9 @@ wantedLog = 0 ∷ 0 ∷ 0 ∷ 0 ∷ 0 ∷ 70 ∷ 4 ∷ 5 ∷ []
 
 pub record SliceFigures : Type 0 where
   -- `none-refused`, `ends`, `asks`, `among`
-  pub all-carried-out : length (notRefused upd546 calls) ≡ 9
-  pub log : joinedLog (runs upd546 calls) ≡ wantedLog
-  pub cycle : last upd546 fresh calls .cycle .0 ≡ 75
-  pub all-finish : AllFinish (runs upd546 calls)
-  pub asks : asked upd546 calls ≡ 75
-  pub among : joinedLog (runs upd546 withRefused) ≡ wantedLog
+  pub all-carried-out : length (notRefused chip calls) ≡ 9
+  pub log : joinedLog (runs chip calls) ≡ wantedLog
+  pub cycle : last chip fresh calls .cycle .0 ≡ 75
+  pub all-finish : AllFinish (runs chip calls)
+  pub asks : asked chip calls ≡ 75
+  pub among : joinedLog (runs chip withRefused) ≡ wantedLog

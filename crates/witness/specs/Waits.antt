@@ -8,10 +8,12 @@ use Rattle.runs.specs.declared.Version.the-variants.{One, Two}
 use Rattle.runs.specs.Lists.{plainOne, skippingOne, Call, run, save, restore, runAnswer}
 use Rattle.runs.specs.TwoRunners.{saveAnswer, restoreAnswer}
 use Rattle.upd546.specs.declared.State.{State}
+use Rattle.upd546.specs.declared.Sheet.{Sheet}
 use Rattle.upd546.specs.TheMachine.{fresh}
+use Rattle.upd546.specs.TheSheet.{upd546Sheet}
 use Rattle.upd546.specs.StateImage.{imageOf}
 use Rattle.upd546.specs.BenchCases.{romAt}
-use Rattle.upd546.specs.TwoRunners.{upd546}
+use Rattle.upd546.specs.TwoRunners.{chip, upd546}
 use Rattle.calls.specs.Call.{BoardCall, callAnswer}
 use Rattle.calls.specs.Lists.{callLogs}
 use Rattle.waiting.specs.declared.Landing.{Landing}
@@ -86,19 +88,28 @@ lit = runAnswer upd546 plainOne lampRom lampSched fresh (replicate 48 7) 3 .stat
 abbrev pub keptLit : List ℕ
 keptLit = take 82 (saveAnswer upd546 Two lit (replicate 82 9) .buffer)
 
-abbrev pub lampCalls : List (Call State)
+abbrev pub lampCalls : List (Call Sheet State)
 lampCalls =
-    run plainOne lampRom lampSched fresh (replicate 48 7) 3
-    ∷ save One lit (replicate 81 9)
-    ∷ save Two lit (replicate 82 9)
-    ∷ restore []
-    ∷ restore keptLit
-    ∷ run skippingOne lampRom lampSched (restoreAnswer upd546 keptLit .state) (replicate 144 0) 9
+    run plainOne lampRom lampSched fresh (replicate 48 7) 3 upd546Sheet
+    ∷ save One lit (replicate 81 9) upd546Sheet
+    ∷ save Two lit (replicate 82 9) upd546Sheet
+    ∷ restore [] upd546Sheet
+    ∷ restore keptLit upd546Sheet
+    ∷ run skippingOne lampRom lampSched (restoreAnswer upd546 keptLit .state) (replicate 144 0) 9 upd546Sheet
     ∷ []
 
 -- the same by the board's call, on an image
 abbrev pub lampCall : (image log : List ℕ) → (n runner : ℕ) → BoardCall
-lampCall image log n runner = record { image = image; rom = lampRom; sched = lampSched; log = log; n = n; runner = runner; report = replicate 32 9 }
+lampCall image log n runner = record {
+  image = image;
+  rom = lampRom;
+  sched = lampSched;
+  log = log;
+  n = n;
+  runner = runner;
+  report = replicate 32 9;
+  sheet = upd546Sheet;
+}
 
 abbrev pub firstLamp : BoardCall
 firstLamp = lampCall (imageOf Two fresh) (replicate 48 7) 3 0
@@ -157,8 +168,8 @@ pub record WaitFigures : Type 0 where
   pub parts-42 : partRead (partsRead noParts (wide ∷ [])) coming ≡ refusedWith 42
   pub parts-41 : partRead (partsRead noParts (wide ∷ [])) (take 5 coming) ≡ refusedWith 41
   -- `EveryListReportsAsOneRun`: the wait that the power cut falls into is there, as long as the reset made it, and the next one too
-  pub accepted : AllAccepted startOfDay (listLogs upd546 lampCalls)
-  pub day : carriedOn startOfDay (listLogs upd546 lampCalls) ≡ wantedDay
+  pub accepted : AllAccepted startOfDay (listLogs chip lampCalls)
+  pub day : carriedOn startOfDay (listLogs chip lampCalls) ≡ wantedDay
   -- `EveryListOfCallsReportsAsOneRun`: the same of what the board gets
-  pub board-accepted : AllAccepted startOfDay (callLogs upd546 (firstLamp ∷ secondLamp ∷ []))
-  pub board-day : carriedOn startOfDay (callLogs upd546 (firstLamp ∷ secondLamp ∷ [])) ≡ wantedDay
+  pub board-accepted : AllAccepted startOfDay (callLogs chip (firstLamp ∷ secondLamp ∷ []))
+  pub board-day : carriedOn startOfDay (callLogs chip (firstLamp ∷ secondLamp ∷ [])) ≡ wantedDay

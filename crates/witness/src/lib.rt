@@ -1,6 +1,7 @@
-// Uses the theorems, so that no clause of theirs can be lost unseen: in specs/ a list of calls, a list of slices, an image and a log
-// with what the theorems have to say of them, a figure or a plain fact for each clause; the theorems a second time, at variables, so
-// that none can hold of fewer arguments; and a function that makes the calls of two slices, and ends as one unbroken run.
+// Uses the theorems, so that no clause of theirs can be lost unseen: in specs/ lists of calls, one of them with sheets that differ, a
+// list of slices, an image and a log with what the theorems have to say of them, a figure or a plain fact for each clause; the theorems
+// a second time, at variables, so that none can hold of fewer arguments or sheets; and a function that makes the calls of two slices,
+// and ends as one unbroken run.
 // It may not know how a run, a save or a restore goes, nor how a theorem is proved: only definitions, contracts and theorems.
 use driver::KeptMachine;
 use driver::Report;
@@ -8,6 +9,7 @@ use driver::Runner;
 use runs::MachineCycles;
 use runs::Outcome;
 use runs::Version;
+use upd546::Sheet;
 use upd546::State;
 use upd546::layout::IMAGE_LENGTH;
 ghost use Rattle.driver.specs.Lending.{runnerKind};
@@ -36,15 +38,25 @@ fn one_slice(
     log: &mut [u8],
     at: usize,
     n: MachineCycles,
+    sheet: Sheet,
 ) -> SliceEnd
-    ensures { λ r. ⌜ OneSlice (runnerKind kind) (now (rom .entry)) (now (sched .entry)) s (now (log .entry)) at (n .0) r (now (log .exit)) ⌝ }
+    ensures { λ r. ⌜ OneSlice sheet (runnerKind kind) (now (rom .entry)) (now (sched .entry)) s (now (log .entry)) at (n .0) r (now (log .exit)) ⌝ }
 {
-    let answer = driver::advance_from(KeptMachine { state: s }, kind, rom, sched, log, at, n);
+    let answer = driver::advance_from(
+        KeptMachine { state: s },
+        kind,
+        rom,
+        sched,
+        log,
+        at,
+        n,
+        sheet,
+    );
     let machine = answer.machine;
     let report = answer.report;
     let mut bytes = [0u8; IMAGE_LENGTH];
-    let saved = save::save(machine.state, Version::Two, &mut bytes);
-    let back = restore::restore(&bytes);
+    let saved = save::save(machine.state, Version::Two, &mut bytes, sheet);
+    let back = restore::restore(&bytes, sheet);
     let restored = back.outcome;
     let state = back.state;
     SliceEnd {
@@ -63,12 +75,13 @@ pub fn two_slices(
     log: &mut [u8],
     n: MachineCycles,
     m: MachineCycles,
+    sheet: Sheet,
 ) -> DayEnd
-    ensures { λ r. ⌜ TwoSlices (now (rom .entry)) (now (sched .entry)) s (now (log .entry)) (n .0) (m .0) r (now (log .exit)) ⌝ }
+    ensures { λ r. ⌜ TwoSlices sheet (now (rom .entry)) (now (sched .entry)) s (now (log .entry)) (n .0) (m .0) r (now (log .exit)) ⌝ }
 {
-    let first = one_slice(s, Runner::Plain, rom, sched, log, 0, n);
+    let first = one_slice(s, Runner::Plain, rom, sched, log, 0, n, sheet);
     let report = first.report;
     let at = report.written;
-    let second = one_slice(first.state, Runner::Skipping, rom, sched, log, at, m);
+    let second = one_slice(first.state, Runner::Skipping, rom, sched, log, at, m, sheet);
     DayEnd { first, second }
 }

@@ -30,7 +30,8 @@ returns c =
     let w = at-outcome .outcome .given in
     let same = sym (ap (λ (o : Outcome). restoreOf (record { outcome = o; state = at-restore .restore-current .result .state })) (w .1)) ∙ at-restore .restore-current .ensures in
     c .refused .ensures (now (a .log))
-    ∙ refused-image (chip (a .sheet)) (refusalNumber (w .0 .0)) _ (kindOf (a .runner)) (now (a .image)) (now (a .rom)) (now (a .schedule)) (now (a .log)) (a .n)
+    ∙ refused-image (chip (a .sheet)) (refusalNumber (w .0 .0)) _ (kindOf (a .runner)) (now (a .image)) (now (a .rom)) (now (a .schedule))
+    (now (a .log)) (a .n)
     (refusal-some (w .0 .0)) same
 
 enum-told : tie.Need-enum-told
@@ -52,8 +53,10 @@ returns-2 c =
     let state = at-restore .restore-current .result .state in
     let same = sym (ap (λ (o : Outcome). restoreOf (record { outcome = o; state = state })) (at-told .enum-told .given .1)) ∙ at-restore .restore-current .ensures in
     at-run .run-plain .ensures
-    ∙ ap (λ (k : Kind). runAnswer (chip (a .sheet)) k (now (a .rom)) (now (a .schedule)) state (now (a .log)) (a .n)) (plain-kind (a .runner) (at-if .if1 .taken))
-    ∙ done-image (chip (a .sheet)) state (kindOf (a .runner)) (now (a .image)) (now (a .rom)) (now (a .schedule)) (now (a .log)) (a .n) same
+    ∙ ap (λ (k : Kind). runAnswer (chip (a .sheet)) k (now (a .rom)) (now (a .schedule)) state (now (a .log)) (a .n))
+    (plain-kind (a .runner) (at-if .if1 .taken))
+    ∙ done-image (chip (a .sheet)) state (kindOf (a .runner)) (now (a .image)) (now (a .rom)) (now (a .schedule)) (now (a .log)) (a .n)
+    same
 
 run-skipping-requires : tie.Need-run-skipping-requires
 run-skipping-requires c κs = search needs
@@ -71,8 +74,10 @@ returns-3 c =
     let state = at-restore .restore-current .result .state in
     let same = sym (ap (λ (o : Outcome). restoreOf (record { outcome = o; state = state })) (at-told .enum-told .given .1)) ∙ at-restore .restore-current .ensures in
     at-run .run-skipping .ensures
-    ∙ ap (λ (k : Kind). runAnswer (chip (a .sheet)) k (now (a .rom)) (now (a .schedule)) state (now (a .log)) (a .n)) (skipping-kind (a .runner) (at-if .if1 .left))
-    ∙ done-image (chip (a .sheet)) state (kindOf (a .runner)) (now (a .image)) (now (a .rom)) (now (a .schedule)) (now (a .log)) (a .n) same
+    ∙ ap (λ (k : Kind). runAnswer (chip (a .sheet)) k (now (a .rom)) (now (a .schedule)) state (now (a .log)) (a .n))
+    (skipping-kind (a .runner) (at-if .if1 .left))
+    ∙ done-image (chip (a .sheet)) state (kindOf (a .runner)) (now (a .image)) (now (a .rom)) (now (a .schedule)) (now (a .log)) (a .n)
+    same
 
 pub run-image-spec : {M : Type 1} → statement M
 run-image-spec =

@@ -26,7 +26,16 @@ returns c =
     let at-call = c .before .before .before .before .before .before in
     let at-fresh = at-call .before .before .before .before .before .before in
     let a = at-fresh .before .before .before .before .before .before .before .args in
-    let given : BoardCall = record { image = now (a .image); rom = now (a .rom); sched = now (a .schedule); log = now (a .log); n = a .n; runner = a .runner; report = now (a .report) } in
+    let given : BoardCall = record {
+      image = now (a .image);
+      rom = now (a .rom);
+      sched = now (a .schedule);
+      log = now (a .log);
+      n = a .n;
+      runner = a .runner;
+      report = now (a .report);
+      sheet = record { rom = a .rom-bytes; rows = a .rows; levels = a .levels };
+    } in
     first-call given (at-fresh .wharfnettle-fresh .ensures) (at-call .wharfnettle-call .ensures)
 
 pub first-call-spec : {M : Type 1} → statement M

@@ -26,7 +26,16 @@ returns c =
     let at-second = c .before .before .before .before .before .before in
     let at-first = at-second .before .before .before .before .before .before .before .before .before .before in
     let a = at-first .before .before .before .before .before .before .before .before .before .args in
-    let given : BoardCall = record { image = now (a .image); rom = now (a .rom); sched = now (a .schedule); log = now (a .log); n = a .n; runner = a .runner; report = now (a .report) } in
+    let given : BoardCall = record {
+      image = now (a .image);
+      rom = now (a .rom);
+      sched = now (a .schedule);
+      log = now (a .log);
+      n = a .n;
+      runner = a .runner;
+      report = now (a .report);
+      sheet = record { rom = a .rom-bytes; rows = a .rows; levels = a .levels };
+    } in
     two-calls given (at-first .wharfnettle-call .ensures) (at-second .wharfnettle-call2 .ensures)
 
 pub two-calls-spec : {M : Type 1} → statement M

@@ -3,7 +3,7 @@ use mathlib.Core.Path.{_∙_, sym, ap}
 use denote.Ref.{now}
 use borrow.Author.Needs.{needs}
 use Rattle.runs.specs.Lists.{runAnswer}
-use Rattle.upd546.specs.TwoRunners.{upd546}
+use Rattle.upd546.specs.TwoRunners.{chip}
 use Rattle.driver.specs.Lending.{runnerKind}
 use Rattle.driver.specs.declared.Runner.{Runner}
 use Rattle.driver.proofs.advance.Statement.{statement}
@@ -40,7 +40,8 @@ returns c =
     let a = entry (at-run .before .before .before .before) .args in
     c .told .ensures _
     ∙ at-run .run-plain .ensures
-    ∙ ap (λ (k : Runner). runAnswer upd546 (runnerKind k) (now (a .rom)) (now (a .sched)) (a .machine .state) (now (a .log)) (a .n .0))
+    ∙ ap (λ (k : Runner).
+    runAnswer (chip (a .sheet)) (runnerKind k) (now (a .rom)) (now (a .sched)) (a .machine .state) (now (a .log)) (a .n .0))
     (sym (at-run .before .before .enum-told .given .1))
 
 same-length-2 : tie.Need-same-length-2
@@ -52,7 +53,8 @@ returns-2 c =
     let a = entry (at-run .before .before .before .before) .args in
     c .told2 .ensures _
     ∙ at-run .run-skipping .ensures
-    ∙ ap (λ (k : Runner). runAnswer upd546 (runnerKind k) (now (a .rom)) (now (a .sched)) (a .machine .state) (now (a .log)) (a .n .0))
+    ∙ ap (λ (k : Runner).
+    runAnswer (chip (a .sheet)) (runnerKind k) (now (a .rom)) (now (a .sched)) (a .machine .state) (now (a .log)) (a .n .0))
     (sym (at-run .before .before .enum-told2 .given .1))
 
 pub advance-spec : {M : Type 1} → statement M

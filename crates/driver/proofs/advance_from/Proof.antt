@@ -29,8 +29,10 @@ returns c =
     let at-if1 = at-call .before .before in
     let a = at-if1 .before .before .before .before .args in
     let log = now (a .log) in
-    on-part (runnerKind (a .kind)) (now (a .rom)) (now (a .sched)) (a .machine .state) (a .n .0) (length log) log (at-call .advance .result .report) (at-call .advance .result .machine) (at-call .advance .ensures)
-    ∙ past-end (runnerKind (a .kind)) (now (a .rom)) (now (a .sched)) (a .machine .state) (a .n .0) (a .at) log (at-if1 .if1 .taken)
+    on-part (runnerKind (a .kind)) (now (a .rom)) (now (a .sched)) (a .machine .state) (a .n .0) (a .sheet) (length log) log
+    (at-call .advance .result .report) (at-call .advance .result .machine) (at-call .advance .ensures)
+    ∙ past-end (runnerKind (a .kind)) (now (a .rom)) (now (a .sched)) (a .machine .state) (a .n .0) (a .sheet) (a .at) log
+    (at-if1 .if1 .taken)
 
 sub-advance-2 : tie.Need-sub-advance-2
 sub-advance-2 c = search needs
@@ -51,7 +53,8 @@ returns-2 : tie.Need-returns-2
 returns-2 c =
     let at-call = c .before .before in
     let a = at-call .before .before .before .before .before .before .args in
-    on-part (runnerKind (a .kind)) (now (a .rom)) (now (a .sched)) (a .machine .state) (a .n .0) (a .at) (now (a .log)) (at-call .advance2 .result .report) (at-call .advance2 .result .machine) (at-call .advance2 .ensures)
+    on-part (runnerKind (a .kind)) (now (a .rom)) (now (a .sched)) (a .machine .state) (a .n .0) (a .sheet) (a .at) (now (a .log))
+    (at-call .advance2 .result .report) (at-call .advance2 .result .machine) (at-call .advance2 .ensures)
 
 pub advance-from-spec : {M : Type 1} → statement M
 advance-from-spec =

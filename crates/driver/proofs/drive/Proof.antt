@@ -43,7 +43,10 @@ use Rattle.runs.specs.Lists.{runAnswer}
 use Rattle.runs.specs.declared.MachineCycles.{MachineCycles}
 use Rattle.runs.proofs.MachineCycles as Y
 use Rattle.runs.proofs.MachineCycles.Laws as Y′
-use Rattle.upd546.specs.TwoRunners.{upd546}
+use Rattle.upd546.specs.declared.Sheet.{Sheet}
+use Rattle.upd546.specs.TwoRunners.{chip}
+use Rattle.upd546.proofs.Sheet as E
+use Rattle.upd546.proofs.Sheet.Laws as E′
 use Rattle.driver.specs.Lending.{runnerKind, broughtTo}
 use Rattle.driver.specs.declared.KeptMachine.{KeptMachine}
 use Rattle.driver.specs.declared.Runner.{Runner}
@@ -67,7 +70,7 @@ use Rattle.driver.proofs.drive as drive
 use Rattle.driver.proofs.drive.Statement as stated
 use Rattle.driver.proofs.drive.Code as code
 
--- the machine values of a machine, a runner, a count and a report, as the laws of each type spell them
+-- the machine values of a machine, a runner, a count, a sheet and a report, as the laws of each type spell them
 abbrev mach : KeptMachine → Val
 mach = LL.val T.the-type T′.the-laws
 
@@ -76,6 +79,9 @@ kinds = EL.val K.the-type K′.the-laws
 
 abbrev counts : MachineCycles → Val
 counts = LL.val Y.the-type Y′.the-laws
+
+abbrev figures : Sheet → Val
+figures = LL.val E.the-type E′.the-laws
 
 abbrev shown : Report → Val
 shown = LL.val P.the-type P′.the-laws
@@ -88,6 +94,9 @@ kindS = plain (λ _. K.the-row)
 
 abbrev countS : Slot 4
 countS = plain (λ _. Y.the-row)
+
+abbrev sheetS : Slot 4
+sheetS = plain (λ _. E.the-row)
 
 abbrev MachineS : Slot 4
 MachineS = plain (λ _. T.the-row)
@@ -104,7 +113,7 @@ stayed = (
         stay-dropped (shrSliceOf (2 ∷ []) tt u8S) yes,
         (
           gave-slice (3 ∷ []) tt u8S,
-          (stay-dropped countS yes, tt),
+          (stay-dropped countS yes, (stay-dropped sheetS yes, tt)),
         ),
       ),
     ),
@@ -117,21 +126,21 @@ Forward 𝓤 H A at-mem runs = tripleOf 𝓤 H A advance.signature (advance.spec
 
 module _ {M : Type 1} (𝓤 : URA M) (H : Heap 𝓤) (A : Atoms 𝓤) (W : Given 𝓤 H A) (at-mem : Memory → SProp 𝓤) (runs : Routine → Fun 𝓤)
     (κ κ₁ κ₂ κ₃ : Lft) (bounds : AllOutlive 4 (drive.signature .outlives) (κ, (κ₁, (κ₂, (κ₃, tt))))) (q q₁ q₂ q₃ : Share)
-    (b o : ℕ) (γ : GName) (h : KeptMachine) (k : Runner) (x₁ x₂ x₃ : RefT (List ℕ)) (n : MachineCycles) where
+    (b o : ℕ) (γ : GName) (h : KeptMachine) (k : Runner) (x₁ x₂ x₃ : RefT (List ℕ)) (n : MachineCycles) (sheet : Sheet) where
   abbrev R : RattleType
   R = T.the-row
 
   abbrev Arg : Type 0
-  Arg = RefT KeptMachine × (Runner × (RefT (List ℕ) × (RefT (List ℕ) × (RefT (List ℕ) × (MachineCycles × Unit {0})))))
+  Arg = RefT KeptMachine × (Runner × (RefT (List ℕ) × (RefT (List ℕ) × (RefT (List ℕ) × (MachineCycles × (Sheet × Unit {0}))))))
 
   abbrev a : Arg
-  a = (record { ptr = (b, o); name = γ; now = h }, (k, (x₁, (x₂, (x₃, (n, tt))))))
+  a = (record { ptr = (b, o); name = γ; now = h }, (k, (x₁, (x₂, (x₃, (n, (sheet, tt)))))))
 
   abbrev Vals : Type 0
-  Vals = List Val × (List Val × (List Val × (List Val × (List Val × (List Val × Unit {0})))))
+  Vals = List Val × (List Val × (List Val × (List Val × (List Val × (List Val × (List Val × Unit {0}))))))
 
   abbrev vals : Vals
-  vals = (vptr b o ∷ [], (kinds k ∷ [], (slice-vals x₁, (slice-vals x₂, (slice-vals x₃, (counts n ∷ [], tt))))))
+  vals = (vptr b o ∷ [], (kinds k ∷ [], (slice-vals x₁, (slice-vals x₂, (slice-vals x₃, (counts n ∷ [], (figures sheet ∷ [], tt)))))))
 
   abbrev s : RefT (List ℕ) → Val
   s x = sliceVal (x .ptr) (length (x .now))
@@ -147,19 +156,19 @@ module _ {M : Type 1} (𝓤 : URA M) (H : Heap 𝓤) (A : Atoms 𝓤) (W : Given
 
   abbrev Rest : Fml
   Rest =
-      owns (K.the-row ∷ ShrSlice (named 1) κ₁ u8 ∷ ShrSlice (named 2) κ₂ u8 ∷ MutSlice (named 3) κ₃ u8 ∷ Y.the-row ∷ [])
-      (k, (x₁, (x₂, (x₃, (n, tt)))))
-      (kinds k ∷ [], (slice-vals x₁, (slice-vals x₂, (slice-vals x₃, (counts n ∷ [], tt)))))
+      owns (K.the-row ∷ ShrSlice (named 1) κ₁ u8 ∷ ShrSlice (named 2) κ₂ u8 ∷ MutSlice (named 3) κ₃ u8 ∷ Y.the-row ∷ E.the-row ∷ [])
+      (k, (x₁, (x₂, (x₃, (n, (sheet, tt))))))
+      (kinds k ∷ [], (slice-vals x₁, (slice-vals x₂, (slice-vals x₃, (counts n ∷ [], (figures sheet ∷ [], tt))))))
 
   -- what `advance` is passed, and what its triple binds outside
   abbrev Passed : Type 0
-  Passed = KeptMachine × (Runner × (RefT (List ℕ) × (RefT (List ℕ) × (RefT (List ℕ) × (MachineCycles × Unit {0})))))
+  Passed = KeptMachine × (Runner × (RefT (List ℕ) × (RefT (List ℕ) × (RefT (List ℕ) × (MachineCycles × (Sheet × Unit {0}))))))
 
   abbrev passed : Passed
-  passed = (h, (k, (x₁, (x₂, (x₃, (n, tt))))))
+  passed = (h, (k, (x₁, (x₂, (x₃, (n, (sheet, tt)))))))
 
   abbrev passed-vals : Vals
-  passed-vals = (mach h ∷ [], (kinds k ∷ [], (slice-vals x₁, (slice-vals x₂, (slice-vals x₃, (counts n ∷ [], tt))))))
+  passed-vals = (mach h ∷ [], (kinds k ∷ [], (slice-vals x₁, (slice-vals x₂, (slice-vals x₃, (counts n ∷ [], (figures sheet ∷ [], tt)))))))
 
   abbrev to-advance : Forward 𝓤 H A at-mem runs .Ghost
   to-advance = (((κ₁, (κ₂, (κ₃, tt))), (q₁, (q₂, (q₃, tt))), tt, passed, passed-vals), tt)
@@ -171,7 +180,7 @@ module _ {M : Type 1} (𝓤 : URA M) (H : Heap 𝓤) (A : Atoms 𝓤) (W : Given
 
   -- what `advance` says of its answer and of the log
   abbrev Said : DriveAnswer → List ℕ → Type 0
-  Said r zs = broughtTo (r .report) (r .machine) zs ≡ runAnswer upd546 (runnerKind k) (now x₁) (now x₂) (h .state) (now x₃) (n .0)
+  Said r zs = broughtTo (r .report) (r .machine) zs ≡ runAnswer (chip sheet) (runnerKind k) (now x₁) (now x₂) (h .state) (now x₃) (n .0)
 
   -- an answer of `advance` with the log's last list: what is known of them, and what is left
   abbrev Z : Type 0
@@ -193,10 +202,11 @@ module _ {M : Type 1} (𝓤 : URA M) (H : Heap 𝓤) (A : Atoms 𝓤) (W : Given
       qed W (‵ (fobs γ (R .coded .code (z .0 .machine))) ∷ ‵ (fbor κ (Body (mem R) b o γ)) ∷ ‵ (flft κ q) ∷ Left z ∷ []) ∵
       suffices ! _ (ends-at 𝓤 H A drive.ended stayed (drive.clauses 𝓤 H A at-mem runs) W
       (((κ, (κ₁, (κ₂, (κ₃, tt)))), (q, (q₁, (q₂, (q₃, tt)))), bounds, a, vals), tt)
-      (shown (z .0 .report)) (z .0 .report) (z .0 .machine, (tt, (tt, (tt, (z .1, (tt, tt)))))) (tt, (tt, (tt, (tt, (e .as-long, (tt, tt))))))) $
+      (shown (z .0 .report)) (z .0 .report) (z .0 .machine, (tt, (tt, (tt, (z .1, (tt, (tt, tt)))))))
+      (tt, (tt, (tt, (tt, (e .as-long, (tt, (tt, tt)))))))) $
       says ! (e .said) $ move ! (3 ∷ []) $ split ! $
       move ! (4 ∷ 0 ∷ []) $ join ! $ frame ! $ move ! (1 ∷ 2 ∷ []) $ feqI ! (List Val) (vptr b o ∷ []) (vptr b o ∷ []) refl $ fjoin3 ! $ move ! (1 ∷ []) $
-      nothing ! $ nothing ! $ fjoin ! $ move ! (1 ∷ 0 ∷ []) $ fjoin ! $
+      nothing ! $ nothing ! $ fjoin ! $ nothing ! $ fjoin ! $ move ! (1 ∷ 0 ∷ []) $ fjoin ! $
       nothing ! $ fjoin ! $ nothing ! $ fjoin ! $ nothing ! $ fjoin ! $ move ! (1 ∷ 0 ∷ []) $ fjoin ! $ frame ! $
       owned ! P.the-row (Is P.the-row) (LL.makes P.the-type P′.the-plain 𝓤 H A) (z .0 .report) _ (e .is-report) $ done !
 
@@ -206,7 +216,7 @@ module _ {M : Type 1} (𝓤 : URA M) (H : Heap 𝓤) (A : Atoms 𝓤) (W : Given
 
   abbrev Answer : Val → Z → Type 0
   Answer w z =
-      Answers 𝓤 H A W T′.mir P′.mir K′.mir Y′.mir (pointee (R .written)) (N.struct .name) #driver·advance
+      Answers 𝓤 H A W T′.mir P′.mir K′.mir Y′.mir E′.mir (pointee (R .written)) (N.struct .name) #driver·advance
       KeptMachine (R .written) (R .reaches) (R .own) (R .exit) (R .coded)
       mach (LL.tells T.the-type T′.the-laws) (LL.makes T.the-type T′.the-plain 𝓤 H A) typed w (z .0 .machine) (shown (z .0 .report))
 
@@ -217,7 +227,7 @@ module _ {M : Type 1} (𝓤 : URA M) (H : Heap 𝓤) (A : Atoms 𝓤) (W : Given
       (Tokens ⊛ ‵ (N.the-row .own r (w ∷ [])))
       ⊛ raw (ensured 𝓤 H A advance.ended (advance.clauses 𝓤 H A at-mem runs) (κ₁, (κ₂, (κ₃, tt))) passed tt r)))) (id⊢ 𝓤 _) $
       await ! soaks $ pick ! (λ r. split ! $ move ! (1 ∷ []) $
-      use1 W (some (λ (zs : Unit {0} × (Unit {0} × (Unit {0} × (Unit {0} × (List ℕ × (Unit {0} × Unit {0})))))).
+      use1 W (some (λ (zs : Unit {0} × (Unit {0} × (Unit {0} × (Unit {0} × (List ℕ × (Unit {0} × (Unit {0} × Unit {0}))))))).
       ‵ (lasts advance.ended (κ₁, (κ₂, (κ₃, tt))) passed zs) ⊛ raw (fact 𝓤 (Said r (zs .1 .1 .1 .1 .0))))) (id⊢ 𝓤 _) $ pick ! (λ zs.
       split ! $ move ! (1 ∷ []) $ heard ! (Said r (zs .1 .1 .1 .1 .0)) (λ e.
       fsplit ! $ drop ! $ fsplit ! $ drop ! $ fsplit ! $ drop ! $ fsplit ! $ drop ! $ fsplit ! $ fsplit ! $ move ! (1 ∷ []) $ feqL ! (λ l.
@@ -235,30 +245,48 @@ module _ {M : Type 1} (𝓤 : URA M) (H : Heap 𝓤) (A : Atoms 𝓤) (W : Given
 
   module _ (C : Calls 𝓤 H) (Λ : Loops 𝓤 H) (fm : FmC 𝓤 H (W .laws) C) (known : Triple 𝓤 (C #driver·advance) (Forward 𝓤 H A at-mem runs)) where
     walk : Is K.the-row k (kinds k ∷ []) → Room u8 (length (x₁ .now)) → Room u8 (length (x₂ .now)) → Room u8 (length (x₃ .now))
-        → Is Y.the-row n (counts n ∷ [])
+        → Is Y.the-row n (counts n ∷ []) → Is E.the-row sheet (figures sheet ∷ [])
         → ent 𝓤 (onEntry 𝓤 H A drive.signature (κ, (κ₁, (κ₂, (κ₃, tt)))) (q, (q₁, (q₂, (q₃, tt)))) a vals)
-        (WpFn 𝓤 H C Λ code.function (vptr b o ∷ kinds k ∷ s x₁ ∷ s x₂ ∷ s x₃ ∷ counts n ∷ []) Post)
-    walk is-kind room₁ room₂ room₃ is-count =
+        (WpFn 𝓤 H C Λ code.function (vptr b o ∷ kinds k ∷ s x₁ ∷ s x₂ ∷ s x₃ ∷ counts n ∷ figures sheet ∷ []) Post)
+    walk is-kind room₁ room₂ room₃ is-count is-sheet =
         qed W
         ((‵ (flft κ q) ⊛ Tokens)
-        ∷ ‵ (owns (MutRef (named 0) κ R ∷ K.the-row ∷ ShrSlice (named 1) κ₁ u8 ∷ ShrSlice (named 2) κ₂ u8 ∷ MutSlice (named 3) κ₃ u8 ∷ Y.the-row ∷ []) a vals)
+        ∷ ‵ (owns
+        (MutRef (named 0) κ R ∷ K.the-row ∷ ShrSlice (named 1) κ₁ u8 ∷ ShrSlice (named 2) κ₂ u8 ∷ MutSlice (named 3) κ₃ u8 ∷ Y.the-row ∷ E.the-row
+        ∷ []) a vals)
         ∷ []) ∵
         split ! $ move ! (2 ∷ []) $ fsplit ! $ fsplit3 ! $ drop ! $ move ! (0 ∷ 1 ∷ 3 ∷ 4 ∷ 2 ∷ []) $
-        by ! (lent 𝓤 H A W T′.mir P′.mir K′.mir Y′.mir (pointee (R .written)) (N.struct .name) #driver·advance
+        by ! (lent 𝓤 H A W T′.mir P′.mir K′.mir Y′.mir E′.mir (pointee (R .written)) (N.struct .name) #driver·advance
         KeptMachine (R .written) (R .reaches) (R .own) (R .exit) (R .coded)
         mach (LL.tells T.the-type T′.the-laws) (LL.makes T.the-type T′.the-plain 𝓤 H A) typed
-        κ q b o γ h (kinds k) (s x₁) (s x₂) (counts n) (x₃ .ptr) (length (x₃ .now))
+        κ q b o γ h (kinds k) (s x₁) (s x₂) (counts n) (figures sheet) (x₃ .ptr) (length (x₃ .now))
         Tokens (‵ Rest) (Forward 𝓤 H A at-mem runs .pre to-advance) (Forward 𝓤 H A at-mem runs .post to-advance) Post
         Z (λ z. z .0 .machine) (λ z. shown (z .0 .report)) Known Left goes answers exits C Λ fm (known to-advance)
         (EL.lawful K.the-type K′.the-laws 𝓤 H A W tt .typed k _ is-kind .0)
         (tt, (tt, (record { fits = room₁ .0 }, tt))) (tt, (tt, (record { fits = room₂ .0 }, tt))) (room₃ .0)
-        (LL.lawful Y.the-type Y′.the-laws 𝓤 H A W .typed n _ is-count .0))
+        (LL.lawful Y.the-type Y′.the-laws 𝓤 H A W .typed n _ is-count .0)
+        (LL.lawful E.the-type E′.the-laws 𝓤 H A W .typed sheet _ is-sheet .0))
 
 module _ {M : Type 1} (𝓤 : URA M) (H : Heap 𝓤) (A : Atoms 𝓤) (W : Given 𝓤 H A) (at-mem : Memory → SProp 𝓤) (runs : Routine → Fun 𝓤) where
   drive-walks : (C : Calls 𝓤 H) (Λ : Loops 𝓤 H) → FmC 𝓤 H (W .laws) C → Triple 𝓤 (C #driver·advance) (Forward 𝓤 H A at-mem runs)
       → Walks 𝓤 H A drive.ended stayed (WpFn 𝓤 H C Λ code.function) (drive.clauses 𝓤 H A at-mem runs)
   drive-walks C Λ fm known = walked 𝓤 H A drive.ended stayed (drive.clauses 𝓤 H A at-mem runs) (WpFn 𝓤 H C Λ code.function)
-      (λ κs. (ptr-vals, (EL.vals K.the-type K′.the-laws, (slice-vals, (slice-vals, (slice-vals, (LL.vals Y.the-type Y′.the-laws, tt)))))))
+      (λ κs. (
+        ptr-vals,
+        (
+          EL.vals K.the-type K′.the-laws,
+          (
+            slice-vals,
+            (
+              slice-vals,
+              (
+                slice-vals,
+                (LL.vals Y.the-type Y′.the-laws, (LL.vals E.the-type E′.the-laws, tt)),
+              ),
+            ),
+          ),
+        ),
+      ))
       (λ κs. (
         mut-tells (named 0) (κs .0) T.the-row,
         (
@@ -269,7 +297,7 @@ module _ {M : Type 1} (𝓤 : URA M) (H : Heap 𝓤) (A : Atoms 𝓤) (W : Given
               shr-slice-tells (named 2) (κs .1 .1 .0) u8,
               (
                 mut-slice-tells (named 3) (κs .1 .1 .1 .0) u8,
-                (LL.tells Y.the-type Y′.the-laws, tt),
+                (LL.tells Y.the-type Y′.the-laws, (LL.tells E.the-type E′.the-laws, tt)),
               ),
             ),
           ),
@@ -278,8 +306,9 @@ module _ {M : Type 1} (𝓤 : URA M) (H : Heap 𝓤) (A : Atoms 𝓤) (W : Given
       (λ κs qs bounds a g are. via 𝓤 _ (fst∗ 𝓤 _ (emp 𝓤))
       (walk 𝓤 H A W at-mem runs (κs .0) (κs .1 .0) (κs .1 .1 .0) (κs .1 .1 .1 .0) bounds (qs .0) (qs .1 .0) (qs .1 .1 .0) (qs .1 .1 .1 .0)
       (a .0 .ptr .0) (a .0 .ptr .1) (a .0 .name) (a .0 .now) (a .1 .0) (a .1 .1 .0) (a .1 .1 .1 .0) (a .1 .1 .1 .1 .0) (a .1 .1 .1 .1 .1 .0)
-      C Λ fm known
-      (are .1 .0) (are .1 .1 .0 .0 .1) (are .1 .1 .1 .0 .0 .1) (are .1 .1 .1 .1 .0 .0 .1) (are .1 .1 .1 .1 .1 .0)))
+      (a .1 .1 .1 .1 .1 .1 .0) C Λ fm known
+      (are .1 .0) (are .1 .1 .0 .0 .1) (are .1 .1 .1 .0 .0 .1) (are .1 .1 .1 .1 .0 .0 .1) (are .1 .1 .1 .1 .1 .0)
+      (are .1 .1 .1 .1 .1 .1 .0)))
 
 drive-meets : {M : Type 1} (𝓤 : URA M) (H : Heap 𝓤) (A : Atoms 𝓤) → Given 𝓤 H A → (at-mem : Memory → SProp 𝓤) (runs : Routine → Fun 𝓤) (𝓣 : Tables 𝓤 H)
     → Triple 𝓤 (𝓣 .C #driver·advance) (Forward 𝓤 H A at-mem runs)
@@ -295,7 +324,7 @@ drive-meets 𝓤 H A W at-mem runs 𝓣 known =
             goes-dropped 𝓤 H A W 4 (shrSliceOf (2 ∷ []) tt u8S) yes (λ κs x f. refl),
             (
               goes-gave-slice 𝓤 H A W 4 3 tt u8S,
-              (goes-dropped 𝓤 H A W 4 countS yes (λ κs x f. refl), tt),
+              (goes-dropped 𝓤 H A W 4 countS yes (λ κs x f. refl), (goes-dropped 𝓤 H A W 4 sheetS yes (λ κs x f. refl), tt)),
             ),
           ),
         ),

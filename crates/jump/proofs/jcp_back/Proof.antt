@@ -1,32 +1,42 @@
 -- The byte after that at PC. Assumes nothing.
+use denote.Ref.{now}
 use Rattle.jump.proofs.Lengths.{next-past-rom, no-jcp, is-jcp-back}
 use borrow.Author.Needs.{needs}
 use Rattle.jump.proofs.jcp_back.Statement.{statement}
 use Rattle.jump.proofs.jcp_back.Tie as tie
 
--- LANDMARK: the test that the next address is in the ROM
+-- LANDMARKS: the test that the next address is in the ROM, and the entry
 abbrev in-rom : tie.After-byte-in → tie.Else1
 in-rom c = c .before
 
 abbrev follows-at : tie.Else1 → tie.After-follows
 follows-at c = c .before
 
+abbrev entry : tie.After-follows → tie.Start
+entry c = c .before .before
+
 follows-requires : tie.Need-follows-requires
 follows-requires c κs = search needs
 
+cast-if1 : tie.Need-cast-if1
+cast-if1 c = search needs
+
 returns : tie.Need-returns
-returns c =
+returns c sheet same =
     let at-follows = c .before in
-    next-past-rom _ _ (rw (at-follows .follows .ensures) at (c .if1 .taken))
+    let a = entry at-follows .args in
+    next-past-rom sheet (now (a .rom)) same (a .pc) (at-follows .follows .ensures) (c .if1 .taken)
 
 byte-in-requires : tie.Need-byte-in-requires
 byte-in-requires c κs = search needs
 
 returns-2 : tie.Need-returns-2
-returns-2 c =
+returns-2 c sheet same =
     let at-byte = c .before in
-    let f = follows-at (in-rom at-byte) .follows .ensures in
-    no-jcp _ _ (rw f at (in-rom at-byte .if1 .left)) (rw (at-byte .byte-in .ensures, f) at (c .if2 .taken))
+    let at-follows = follows-at (in-rom at-byte) in
+    let a = entry at-follows .args in
+    no-jcp sheet (now (a .rom)) same (a .pc) (at-follows .follows .ensures) (at-byte .byte-in .ensures) (in-rom at-byte .if1 .left)
+    (c .if2 .taken)
 
 mul-result : tie.Need-mul-result
 mul-result c = search needs
@@ -38,17 +48,19 @@ add-result : tie.Need-add-result
 add-result c = search needs
 
 returns-3 : tie.Need-returns-3
-returns-3 c =
+returns-3 c sheet same =
     let at-byte = c .before in
-    let f = follows-at (in-rom at-byte) .follows .ensures in
-    let b = at-byte .byte-in .ensures in
-    rw (b, f) (is-jcp-back _ _ (rw f at (in-rom at-byte .if1 .left)) (rw (b, f) at (c .if2 .left)))
+    let at-follows = follows-at (in-rom at-byte) in
+    let a = entry at-follows .args in
+    is-jcp-back sheet (now (a .rom)) same (a .pc) (at-follows .follows .ensures) (at-byte .byte-in .ensures) (in-rom at-byte .if1 .left)
+    (c .if2 .left)
 
 pub jcp-back-spec : {M : Type 1} → statement M
 jcp-back-spec =
     tie.close
     (tie.spec
     follows-requires
+    cast-if1
     returns
     byte-in-requires
     returns-2

@@ -48,7 +48,7 @@ waits-requires c κs = search needs
 returns-5 : tie.Need-returns-5
 returns-5 c =
     let at-waits = c .before in
-    loop-none (sym (at-waits .waits .ensures) ∙ not-true (at-waits .waits .result) (c .if5 .taken))
+    loop-none (λ sheet same. sym (at-waits .waits .ensures sheet same) ∙ not-true (at-waits .waits .result) (c .if5 .taken))
 
 returns-6 : tie.Need-returns-6
 returns-6 c = both-none (c .if6 .taken)
@@ -77,7 +77,7 @@ returns-8 c =
     let at-if3 = if3 at-if4 in
     let at-if2 = if2 at-if3 in
     jumps (not-false _ (if1 at-if2 .if1 .left)) (at-if4 .if4 .left) (at-if3 .if3 .left) (omega (arith, at-if2 .if2 .left)) (at-if6 .if6 .left)
-    (sym (at-waits .waits .ensures) ∙ not-false (at-waits .waits .result) (at-if5 .if5 .left)) (at-if7 .if7 .left)
+    (λ sheet same. sym (at-waits .waits .ensures sheet same) ∙ not-false (at-waits .waits .result) (at-if5 .if5 .left)) (at-if7 .if7 .left)
     (at-lesser .lesser .result) (c .even-below .result) (omega (arith, at-lesser .lesser .ensures, at-ticks-left .ticks-left .ensures)) (c .even-below .ensures)
 
 pub jump-length-spec : {M : Type 1} → statement M

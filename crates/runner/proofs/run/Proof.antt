@@ -23,7 +23,8 @@ returns c =
     let a = at-refusal .before .before .before .before .args in
     let w = at-by .by .given in
     c .refused .ensures (now (a .log))
-    ∙ tells-refused (a .skips) (now (a .rom)) (now (a .sched)) (now (a .log)) (a .s) (a .n .0) (w .0 .0) (sym (ap outcomeNumber (w .1)) ∙ at-refusal .refusal .ensures)
+    ∙ tells-refused (a .skips) (a .sheet) (now (a .rom)) (now (a .sched)) (now (a .log)) (a .s) (a .n .0) (w .0 .0)
+    (sym (ap outcomeNumber (w .1)) ∙ at-refusal .refusal .ensures)
 
 enum-told : tie.Need-enum-told
 enum-told c = search needs

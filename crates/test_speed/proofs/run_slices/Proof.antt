@@ -5,10 +5,10 @@ use Rattle.test_speed.proofs.run_slices.Statement.{statement}
 use Rattle.test_speed.proofs.run_slices.Tie as tie
 
 abbrev Inv-loop : tie.InvT-loop
-Inv-loop rom schedule runner slices n log₀ state₀ sums₀ k₀ log state sums k = Unit {0}
+Inv-loop rom schedule runner slices n sheet log₀ state₀ sums₀ k₀ log state sums k = Unit {0}
 
 abbrev μ-loop : tie.MeasureT-loop
-μ-loop rom schedule runner slices n log₀ state₀ sums₀ k₀ log state sums k = slices - k
+μ-loop rom schedule runner slices n sheet log₀ state₀ sums₀ k₀ log state sums k = slices - k
 
 fresh-state-requires : tie.Need-fresh-state-requires Inv-loop μ-loop
 fresh-state-requires c κs = search needs

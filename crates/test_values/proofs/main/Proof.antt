@@ -5,10 +5,10 @@ use Rattle.test_values.proofs.main.Statement.{statement}
 use Rattle.test_values.proofs.main.Tie as tie
 
 abbrev Inv-loop : tie.InvT-loop
-Inv-loop rom₀ schedule₀ value₀ kept₀ image₀ log₀ s₀ k₀ rom schedule value kept image log s k = k ≤ 70368744177664
+Inv-loop rom₀ schedule₀ sheet₀ value₀ kept₀ image₀ log₀ s₀ k₀ rom schedule sheet value kept image log s k = k ≤ 70368744177664
 
 abbrev μ-loop : tie.MeasureT-loop
-μ-loop rom₀ schedule₀ value₀ kept₀ image₀ log₀ s₀ k₀ rom schedule value kept image log s k = 70368744177664 - k
+μ-loop rom₀ schedule₀ sheet₀ value₀ kept₀ image₀ log₀ s₀ k₀ rom schedule sheet value kept image log s k = 70368744177664 - k
 
 buffer-requires : tie.Need-buffer-requires Inv-loop μ-loop
 buffer-requires c κs = search needs

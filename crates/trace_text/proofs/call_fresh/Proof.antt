@@ -24,6 +24,9 @@ slice-aggregate-wharfnettle-call c = search needs
 slice-aggregate-wharfnettle-call-2 : tie.Need-slice-aggregate-wharfnettle-call-2
 slice-aggregate-wharfnettle-call-2 c = search needs
 
+upd546-sheet-requires : tie.Need-upd546-sheet-requires
+upd546-sheet-requires c κs = search needs
+
 wharfnettle-call-requires : tie.Need-wharfnettle-call-requires
 wharfnettle-call-requires c κs = search needs
 
@@ -39,7 +42,8 @@ same-length c = search needs
 returns : tie.Need-returns
 returns c =
     let at-call = c .before .before .before .before .before .before in
-    let at-fresh = at-call .before .before .before .before .before in
+    let at-sheet = at-call .before .before .before .before in
+    let at-fresh = at-sheet .before .before in
     let at-log = at-fresh .before .before in
     let at-rom = at-log .before .before in
     let a = at-rom .before .args in
@@ -48,7 +52,9 @@ returns c =
     let log = now (a .log) in
     let image = fresh-image _ _ refl (at-fresh .wharfnettle-fresh .ensures) in
     let small : length log < 2 ^ 64 = omega (arith, at-rom .before .good .1 .1 .0 .0) in
-    let tells = call-ends rom sched log _ (a .n .0) _ image small (omega arith) (at-call .wharfnettle-call .ensures) in
+    let sheet = at-sheet .upd546-sheet in
+    let answers = at-call .wharfnettle-call .ensures in
+    let tells = call-ends rom sched log _ (a .n .0) _ (sheet .result) image small (omega arith) (sheet .ensures) answers in
     let ends = same-end (c .told .ensures) tells in
     let bytes-of-rom : Bytes rom = λ i. omega (arith, at-rom .shared-slice-known .given i) in
     let bytes-of-sched : Bytes sched = λ i. omega (arith, at-log .before .shared-slice-known2 .given i) in
@@ -60,6 +66,7 @@ call-fresh-spec =
     (tie.spec
     slice-aggregate-wharfnettle-fresh
     wharfnettle-fresh-requires
+    upd546-sheet-requires
     slice-aggregate-wharfnettle-call
     slice-aggregate-wharfnettle-call-2
     wharfnettle-call-requires

@@ -9,27 +9,29 @@ use Rattle.runs.specs.Refusals.{cycleLimit}
 use Rattle.jump.specs.Boundary.{jumpBy}
 use Rattle.upd546.specs.Parts.{withCount, stateOf}
 use Rattle.turns.proofs.Taken.{run-taken}
-use Rattle.turns.proofs.Turning.{Place, At, bare, Window, Ahead, ByRecords, Entered, ToLimit, countIn, stands-last, stands-on, starts, limit-kept, log-length, schedule-taken, finishes, boundary, jumpable, jump-small, turn-asks, stops, stop-length, stop-known, turn-small, enters, entered-as, is-quiet, not-quiet, look-ahead, look-place, looks, look-full, full-length, ahead, first, last, length-is, jumps-to, turns-to}
+use Rattle.turns.proofs.Turning.{Place, At, bare, Window, Ahead, ByRecords, Entered, ToLimit, countIn, stands-last, stands-on, starts, limit-kept, log-length, schedule-taken, rom-taken}
+use Rattle.turns.proofs.Turning.{finishes, boundary, jumpable, jump-small, turn-asks, stops, stop-length, stop-known, turn-small}
+use Rattle.turns.proofs.Turning.{enters, entered-as, is-quiet, not-quiet, look-ahead, look-place, looks, look-full, full-length, ahead, first, last, length-is, jumps-to, turns-to}
 use Rattle.turns.proofs.run_loop.Statement.{statement}
 use Rattle.turns.proofs.run_loop.Tie as tie
 
 abbrev Inv-loop2 : tie.InvT-loop2
-Inv-loop2 rom sched table positions registers log₀ n skips start end core₀ ram₀ ports₀ cursor at₀ number₀ begun₀ spared₀ count lines limit before log core ram ports at number begun spared =
-    ToLimit skips rom sched lines n start limit before count
+Inv-loop2 rom sched table rows positions registers log₀ n skips sheet start end core₀ ram₀ ports₀ cursor at₀ number₀ begun₀ spared₀ count lines limit before log core ram ports at number begun spared =
+    ToLimit sheet skips rom sched lines n start limit before count
     (record { core = core₀; ram = ram₀; ports = ports₀; log = log₀; at = at₀; number = number₀; begun = begun₀; spared = spared₀ })
     (record { core = core; ram = ram; ports = ports; log = log; at = at; number = number; begun = begun; spared = spared })
 
 abbrev μ-loop2 : tie.MeasureT-loop2
-μ-loop2 rom sched table positions registers log₀ n skips start end core₀ ram₀ ports₀ cursor at₀ number₀ begun₀ spared₀ count lines limit before log core ram ports at number begun spared =
+μ-loop2 rom sched table rows positions registers log₀ n skips sheet start end core₀ ram₀ ports₀ cursor at₀ number₀ begun₀ spared₀ count lines limit before log core ram ports at number begun spared =
     limit - number
 
 abbrev Inv-loop : tie.InvT-loop
-Inv-loop rom sched table positions registers log₀ n skips start end core₀ ram₀ ports₀ cursor₀ at₀ number₀ begun₀ spared₀ count₀ log core ram ports cursor at number begun spared count =
-    ByRecords skips rom sched log₀ n (withCount count₀ (stateOf core₀ ram₀ ports₀ start)) cursor
+Inv-loop rom sched table rows positions registers log₀ n skips sheet start end core₀ ram₀ ports₀ cursor₀ at₀ number₀ begun₀ spared₀ count₀ log core ram ports cursor at number begun spared count =
+    ByRecords sheet skips rom sched log₀ n (withCount count₀ (stateOf core₀ ram₀ ports₀ start)) cursor
     (record { core = core; ram = ram; ports = ports; log = log; at = at; number = number; begun = begun; spared = spared }) count
 
 abbrev μ-loop : tie.MeasureT-loop
-μ-loop rom sched table positions registers log₀ n skips start end core₀ ram₀ ports₀ cursor₀ at₀ number₀ begun₀ spared₀ count₀ log core ram ports cursor at number begun spared count =
+μ-loop rom sched table rows positions registers log₀ n skips sheet start end core₀ ram₀ ports₀ cursor₀ at₀ number₀ begun₀ spared₀ count₀ log core ram ports cursor at number begun spared count =
     end - number
 
 -- THE PLACES: each is counted here and nowhere else
@@ -150,7 +152,7 @@ goes-well c = c .if4 .left
 by-records : (c : Outer)
     → let a = entry (c .before) .args in
     let l = c .loop in
-    ByRecords (a .skips) (now (a .rom)) (now (a .sched)) (now (a .log)) (a .n) (a .s) (l .cursor)
+    ByRecords (a .sheet) (a .skips) (now (a .rom)) (now (a .sched)) (now (a .log)) (a .n) (a .s) (l .cursor)
     (record { core = l .core; ram = l .ram; ports = l .ports; log = l .log; at = l .at; number = l .number; begun = l .begun; spared = l .spared }) (l .count)
 by-records c = c .loop .inv
 
@@ -159,7 +161,7 @@ entered : (c : Joined)
     → let a = began (limited c) .args in
     let l = outer (limited c) .loop in
     let v = c .if1 in
-    Entered (a .skips) (now (a .rom)) (now (a .sched)) (now (a .log)) (a .n) (a .s) (l .cursor) (l .number)
+    Entered (a .sheet) (a .skips) (now (a .rom)) (now (a .sched)) (now (a .log)) (a .n) (a .s) (l .cursor) (l .number)
     (record { core = v .core; ram = l .ram; ports = v .ports; log = v .log; at = v .at; number = v .number; begun = l .begun; spared = l .spared }) (v .limit) (l .count) (v .count)
 entered c =
     let d = limited c in
@@ -179,7 +181,8 @@ place c =
 -- where it stands, with the count before the cycles up to the limit
 standing : (c : Measured)
     → let a = began-in (inner c) .args in
-    At (a .skips) (now (a .rom)) (now (a .sched)) (now (a .log)) (a .n) (a .s) (place (inner c)) (outer (limited (inner c .before)) .loop .count)
+    At (a .sheet) (a .skips) (now (a .rom)) (now (a .sched)) (now (a .log)) (a .n) (a .s) (place (inner c))
+    (outer (limited (inner c .before)) .loop .count)
 standing c =
     let l = inner c in
     first (l .loop2 .inv) (tested c .loop2-test .taken) (l .loop2 .inv .at (entered (l .before) .at))
@@ -188,20 +191,24 @@ standing c =
 ahead-of : (c : Measured)
     → let a = began-in (inner c) .args in
     let d = inner c .before in
-    Ahead (now (a .rom)) (now (a .sched)) (outer (limited d) .loop .cursor .lines) (d .if1 .number) (a .s .cycle .0 + a .n) (d .if1 .limit) (outer (limited d) .loop .count) (d .if1 .count)
+    Ahead (a .sheet) (now (a .rom)) (now (a .sched)) (outer (limited d) .loop .cursor .lines) (d .if1 .number) (a .s .cycle .0 + a .n)
+    (d .if1 .limit) (outer (limited d) .loop .count) (d .if1 .count)
     (inner c .loop2 .number)
 ahead-of c = ahead (inner c .loop2 .inv) (tested c .loop2-test .taken)
 
 -- the length of the jump
 length-known : (c : Measured)
     → let a = began-in (inner c) .args in
-    c .jump-length .result ≡ jumpBy (a .skips) (now (a .rom)) (now (a .sched)) (bare (place (inner c))) (inner c .before .if1 .limit - inner c .loop2 .number)
-length-known c = length-is (inner c .loop2 .inv) (tested c .loop2-test .taken) (c .jump-length .ensures)
+    c .jump-length .result
+    ≡ jumpBy (a .skips) (a .sheet) (now (a .rom)) (now (a .sched)) (bare (place (inner c)))
+    (inner c .before .if1 .limit - inner c .loop2 .number)
+length-known c = length-is (inner c .loop2 .inv) (tested c .loop2-test .taken) (rom-taken (standing c)) (c .jump-length .ensures)
 
 -- none is taken
 no-jump : (c : Turning)
     → let a = began-in (inner (c .before)) .args in
-    0 ≡ jumpBy (a .skips) (now (a .rom)) (now (a .sched)) (bare (place (inner (c .before)))) (inner (c .before) .before .if1 .limit - inner (c .before) .loop2 .number)
+    0 ≡ jumpBy (a .skips) (a .sheet) (now (a .rom)) (now (a .sched)) (bare (place (inner (c .before))))
+    (inner (c .before) .before .if1 .limit - inner (c .before) .loop2 .number)
 no-jump c = sym (c .if3 .left) ∙ length-known (c .before)
 
 -- the counts after a jump
@@ -214,7 +221,7 @@ jump-fits c = jump-small (standing (c .before)) (ahead-of (c .before)) (length-k
 -- BEFORE THE LOOPS
 
 add-end : tie.Need-add-end Inv-loop2 μ-loop2 Inv-loop μ-loop
-add-end c = omega (arith, run-taken _ _ _ _ (c .before .before .before .pre .not-refused) .limit)
+add-end c = omega (arith, run-taken _ _ _ _ _ (c .before .before .before .pre .not-refused) .limit)
 
 loop-holds : tie.Need-loop-holds Inv-loop2 μ-loop2 Inv-loop μ-loop
 loop-holds c =
@@ -222,7 +229,8 @@ loop-holds c =
     let at-rom = at-sched .before in
     let v = entry c .pre in
     record {
-      at = starts _ _ _ _ _ _ (v .not-refused) (λ i. omega (arith, at-rom .shared-slice-known .given i)) (λ i. omega (arith, at-sched .shared-slice-known2 .given i));
+      at = starts _ _ _ _ _ _ _ (v .not-refused) (λ i. omega (arith, at-rom .shared-slice-known .given i))
+          (λ i. omega (arith, at-sched .shared-slice-known2 .given i));
       stands = v .stands;
     }
 
@@ -314,7 +322,8 @@ turn-requires : tie.Need-turn-requires Inv-loop2 μ-loop2 Inv-loop μ-loop
 turn-requires c κs =
     let at-turning = c .before .before .before in
     let v = began-in (inner (at-turning .before)) .pre in (
-      turn-asks (standing (at-turning .before)) (ahead-of (at-turning .before)) (no-jump at-turning) _ _ (v .instructions) (v .position-table),
+      turn-asks (standing (at-turning .before)) (ahead-of (at-turning .before)) (no-jump at-turning) _ _ _ (v .instructions) (v .row-table)
+          (v .position-table),
       v .register-table,
     )
 
@@ -375,8 +384,8 @@ loop2-again-2 c =
 reached : (c : Ended) → (c .before .loop2 .number ≡ c .before .before .if1 .limit) × (outer (limited (c .before .before)) .loop .number < c .before .before .if1 .limit)
 reached c = (omega (arith, c .loop2-test .left, c .before .loop2 .inv .within-limit), entered (c .before .before) .further)
 
-sub-t56 : tie.Need-sub-t56 Inv-loop2 μ-loop2 Inv-loop μ-loop
-sub-t56 c = omega (arith, reached (c .before))
+sub-t58 : tie.Need-sub-t58 Inv-loop2 μ-loop2 Inv-loop μ-loop
+sub-t58 c = omega (arith, reached (c .before))
 
 moved-requires : tie.Need-moved-requires Inv-loop2 μ-loop2 Inv-loop μ-loop
 moved-requires c κs =
@@ -458,7 +467,7 @@ run-loop-spec =
     returns-2
     loop2-less-2
     loop2-again-2
-    sub-t56
+    sub-t58
     moved-requires
     loop-less
     loop-again

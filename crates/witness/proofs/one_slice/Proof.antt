@@ -29,8 +29,9 @@ returns c =
     let at-save = at-restore .before .before .before in
     let at-run = at-save .before .before .before .before .before .before in
     let a = at-run .before .before .before .before .before .args in
-    slice-of _ (now (a .log)) _ (a .at) (at-run .advance-from .result .report) (at-run .advance-from .result .machine) (at-save .save .result) _
-    (at-restore .restore .result) (at-run .advance-from .ensures) (search needs) (at-save .save .ensures) (at-restore .restore .ensures) (same-length c)
+    slice-of (a .sheet) _ (now (a .log)) _ (a .at) (at-run .advance-from .result .report) (at-run .advance-from .result .machine)
+    (at-save .save .result) _ (at-restore .restore .result) (at-run .advance-from .ensures) (search needs) (at-save .save .ensures)
+    (at-restore .restore .ensures) (same-length c)
 
 pub one-slice-spec : {M : Type 1} → statement M
 one-slice-spec =

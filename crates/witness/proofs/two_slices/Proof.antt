@@ -28,7 +28,7 @@ returns c =
       between = _;
       first = at-one .one-slice .ensures;
       second = at-two .one-slice2 .ensures;
-      one-run = one-run (now (a .rom)) (now (a .sched)) rom-bytes sched-bytes (a .s) (now (a .log)) _ _ (a .n .0) (a .m .0)
+      one-run = one-run (a .sheet) (now (a .rom)) (now (a .sched)) rom-bytes sched-bytes (a .s) (now (a .log)) _ _ (a .n .0) (a .m .0)
           (at-one .one-slice .result) (at-two .one-slice2 .result) (at-one .one-slice .ensures) (at-two .one-slice2 .ensures);
     }
 

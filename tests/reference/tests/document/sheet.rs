@@ -315,7 +315,7 @@ fn a_push_loses_the_last_level() {
             sheet,
         );
         assert_eq!((called.number, called.state.stack), (0, stack));
-        // "Acceptance pushes by the same rule".
+        // Acceptance pushes by the same rule.
         let accepting = State {
             pc: 6,
             int: 1,
@@ -557,7 +557,7 @@ fn slices_under_any_sheet_end_as_one_run() {
     assert!(ended[0] > 500 && ended[22] > 500 && ended[23] > 50);
 }
 
-/// "The jump's JCP must lie below the end": TTM at the last address steps, and 22 follows; with the JCP behind it, it jumps.
+/// The jump's JCP has to lie below the end: TTM at the last address steps, and 22 follows; with the JCP behind it, it jumps.
 #[test]
 fn the_jump_looks_at_the_sheets_end() {
     let waiting = |pc: u16| State {

@@ -269,7 +269,7 @@ fn waits() -> Vec<Case> {
     cases
 }
 
-/// Calls one in the other, one more than there are levels, then returns: "a push .. loses the oldest", "the lowest keeps its value".
+/// Calls one in the other, one more than there are levels, then returns: a push "loses the oldest", and "the lowest keeps its value".
 fn lost_calls() -> Vec<Case> {
     let mut cases = Vec::new();
     for levels in 1..=3 {
@@ -466,7 +466,7 @@ fn absent() -> Vec<Case> {
     cases
 }
 
-/// "21 .. the sheet's length": one byte less or more, none, and the uPD546's.
+/// 21 by the sheet's length: one byte less or more, none, and the uPD546's.
 fn rom_lengths() -> Vec<Case> {
     let mut cases = Vec::new();
     for sheet in legal() {
