@@ -9,6 +9,7 @@
 mod cases;
 mod cuts;
 mod images;
+mod steps;
 mod stream;
 
 use std::io::Write;
@@ -40,6 +41,7 @@ struct Trials {
     groups: Vec<images::Group>,
     panels: Vec<cuts::Panel>,
     kinds: Vec<Kind>,
+    waits: Vec<steps::Waits>,
 }
 
 impl Trials {
@@ -49,6 +51,7 @@ impl Trials {
             groups: images::all(),
             panels: cuts::all(),
             kinds: vec![Kind::Cuts, Kind::Drawn],
+            waits: steps::all(),
         }
     }
 
@@ -58,6 +61,7 @@ impl Trials {
             groups: images::small(),
             panels: cuts::small(),
             kinds: vec![Kind::Cuts],
+            waits: Vec::new(),
         }
     }
 
@@ -65,6 +69,7 @@ impl Trials {
         let mut faults = cases::faults(&self.cases);
         faults.extend(images::all_faults(&self.groups));
         faults.extend(cuts::faults(&self.panels));
+        faults.extend(steps::faults(&self.waits));
         faults
     }
 
@@ -96,6 +101,9 @@ impl Trials {
             for &kind in &self.kinds {
                 items.push(Box::new(cuts::Calls(panel.clone(), kind)));
             }
+        }
+        for waits in self.waits {
+            items.push(Box::new(waits));
         }
         items
     }
@@ -157,7 +165,13 @@ fn done(words: &[String]) -> Result<String, String> {
     let failed = |error: io::Error| error.to_string();
     match words.as_slice() {
         ["counts"] => Ok(text_of(
-            &[cases::counts(), images::counts(), cuts::counts()].concat(),
+            &[
+                cases::counts(),
+                images::counts(),
+                cuts::counts(),
+                steps::counts(),
+            ]
+            .concat(),
         )),
         [program @ ("calls" | "values"), "list"] => {
             let items = Trials::all().of(program);
