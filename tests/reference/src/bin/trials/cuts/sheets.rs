@@ -2,6 +2,7 @@
 //! in: a word or a level that it hasn't.
 
 use reference::case::{Case, FEW_JCP, FEW_JUMPS, INSIDE, NO_STOPS};
+use reference::draw::Draw;
 use reference::sheets::{HALF, LEAST, PAGE};
 use reference::Sheet;
 
@@ -21,6 +22,7 @@ pub fn panels() -> Vec<Case> {
     panels.extend(levels());
     panels.extend(rows());
     panels.extend(any());
+    panels.extend((1..=4).map(drawn));
     panels
 }
 
@@ -158,4 +160,21 @@ fn any() -> Vec<Case> {
             .n(2_000)
             .ends(0),
     ]
+}
+
+/// A ROM of the generator under a drawn sheet.
+fn drawn(seed: u32) -> Case {
+    let mut draw = Draw::new(13_000 + u64::from(seed));
+    let sheet = Sheet {
+        rom: draw.of(&[256, 257, 1_000, 1_500, 1_999]),
+        ..draw.sheet()
+    };
+    Case::new(format!("drawn {seed}, under {sheet:?}"))
+        .sheet(sheet)
+        .made_rom(draw.seed(), LASTING)
+        .made_ram(draw.seed())
+        .made_schedule(3_000, draw.seed(), 12, 0)
+        .resets(40)
+        .n(700)
+        .ends(0)
 }
