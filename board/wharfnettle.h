@@ -106,7 +106,7 @@ static inline int wharfnettle_is_refusal(int number)
  *   - each pointer leads to as many bytes as its length says; where the length is 0 it isn't used, and may be NULL;
  *   - image, log and report overlap neither each other nor rom or schedule;
  *   - while the call runs nobody else writes any of them, or reads image, log or report;
- *   - there are 2 KiB of stack.
+ *   - there are 3 KiB of stack.
  *
  * The call allocates nothing, calls nothing and keeps nothing, so calls with different buffers may run at the same time. The time that
  * it takes grows with n and with the schedule, which is checked whole at each call.

@@ -54,7 +54,8 @@ fn latch(ports: &mut [u8; LATCHES], port: u8, value: u8)
     ports[i] = value;
 }
 
-// Appends the writes that `port` and `value` stand for, in cycle n, and answers their bytes.
+// Appends the writes that `port` and `value` stand for, in cycle n, and answers their bytes. Which of latch and record comes first
+// is a matter of speed alone (docs/MEASUREMENTS.md).
 pub fn output(log: &mut [u8], ports: &mut [u8; LATCHES], n: u64, port: u8, value: u8) -> usize
     requires { ⌜ (logRecordLength * length (writesOf port value) ≤ length (now log)) × All ValidWrite (writesOf port value) ⌝ }
     ensures { λ r. ⌜ Written (now (log .entry)) (now (ports .entry)) n (writesOf port value) (now (log .exit)) (now (ports .exit)) r ⌝ }
@@ -69,8 +70,8 @@ pub fn output(log: &mut [u8], ports: &mut [u8; LATCHES], n: u64, port: u8, value
         put_record(&mut log[LOG_RECORD..], n, PORT_D, value / 16);
         return OCD_LENGTH;
     }
-    latch(ports, port, value);
     put_record(log, n, port, value);
+    latch(ports, port, value);
     LOG_RECORD
 }
 

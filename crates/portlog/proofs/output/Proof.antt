@@ -86,16 +86,9 @@ returns-2 c =
     (at-entry .args .value) (at-if2 .if2 .taken) (at-put-record .put-record .ensures) (at-put-record2 .put-record2 .ensures)
     (at-latch .latch .ensures) (at-latch2 .latch2 .ensures)
 
-latch-requires-3 : tie.Need-latch-requires-3
-latch-requires-3 c κs =
-    let at-if2 = c .before in
-    let at-if1 = at-if2 .before in
-    let at-entry = at-if1 .before .before in
-    port-of (at-entry .args .port) (at-entry .args .value) (at-if1 .if1 .left) (at-if2 .if2 .left) (at-entry .pre .1)
-
 put-record-requires-3 : tie.Need-put-record-requires-3
 put-record-requires-3 c κs =
-    let at-if2 = c .before .before .before in
+    let at-if2 = c .before in
     let at-if1 = at-if2 .before in
     let at-entry = at-if1 .before .before in
     omega (
@@ -104,19 +97,25 @@ put-record-requires-3 c κs =
       ap length (one-write (at-entry .args .port) (at-entry .args .value) (at-if1 .if1 .left) (at-if2 .if2 .left)),
     )
 
+latch-requires-3 : tie.Need-latch-requires-3
+latch-requires-3 c κs =
+    let at-if2 = c .before .before .before .before .before in
+    let at-if1 = at-if2 .before in
+    let at-entry = at-if1 .before .before in
+    port-of (at-entry .args .port) (at-entry .args .value) (at-if1 .if1 .left) (at-if2 .if2 .left) (at-entry .pre .1)
+
 same-length-2 : tie.Need-same-length-2
 same-length-2 c = search needs
 
 returns-3 : tie.Need-returns-3
 returns-3 c =
-    let at-put-record3 = c .before .before in
-    let at-latch3 = at-put-record3 .before .before in
-    let at-if2 = at-latch3 .before .before in
+    let at-put-record3 = c .before .before .before .before in
+    let at-if2 = at-put-record3 .before .before in
     let at-if1 = at-if2 .before in
     let at-entry = at-if1 .before .before in
     writes-one (now (at-entry .args .log)) (now (at-entry .args .ports)) (at-entry .args .n) (at-entry .args .port)
     (at-entry .args .value) (at-if1 .if1 .left) (at-if2 .if2 .left) (at-put-record3 .put-record3 .ensures)
-    (at-latch3 .latch3 .ensures)
+    (c .latch3 .ensures)
 
 pub output-spec : {M : Type 1} → statement M
 output-spec =
@@ -132,7 +131,7 @@ output-spec =
     put-record-requires-2
     same-length
     returns-2
-    latch-requires-3
     put-record-requires-3
+    latch-requires-3
     same-length-2
     returns-3)
