@@ -4,6 +4,10 @@
        cost stack    prints the stack that a call takes, and fails above the 3 KiB that the header names
        cost calls COUNT RECORDS N
                      makes so many calls of n cycles with so many records ahead, and prints nothing: for counting instructions
+       cost store    prints the time of storing and recalling, in nanoseconds
+       cost stores COUNT ENTRIES USED WHAT
+                     makes so many calls on a store of so many entries, of which the first are used, and prints nothing: WHAT is recall, of
+                     the last used name, or keep, under that name
 
    board/build DIR && gcc -std=c11 -O2 board/cost.c -I DIR -L DIR -lwharfnettle -o DIR/cost && DIR/cost */
 #define _DEFAULT_SOURCE
@@ -15,7 +19,7 @@
 #include <ucontext.h>
 #include "wharfnettle.h"
 
-enum { RECORDS = 4096, SLICE = 100, STACK = 64 * 1024, ALLOWED = 3072, UNUSED = 0xA5 };
+enum { RECORDS = 4096, SLICE = 100, STACK = 64 * 1024, ALLOWED = 3072, UNUSED = 0xA5, ENTRIES = 200 };
 
 /* The first two landings of samples/lobby.panel, in a loop. And a timer of STM 63 that turns port F over when it has run out. */
 static const uint8_t lobby[] = {0x54, 0xC4, 0x85, 0x70, 0x81, 0x50, 0xC9, 0x85, 0x60, 0x55, 0xCD, 0x85, 0x71, 0x81, 0x51, 0xD2, 0x85, 0x61, 0xC0};
@@ -66,15 +70,43 @@ static uint64_t now(void)
     return (uint64_t)time.tv_sec * 1000000000 + (uint64_t)time.tv_nsec;
 }
 
+static uint8_t store[ENTRIES * WHARFNETTLE_ENTRY], kept[WHARFNETTLE_IMAGE], name[WHARFNETTLE_NAME];
+static size_t store_length;
+
+static void keep(void)
+{
+    number = wharfnettle_store(store, store_length, name, sizeof name, kept, sizeof kept, rom_bytes, rows, levels);
+}
+
+static void recall(void)
+{
+    number = wharfnettle_recall(store, store_length, name, sizeof name, kept, sizeof kept, rom_bytes, rows, levels);
+}
+
+/* A store with room for so many entries, of which the first are used; the last of their names is asked for. */
+static void begin_store(size_t entries, size_t used)
+{
+    memset(store, 0, sizeof store);
+    store_length = WHARFNETTLE_ENTRY * entries;
+    wharfnettle_fresh(kept, sizeof kept);
+    memcpy(name, "entry   ", sizeof name);
+    for (size_t k = 0; k < used; k++) {
+        name[6] = (uint8_t)(k / 16);
+        name[7] = (uint8_t)(k % 16);
+        kept[14] = (uint8_t)(k % 16); /* Acc */
+        keep();
+    }
+}
+
 /* The least time of a call over many rounds of about a millisecond, so that other work on the machine counts little. */
-static double nanoseconds(void)
+static double nanoseconds(void (*function)(void))
 {
     double least = 1e18;
     for (int round = 0; round < 150; round++) {
         uint64_t calls = 0, start = now(), taken;
         do {
             for (int k = 0; k < 16; k++)
-                call();
+                function();
             calls += 16;
             taken = now() - start;
         } while (taken < 1000000);
@@ -99,7 +131,7 @@ static void line(const char *name, const uint8_t *code, size_t length)
                         call();
                     n = wanted;
                 }
-                printf(" %12.0f", nanoseconds());
+                printf(" %12.0f", nanoseconds(call));
                 if (number)
                     printf(" (number %d)", number);
             }
@@ -157,6 +189,13 @@ static int print_stack(void)
                 deepest = other > deepest ? other : deepest;
             }
     }
+    use_sheet(WHARFNETTLE_UPD546);
+    for (size_t entries = 0; entries <= ENTRIES; entries += 1 + entries / 4) {
+        begin_store(entries, entries);
+        size_t depth = depth_of(keep), other = depth_of(recall);
+        deepest = depth > deepest ? depth : deepest;
+        deepest = other > deepest ? other : deepest;
+    }
     size_t taken = deepest > base ? deepest - base : 0;
     printf("stack: a call takes %zu bytes, %d are allowed\n", taken, ALLOWED);
     return taken > ALLOWED;
@@ -172,9 +211,37 @@ static int make_calls(unsigned long count, size_t records, uint64_t cycles)
     return number;
 }
 
+/* So many calls on a store. */
+static int make_stores(unsigned long count, size_t entries, size_t used, void (*function)(void))
+{
+    begin_store(entries < ENTRIES ? entries : ENTRIES, used < entries ? used : entries);
+    number = 0;
+    while (count--)
+        function();
+    return number;
+}
+
+static void print_stores(void)
+{
+    static const size_t sizes[] = {1, 16, ENTRIES};
+    printf("nanoseconds of storing and recalling; a store of so many entries, all used\n");
+    printf("entries       recall        store\n");
+    for (size_t k = 0; k < sizeof sizes / sizeof *sizes; k++) {
+        begin_store(sizes[k], sizes[k]);
+        printf("%7zu %12.0f %12.0f\n", sizes[k], nanoseconds(recall), nanoseconds(keep));
+    }
+}
+
 int main(int count, char **words)
 {
     use_sheet(WHARFNETTLE_UPD546);
+    if (count == 6 && !strcmp(words[1], "stores"))
+        return make_stores(strtoul(words[2], NULL, 10), strtoul(words[3], NULL, 10), strtoul(words[4], NULL, 10),
+                           strcmp(words[5], "recall") ? keep : recall);
+    if (count == 2 && !strcmp(words[1], "store")) {
+        print_stores();
+        return 0;
+    }
     if (count == 5 && !strcmp(words[1], "calls"))
         return make_calls(strtoul(words[2], NULL, 10), strtoul(words[3], NULL, 10), strtoull(words[4], NULL, 10));
     if (count == 2 && !strcmp(words[1], "stack"))

@@ -1,6 +1,6 @@
 /* A board's program in small: the call lamp of samples/lamp.panel in slices of 50 machine cycles, with the building switched off after each
    of them; the same lamp, reset from the machine room; a panel that stops; what a damaged image answers; and an image from before there was
-   a reset, taken forward and back; and a panel with a smaller chip. example.out has what it prints. */
+   a reset, taken forward and back; a panel with a smaller chip; and states to come back to. example.out has what it prints. */
 #include <inttypes.h>
 #include <stdio.h>
 #include <string.h>
@@ -175,6 +175,51 @@ static void smaller(void)
     printf("an image with a word in row 2: %d\n", number);
 }
 
+/* A store for two images. */
+static uint8_t store[2 * WHARFNETTLE_ENTRY];
+
+static uint8_t keep(const char *name, const uint8_t *image)
+{
+    return wharfnettle_store(store, sizeof store, (const uint8_t *)name, WHARFNETTLE_NAME, image, WHARFNETTLE_IMAGE, WHARFNETTLE_UPD546);
+}
+
+static uint8_t recall(const char *name, uint8_t *image)
+{
+    return wharfnettle_recall(store, sizeof store, (const uint8_t *)name, WHARFNETTLE_NAME, image, WHARFNETTLE_IMAGE, WHARFNETTLE_UPD546);
+}
+
+/* So many cycles of the lamp. */
+static void run_lamp(uint8_t *image, uint64_t n)
+{
+    uint8_t log[WHARFNETTLE_LOG(CYCLES)], report[WHARFNETTLE_REPORT];
+    uint8_t number = wharfnettle_call(image, WHARFNETTLE_IMAGE, lamp_rom, sizeof lamp_rom, lamp_schedule, sizeof lamp_schedule, log,
+                                      sizeof log, n, 1, report, sizeof report, WHARFNETTLE_UPD546);
+    print_call(log, report, number);
+}
+
+/* The lamp is run up to where it is lit, which is stored; it is run on, recalled, and run on again: with the same records. */
+static void returns(void)
+{
+    uint8_t image[WHARFNETTLE_IMAGE], twice[WHARFNETTLE_IMAGE];
+    wharfnettle_fresh(image, sizeof image);
+    printf("stored as fresh: %d\n", keep("fresh   ", image));
+    run_lamp(image, 60);
+    printf("stored as lit: %d\n", keep("lit     ", image));
+    run_lamp(image, CYCLES - 60);
+    memcpy(twice, image, sizeof twice);
+    printf("recalled lit: %d\n", recall("lit     ", image));
+    run_lamp(image, CYCLES - 60);
+    printf("the images are %s\n", memcmp(image, twice, sizeof image) ? "NOT the same" : "the same");
+    printf("a third name: %d\n", keep("dark    ", image));
+    printf("stored as lit again: %d\n", keep("lit     ", image));
+    printf("recalled dark: %d\n", recall("dark    ", image));
+    printf("a name of eight zeros: %d\n", recall("\0\0\0\0\0\0\0", image));
+    image[0] = 'u';
+    printf("a damaged image: %d\n", keep("dark    ", image));
+    memcpy(store + WHARFNETTLE_ENTRY, store, WHARFNETTLE_NAME);
+    printf("a store with a name twice: %d\n", recall("fresh   ", image));
+}
+
 int main(void)
 {
     slices();
@@ -192,5 +237,6 @@ int main(void)
     damaged("an image with a count of 5", 82, 81, 5);
     converted();
     smaller();
+    returns();
     return 0;
 }

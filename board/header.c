@@ -13,11 +13,12 @@
 #endif
 
 static uint8_t image[WHARFNETTLE_IMAGE], again[WHARFNETTLE_IMAGE], old[WHARFNETTLE_OLD_IMAGE];
-static uint8_t records[WHARFNETTLE_LOG(1000)], report[WHARFNETTLE_REPORT];
+static uint8_t records[WHARFNETTLE_LOG(1000)], report[WHARFNETTLE_REPORT], store[2 * WHARFNETTLE_ENTRY];
 MUST(sizeof records == 16000);
 MUST(WHARFNETTLE_LOG(0) == 0);
 MUST(2 * WHARFNETTLE_LOG(1 + 2) == 96);
 MUST(WHARFNETTLE_IMAGE == WHARFNETTLE_OLD_IMAGE + 1);
+MUST(WHARFNETTLE_ENTRY == WHARFNETTLE_NAME + WHARFNETTLE_IMAGE);
 MUST(sizeof WHARFNETTLE_LOG(1) == sizeof(size_t));
 MUST(WHARFNETTLE_SCHEDULE % 10 == 0);
 static const uint64_t upd546[] = {WHARFNETTLE_UPD546};
@@ -90,5 +91,13 @@ int main(void)
     hold(upd546[0] == WHARFNETTLE_ROM && upd546[1] == 31 && upd546[2] == 3, "the uPD546 has 2,000 bytes, rows 0 to 4 and three levels");
     hold(wharfnettle_convert(image, sizeof image, again, sizeof again, 2, upd546[0], upd546[1], upd546[2]) == 0, "a sheet as three numbers");
     hold(wharfnettle_convert(image, sizeof image, again, sizeof again, 2, WHARFNETTLE_ROM, 31, 4) == 71, "a sheet outside its limits");
+    static const uint8_t name[WHARFNETTLE_NAME + 1] = "lobby   ";
+    hold(wharfnettle_store(store, sizeof store, name, WHARFNETTLE_NAME, image, sizeof image, WHARFNETTLE_UPD546) == 0, "an image is stored");
+    hold(!memcmp(store, name, WHARFNETTLE_NAME) && !memcmp(store + WHARFNETTLE_NAME, image, sizeof image), "an entry is a name and an image");
+    again[0] = 0;
+    hold(wharfnettle_recall(store, sizeof store, name, WHARFNETTLE_NAME, again, sizeof again, WHARFNETTLE_UPD546) == 0
+             && !memcmp(again, image, sizeof image), "and recalled");
+    hold(wharfnettle_recall(store, sizeof store, name, WHARFNETTLE_NAME - 1, again, sizeof again, WHARFNETTLE_UPD546) == 51,
+         "a name has eight bytes");
     return wrong;
 }

@@ -31,6 +31,8 @@ extern "C" {
 #define WHARFNETTLE_ROM 2000          /* of the uPD546; exactly as many as the sheet says, else 21 */
 #define WHARFNETTLE_SCHEDULE 40960    /* at most, 4,096 records of 10 bytes, else 12; none is fine */
 #define WHARFNETTLE_REPORT 32         /* at least, else 1 */
+#define WHARFNETTLE_NAME 8            /* exactly, else 51 */
+#define WHARFNETTLE_ENTRY 90          /* an entry of a store, a name and an image; a store has some of them, else 51 */
 
 /*
  * The sheet of a chip, three numbers that are given last. It isn't kept in the image: the board knows its chip, and gives the same sheet
@@ -70,6 +72,9 @@ extern "C" {
  *   32       whoever kept the image      the image doesn't begin with U43
  *   33       whoever kept the image      the image's version doesn't go with its length
  *   34       whoever kept the image      a field of the image is above its width or against its rule, or holds something that this chip doesn't have
+ *   51       the caller                  the store or an image is malformed, or the name isn't eight bytes or is zero
+ *   52       the caller                  the store has no such name
+ *   53       the caller                  the store has no unused entry for a new name
  *   54       the caller                  an image of version 1 is wanted while the count of cycles with RES high isn't 0
  *   71       whoever wrote the sheet     the sheet is outside its limits: ROM bytes 1 to 2,000, rows 0 to 31, levels 1 to 3
  *
@@ -141,6 +146,48 @@ uint8_t wharfnettle_fresh(uint8_t *image, size_t image_length);
  */
 uint8_t wharfnettle_convert(const uint8_t *from, size_t from_length, uint8_t *to, size_t to_length, uint64_t version,
                             uint64_t rom_bytes, uint64_t rows, uint64_t levels);
+
+/*
+ * States to come back to: a store keeps images under names. It is a buffer of the board's, WHARFNETTLE_ENTRY bytes for each image that it
+ * has room for. At first it is all zero; then these two calls alone write it, and it may stand in a file. A name is any eight bytes but
+ * eight zeros. Entries stand in the order in which their names were first stored, each a name and then its image; behind them all is zero.
+ *
+ *     static uint8_t store[16 * WHARFNETTLE_ENTRY];
+ *     wharfnettle_store(store, sizeof store, name, WHARFNETTLE_NAME, image, sizeof image, WHARFNETTLE_UPD546);
+ *     wharfnettle_recall(store, sizeof store, name, WHARFNETTLE_NAME, image, sizeof image, WHARFNETTLE_UPD546);
+ *
+ * A run from what is recalled is a run from what was stored last under that name.
+ *
+ * wharfnettle_store keeps the image under the name: in the place of the one that has this name, or in the first unused entry.
+ *
+ * store      read, and written where 0 is answered: one entry, the others stay
+ * name       read
+ * image      read; version 2, of 82 bytes
+ * rom_bytes, rows, levels   the sheet
+ *
+ * wharfnettle_recall writes the image that is kept under the name to a buffer. So a call that then runs on that buffer leaves the store.
+ *
+ * store      read
+ * name       read
+ * image      written where 0 is answered: its first 82 bytes; bytes past them stay
+ * rom_bytes, rows, levels   the sheet
+ *
+ * They answer 0; or, in this order, 71; 51 where the store isn't as above, has a name twice or an image that a call would refuse under
+ * this sheet (31 to 34), where the name hasn't eight bytes or is eight zeros, or where the image given to a store is no such image; then a
+ * store 53 where the name is new and no entry is unused, and a recall 52 where no entry has the name, and after that 1 where the buffer has
+ * under 82 bytes. Then nothing is written. The parts must not overlap, and what holds of wharfnettle_call's pointers holds of these.
+ *
+ * Each call judges the whole store: docs/MEASUREMENTS.md has what that costs.
+ */
+uint8_t wharfnettle_store(uint8_t *store, size_t store_length,
+                          const uint8_t *name, size_t name_length,
+                          const uint8_t *image, size_t image_length,
+                          uint64_t rom_bytes, uint64_t rows, uint64_t levels);
+
+uint8_t wharfnettle_recall(const uint8_t *store, size_t store_length,
+                           const uint8_t *name, size_t name_length,
+                           uint8_t *image, size_t image_length,
+                           uint64_t rom_bytes, uint64_t rows, uint64_t levels);
 
 /* The counts of a report. */
 enum wharfnettle_count {

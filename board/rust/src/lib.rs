@@ -23,6 +23,10 @@ pub const IMAGE: usize = 82;
 pub const OLD_IMAGE: usize = 81;
 /// The bytes of the uPD546's ROM.
 pub const ROM: usize = 2_000;
+/// The bytes of a name, under which a store keeps an image.
+pub const NAME: usize = 8;
+/// The bytes of an entry of a store: a name, then an image.
+pub const ENTRY: usize = NAME + IMAGE;
 const REPORT: usize = 32;
 
 /// An image: the panel as bytes, to be kept while the building is switched off.
@@ -139,6 +143,28 @@ mod c {
             rows: u64,
             levels: u64,
         ) -> u8;
+        pub fn wharfnettle_store(
+            store: *mut u8,
+            store_length: usize,
+            name: *const u8,
+            name_length: usize,
+            image: *const u8,
+            image_length: usize,
+            rom_bytes: u64,
+            rows: u64,
+            levels: u64,
+        ) -> u8;
+        pub fn wharfnettle_recall(
+            store: *const u8,
+            store_length: usize,
+            name: *const u8,
+            name_length: usize,
+            image: *mut u8,
+            image_length: usize,
+            rom_bytes: u64,
+            rows: u64,
+            levels: u64,
+        ) -> u8;
     }
 }
 
@@ -232,6 +258,52 @@ fn convert(from: &[u8], to: &mut [u8], version: u64, sheet: Sheet) -> Result<(),
             sheet.levels,
         )
     };
+    done(number)
+}
+
+/// Keeps an image under a name of eight bytes, in a store of some entries of [`ENTRY`] bytes, all zero at first. A known name's image is
+/// replaced in its place; a new name takes the first unused entry. Slices of any length and content may be given: what is wrong with
+/// them is answered, 71, 51 or 53, and then the store is as it was.
+pub fn store(store: &mut [u8], name: &[u8], image: &[u8], sheet: Sheet) -> Result<(), u8> {
+    // SAFETY: each pointer leads to as many bytes as the length behind it says. `store` is borrowed to be
+    // written, so it overlaps nothing and nobody else uses it.
+    let number = unsafe {
+        c::wharfnettle_store(
+            store.as_mut_ptr(),
+            store.len(),
+            name.as_ptr(),
+            name.len(),
+            image.as_ptr(),
+            image.len(),
+            sheet.rom_bytes,
+            sheet.rows,
+            sheet.levels,
+        )
+    };
+    done(number)
+}
+
+/// The image that was stored last under a name; or, in this order, 71, 51 and 52.
+pub fn recall(store: &[u8], name: &[u8], sheet: Sheet) -> Result<Image, u8> {
+    let mut image = [0; IMAGE];
+    // SAFETY: each pointer leads to as many bytes as the length behind it says, and nobody else uses `image`.
+    let number = unsafe {
+        c::wharfnettle_recall(
+            store.as_ptr(),
+            store.len(),
+            name.as_ptr(),
+            name.len(),
+            image.as_mut_ptr(),
+            image.len(),
+            sheet.rom_bytes,
+            sheet.rows,
+            sheet.levels,
+        )
+    };
+    done(number).map(|()| image)
+}
+
+fn done(number: u8) -> Result<(), u8> {
     match number {
         0 => Ok(()),
         _ => Err(number),

@@ -5,7 +5,8 @@ use std::fs;
 use std::path::{Path, PathBuf};
 
 use wharfnettle::{
-    back, call, forward, fresh_image, log_bytes, Answer, Counts, End, Image, Runner, Sheet, ROM,
+    back, call, forward, fresh_image, log_bytes, recall, store, Answer, Counts, End, Image, Runner,
+    Sheet, ENTRY, NAME, ROM,
 };
 
 const UPD546: Sheet = Sheet::UPD546;
@@ -328,4 +329,86 @@ fn a_sheet_is_held_to_its_limits_and_an_image_to_the_sheet() {
         assert_eq!(back(&image, HALF), Err(34));
         assert!(back(&image, UPD546).is_ok());
     }
+}
+
+/// A rush hour that is run up to its busiest, stored, run on, recalled and run on again: the same log and image.
+#[test]
+fn a_rush_hour_is_come_back_to() {
+    let panel = panel("lobby");
+    let (_, whole, log) = panel.whole(Runner::Plain);
+    let run = |image: &mut Image, n: u64| {
+        let mut part = vec![0; log_bytes(n as usize)];
+        let (rom, schedule) = (&panel.rom, &panel.schedule);
+        let answer = call(image, rom, schedule, &mut part, n, Runner::Skipping, UPD546);
+        assert_eq!(answer.end, End::Finished);
+        part.truncate(answer.counts.log_bytes as usize);
+        part
+    };
+    let mut lent = [0; 3 * ENTRY];
+    let mut image = fresh_image();
+    store(&mut lent, b"morning ", &image, UPD546).unwrap();
+    let first = run(&mut image, 450);
+    store(&mut lent, b"full    ", &image, UPD546).unwrap();
+    let kept = lent;
+    for _ in 0..3 {
+        let mut image = recall(&lent, b"full    ", UPD546).unwrap();
+        let rest = run(&mut image, panel.n - 450);
+        assert_eq!((image, [&first[..], &rest].concat()), (whole, log.clone()));
+        assert_eq!(lent, kept);
+    }
+    assert_eq!(recall(&lent, b"morning ", UPD546), Ok(fresh_image()));
+    // A known name is replaced in its place, and the other stays.
+    store(&mut lent, b"morning ", &whole, UPD546).unwrap();
+    assert_eq!(
+        (&lent[NAME..ENTRY], &lent[ENTRY..]),
+        (&whole[..], &kept[ENTRY..])
+    );
+}
+
+#[test]
+fn a_store_that_is_refused_is_left() {
+    let fresh = fresh_image();
+    let mut sound = [0; 2 * ENTRY];
+    store(&mut sound, b"fresh   ", &fresh, UPD546).unwrap();
+    let refused = |lent: &[u8], name: &[u8], image: &[u8], sheet: Sheet| {
+        let mut after = lent.to_vec();
+        let number = store(&mut after, name, image, sheet).unwrap_err();
+        assert_eq!(after, lent);
+        number
+    };
+    let bad = Sheet {
+        levels: 4,
+        ..UPD546
+    };
+    assert_eq!(refused(&sound, b"new     ", &fresh, bad), 71);
+    assert_eq!(recall(&sound, b"fresh   ", bad), Err(71));
+    for name in [&[0; 8][..], b"fresh", b"", b"fresh     "] {
+        assert_eq!(refused(&sound, name, &fresh, UPD546), 51);
+        assert_eq!(recall(&sound, name, UPD546), Err(51));
+    }
+    let old = back(&fresh, UPD546).unwrap();
+    for image in [&old[..], &[0; 82], &[]] {
+        assert_eq!(refused(&sound, b"new     ", image, UPD546), 51);
+    }
+    // Torn, with a byte in the tail, and with a name twice.
+    let mut tail = sound;
+    tail[179] = 1;
+    let mut twice = [&sound[..ENTRY], &sound[..ENTRY]].concat();
+    for lent in [&sound[..179], &tail, &twice] {
+        assert_eq!(refused(lent, b"fresh   ", &fresh, UPD546), 51);
+        assert_eq!(recall(lent, b"fresh   ", UPD546), Err(51));
+    }
+    // Full.
+    twice[ENTRY] = b'F';
+    assert_eq!(refused(&twice, b"new     ", &fresh, UPD546), 53);
+    assert_eq!(refused(&[], b"new     ", &fresh, UPD546), 53);
+    assert_eq!(recall(&twice, b"Fresh   ", UPD546), Ok(fresh));
+    assert_eq!(recall(&twice, b"new     ", UPD546), Err(52));
+    // A word of row 2 under a sheet without it.
+    let mut held = fresh;
+    held[43] = 1;
+    store(&mut sound, b"held    ", &held, UPD546).unwrap();
+    assert_eq!(recall(&sound, b"fresh   ", HALF), Err(51));
+    assert_eq!(refused(&[0; ENTRY], b"held    ", &held, HALF), 51);
+    assert_eq!(recall(&sound, b"held    ", UPD546), Ok(held));
 }

@@ -276,7 +276,7 @@ module _ (w : Version) (s : State) (v : Valid s) (fits : versionNumber w s ≡ 0
       rw (version-back, eq-eqb (length (imageOf w s)) (imageLength w) image-length, mark-at, version-at, six, sound, zero)
 
 -- THE IMAGE OF THE STATE OF AN IMAGE
-same-eq : (l m : List ℕ) → sameNumbers l m ≡ true → l ≡ m
+pub same-eq : (l m : List ℕ) → sameNumbers l m ≡ true → l ≡ m
 same-eq [] [] e = refl
 same-eq [] (y ∷ m) e = cc
 same-eq (x ∷ l) [] e = cc

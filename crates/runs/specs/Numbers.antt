@@ -5,7 +5,7 @@ use lib.Dec.{eqb}
 use Rattle.runs.specs.declared.Stop.{Stop}
 use Rattle.runs.specs.declared.Stop.the-variants.{LogFull, RomEnd, NoInstruction}
 use Rattle.runs.specs.declared.Refusal.{Refusal}
-use Rattle.runs.specs.declared.Refusal.the-variants.{BufferShort, CycleLimit, ScheduleLength, ScheduleLong, RecordBytes, RecordOrder, RomLength, ImageLength, ImageMark, ImageVersion, Field, ResetCount, Sheet}
+use Rattle.runs.specs.declared.Refusal.the-variants.{BufferShort, CycleLimit, ScheduleLength, ScheduleLong, RecordBytes, RecordOrder, RomLength, ImageLength, ImageMark, ImageVersion, Field, StoreMalformed, NameUnknown, StoreFull, ResetCount, Sheet}
 use Rattle.runs.specs.declared.RunEnd.{RunEnd}
 use Rattle.runs.specs.declared.RunEnd.the-variants.{Finished, Stopped, Refused}
 use Rattle.runs.specs.declared.Outcome.{Outcome}
@@ -28,7 +28,9 @@ isStop k = eqb k 3 || eqb k 22 || eqb k 23
 -- "21 not 2,000 bytes"; "31 length not 81; 32 bytes 0 to 2; 33 version; 34 a field, also in a state given as a value";
 -- R-8: "The schedule's tenth byte becomes RES, 0 or 1, .. and 13 is amended so"; "31 is now a length of neither 81 nor 82, 33 a
 -- version that doesn't go with the length, 1 a buffer under the version's length"; "54, in a save between 34 and 1, a version 1
--- image wanted while the count isn't 0"; R-11: "71, before all else but R-3's report under 32 bytes, a sheet outside these limits"
+-- image wanted while the count isn't 0"; R-7: "in this order 51 the store (a name twice included) or an image is malformed, as a
+-- restore judges it, or the name isn't eight bytes or is zero; 52 no such name to recall; 53 no unused entry for a new name"; R-11:
+-- "71, before all else but R-3's report under 32 bytes, a sheet outside these limits"
 abbrev pub refusalNumber : Refusal → ℕ
 refusalNumber BufferShort = 1
 refusalNumber CycleLimit = 2
@@ -41,6 +43,9 @@ refusalNumber ImageLength = 31
 refusalNumber ImageMark = 32
 refusalNumber ImageVersion = 33
 refusalNumber Field = 34
+refusalNumber StoreMalformed = 51
+refusalNumber NameUnknown = 52
+refusalNumber StoreFull = 53
 refusalNumber ResetCount = 54
 refusalNumber Sheet = 71
 

@@ -35,6 +35,9 @@ pub enum Refusal {
     ImageMark,
     ImageVersion,
     Field,
+    StoreMalformed,
+    NameUnknown,
+    StoreFull,
     ResetCount,
     Sheet,
 }
@@ -77,6 +80,9 @@ pub fn refusal_number(r: Refusal) -> u8
         Refusal::ImageMark => 32,
         Refusal::ImageVersion => 33,
         Refusal::Field => 34,
+        Refusal::StoreMalformed => 51,
+        Refusal::NameUnknown => 52,
+        Refusal::StoreFull => 53,
         Refusal::ResetCount => 54,
         Refusal::Sheet => 71,
     }

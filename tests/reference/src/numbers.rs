@@ -10,6 +10,12 @@ pub const SHORT_BUFFER: u8 = 1;
 pub const CYCLE_LIMIT: u8 = 2;
 /// Stop: the log lacks the 8 or 16 bytes of the next instruction, or the 8 of a reset.
 pub const LOG_FULL: u8 = 3;
+/// Refusal: the store (request R-7) or an image is malformed, or the name isn't eight bytes or is zero.
+pub const STORE_MALFORMED: u8 = 51;
+/// Refusal: no such name to recall.
+pub const NAME_UNKNOWN: u8 = 52;
+/// Refusal: no unused entry for a new name.
+pub const STORE_FULL: u8 = 53;
 /// Refusal: a version 1 image wanted while the count isn't 0 (request R-8).
 pub const COUNT_LOST: u8 = 54;
 

@@ -1,4 +1,4 @@
-//! What document 01 says, and where they change it, executed.
+//! What document 01 says, and where they change it, and R-7, executed.
 
 mod bench_cases;
 mod common;
@@ -10,4 +10,5 @@ mod reset;
 mod runners;
 mod sheet;
 mod stops;
+mod store;
 mod trace;

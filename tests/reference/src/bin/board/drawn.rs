@@ -1,10 +1,12 @@
 //! How the calls are drawn. A panel has a sheet, in one of two cases the uPD546's, and gets some dozens of calls, one after the other
-//! on its image; most are sound, and some have a part that is damaged, or another sheet.
+//! on its image; some keep the image in the panel's store, or recall one from it. Most are sound, and some have a part that is damaged, or
+//! another sheet.
 
 use reference::call::{convert, fresh};
 use reference::case::{reset_record, Case, FEW_JCP, FEW_JUMPS, INSIDE, NO_STOPS};
 use reference::draw::Draw;
 use reference::sheets::wrong;
+use reference::store::{ENTRY, NAME};
 use reference::{restore, save, Sheet, Version};
 
 const IMAGE: usize = 82;
@@ -17,9 +19,12 @@ pub enum Function {
     Call,
     Fresh,
     Convert,
+    Store,
+    Recall,
 }
 
-/// All that a call is given. A conversion takes the image to the report's bytes, and n is its version.
+/// All that a call is given. A conversion takes the image to the report's bytes, and n is its version. Store and name are empty where
+/// the function has none.
 #[derive(Clone)]
 pub struct Drawn {
     pub function: Function,
@@ -33,6 +38,8 @@ pub struct Drawn {
     pub runner: u64,
     pub report: usize,
     pub fill: u8,
+    pub store: Vec<u8>,
+    pub name: Vec<u8>,
     pub sheet: Sheet,
 }
 
@@ -42,6 +49,7 @@ pub struct Calls {
     image: Vec<u8>,
     rom: Vec<u8>,
     schedule: Vec<u8>,
+    store: Vec<u8>,
     sheet: Sheet,
     left: u64,
 }
@@ -53,6 +61,7 @@ impl Calls {
             image: Vec::new(),
             rom: Vec::new(),
             schedule: Vec::new(),
+            store: Vec::new(),
             sheet: Sheet::UPD546,
             left: 0,
         }
@@ -68,6 +77,8 @@ impl Calls {
             function: match draw.below(50) {
                 0 => Function::Fresh,
                 1..=4 => Function::Convert,
+                5..=10 => Function::Store,
+                11..=15 => Function::Recall,
                 _ => Function::Call,
             },
             null: draw.one_in(2),
@@ -79,6 +90,8 @@ impl Calls {
             runner: draw.of(&[0, 0, 0, 1, 1, 2, 256, 1 << 32, 1 << 63, u64::MAX]),
             report: REPORT,
             fill: draw.byte(),
+            store: Vec::new(),
+            name: Vec::new(),
             sheet: self.sheet,
         };
         if drawn.function == Function::Fresh {
@@ -103,16 +116,26 @@ impl Calls {
             conversion(draw, &mut drawn);
             return drawn;
         }
+        if matches!(drawn.function, Function::Store | Function::Recall) {
+            keeping(draw, &mut drawn, &self.store);
+            return drawn;
+        }
         drawn.n = cycles(draw, &drawn.image);
         drawn.log = log_length(draw, drawn.n);
         drawn
     }
 
     /// What a call answered: the panel goes on from its image, also from one that was changed and is
-    /// still a panel's.
-    pub fn answered(&mut self, drawn: &Drawn, number: u8, image: Vec<u8>) {
-        if drawn.function == Function::Call && matches!(number, 0 | 3 | 22 | 23) {
-            self.image = image;
+    /// still a panel's, or that was recalled; and with its store.
+    pub fn answered(&mut self, drawn: &Drawn, number: u8, mut image: Vec<u8>, store: Vec<u8>) {
+        match drawn.function {
+            Function::Call if matches!(number, 0 | 3 | 22 | 23) => self.image = image,
+            Function::Store if number == 0 => self.store = store,
+            Function::Recall if number == 0 => {
+                image.truncate(IMAGE);
+                self.image = image;
+            }
+            _ => {}
         }
         // A panel that stopped for good gets few calls more.
         if matches!(number, 22 | 23) && self.draw.one_in(2) {
@@ -160,6 +183,11 @@ impl Calls {
             self.left = 1 + draw.below(4);
         }
         self.schedule = schedule(draw, cycle_of(&self.image));
+        // The store of the panel before, at times under another sheet, or an empty one.
+        if !draw.one_in(4) {
+            let entries = draw.of(&[0, 1, 2, 3, 3, 4, 5, 16]);
+            self.store = vec![0; entries * ENTRY];
+        }
     }
 }
 
@@ -247,6 +275,67 @@ fn conversion(draw: &mut Draw, drawn: &mut Drawn) {
         1 => IMAGE + draw.below(20) as usize,
         _ => draw.of(&[IMAGE - 2, IMAGE - 1, IMAGE]),
     };
+}
+
+/// Some names: with zero bytes, and a byte apart.
+const NAMES: [[u8; NAME]; 5] = [
+    *b"full    ",
+    *b"full   1",
+    [0, 0, 0, 0, 0, 0, 0, 1],
+    [1, 0, 0, 0, 0, 0, 0, 0],
+    [255; NAME],
+];
+
+/// The image is stored, or a buffer is lent to a recall: mostly of a sound store and a good name.
+fn keeping(draw: &mut Draw, drawn: &mut Drawn, store: &[u8]) {
+    drawn.store = store.to_vec();
+    drawn.name = match draw.below(16) {
+        0 => bytes(draw, 2 * NAME as u64),
+        1 => vec![0; draw.of(&[NAME, NAME, 0, 7, 9])],
+        _ => draw.of(&NAMES).to_vec(),
+    };
+    if drawn.function == Function::Recall {
+        let length = draw.of(&[IMAGE, IMAGE, IMAGE, IMAGE + 9, IMAGE - 1, 0]);
+        drawn.image = (0..length).map(|_| draw.byte()).collect();
+    }
+    if draw.one_in(6) {
+        damage_store(draw, &mut drawn.store);
+    }
+}
+
+fn damage_store(draw: &mut Draw, store: &mut Vec<u8>) {
+    let length = store.len() as u64;
+    let entry = |draw: &mut Draw| ENTRY * draw.below(length / ENTRY as u64) as usize;
+    match draw.below(6) {
+        0 => store.truncate(draw.below(length + 1) as usize),
+        1 => store.extend(bytes(draw, 2 * ENTRY as u64)),
+        // A name twice, or a zero name twice.
+        2 if length > 0 => {
+            let (one, other) = (entry(draw), entry(draw));
+            store.copy_within(one..one + NAME, other);
+        }
+        // A zero name before used entries.
+        3 if length > 0 => {
+            let at = entry(draw);
+            store[at..at + NAME].fill(0);
+        }
+        4 if length > 0 => {
+            let at = entry(draw) + NAME;
+            damage_part(draw, &mut store[at..at + IMAGE]);
+        }
+        _ if length > 0 => {
+            let at = draw.below(length) as usize;
+            store[at] = draw.of(&[0, 1, 128, 255]);
+        }
+        _ => {}
+    }
+}
+
+/// Bits of an image.
+fn damage_part(draw: &mut Draw, image: &mut [u8]) {
+    for _ in 0..1 + draw.below(3) {
+        image[draw.below(IMAGE as u64) as usize] ^= 1 << draw.below(8);
+    }
 }
 
 /// Records around a cycle and after it, as many as there may be at times; in one of two schedules some with RES

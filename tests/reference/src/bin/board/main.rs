@@ -7,21 +7,21 @@
 //! # The stream
 //!
 //! Numbers have 8 bytes, big-endian. First the seed and how many calls there are; then the calls.
-//! A call is 14 numbers and bytes:
+//! A call is 16 numbers and bytes:
 //!
 //! | number | what |
 //! |---|---|
-//! | 0 | 1 for `wharfnettle_fresh`, 16 for `wharfnettle_convert`, else 0; plus 2 where a ROM follows, 4 where a schedule follows, 8 where a part of length 0 has a null pointer |
-//! | 1 to 5 | lengths of image, ROM, schedule, log and report |
-//! | 6, 7 | n, runner |
-//! | 8 | f: before the call, byte i of log and report is (7 i + f) modulo 256 |
-//! | 9 | the number due |
-//! | 10 | w: the log's bytes from w on are due as they were |
-//! | 11 to 13 | the sheet: ROM bytes, rows, levels |
+//! | 0 | 1 for `wharfnettle_fresh`, 16 for `wharfnettle_convert`, 32 for `wharfnettle_store`, 64 for `wharfnettle_recall`, else 0; plus 2 where a ROM follows, 4 where a schedule follows, 8 where a part of length 0 has a null pointer |
+//! | 1 to 7 | lengths of image, ROM, schedule, log, report, store and name |
+//! | 8, 9 | n, runner |
+//! | 10 | f: before the call, byte i of log and report is (7 i + f) modulo 256 |
+//! | 11 | the number due |
+//! | 12 | w: the log's bytes from w on are due as they were |
+//! | 13 to 15 | the sheet: ROM bytes, rows, levels |
 //!
 //! The bytes are the image given; the ROM and the schedule, where they follow, else they are those of
-//! the call before; then what is due: the image, the report, the first w bytes of the log. A conversion takes the
-//! image to the bytes of the report, and n is the version.
+//! the call before; the store and the name; then what is due: the image, the report, the first w bytes of the log,
+//! the store. A conversion takes the image to the bytes of the report, and n is the version.
 
 mod drawn;
 
@@ -32,6 +32,7 @@ use std::process::ExitCode;
 use drawn::{Calls, Drawn, Function};
 use reference::call::{call, convert, fresh};
 use reference::lent::Lent;
+use reference::store::{recall_to, store};
 #[cfg(test)]
 use reference::Sheet;
 use reference::{restore, Runner};
@@ -42,6 +43,7 @@ struct Due {
     image: Vec<u8>,
     log: Vec<u8>,
     report: Vec<u8>,
+    store: Vec<u8>,
 }
 
 fn filled(length: usize, fill: u8) -> Vec<u8> {
@@ -55,9 +57,12 @@ fn due(drawn: &Drawn) -> Due {
     let mut image = drawn.image.clone();
     let mut log = filled(drawn.log, drawn.fill);
     let mut report = filled(drawn.report, drawn.fill);
+    let mut lent = drawn.store.clone();
     let number = match drawn.function {
         Function::Fresh => fresh(&mut image),
         Function::Convert => convert(&image, &mut report, drawn.n, drawn.sheet),
+        Function::Store => store(&mut lent, &drawn.name, &image, drawn.sheet),
+        Function::Recall => recall_to(&lent, &drawn.name, &mut image, drawn.sheet),
         Function::Call => call(
             &mut image,
             &drawn.rom,
@@ -74,6 +79,7 @@ fn due(drawn: &Drawn) -> Due {
         image,
         log,
         report,
+        store: lent,
     }
 }
 
@@ -101,12 +107,16 @@ fn write_calls(count: u64, seed: u64, out: &mut impl Write) -> io::Result<()> {
                     | u64::from(new_rom) << 1
                     | u64::from(new_schedule) << 2
                     | u64::from(drawn.null) << 3
-                    | u64::from(drawn.function == Function::Convert) << 4,
+                    | u64::from(drawn.function == Function::Convert) << 4
+                    | u64::from(drawn.function == Function::Store) << 5
+                    | u64::from(drawn.function == Function::Recall) << 6,
                 drawn.image.len() as u64,
                 drawn.rom.len() as u64,
                 drawn.schedule.len() as u64,
                 drawn.log as u64,
                 drawn.report as u64,
+                drawn.store.len() as u64,
+                drawn.name.len() as u64,
                 drawn.n,
                 drawn.runner,
                 u64::from(drawn.fill),
@@ -124,10 +134,13 @@ fn write_calls(count: u64, seed: u64, out: &mut impl Write) -> io::Result<()> {
         if new_schedule {
             out.write_all(&drawn.schedule)?;
         }
+        out.write_all(&drawn.store)?;
+        out.write_all(&drawn.name)?;
         out.write_all(&due.image)?;
         out.write_all(&due.report)?;
         out.write_all(&due.log[..written])?;
-        calls.answered(&drawn, due.number, due.image);
+        out.write_all(&due.store)?;
+        calls.answered(&drawn, due.number, due.image, due.store);
         (rom, schedule) = (drawn.rom, drawn.schedule);
     }
     out.flush()
@@ -145,32 +158,38 @@ fn told(seed: u64, place: u64) -> String {
     for _ in 0..place {
         let drawn = calls.next();
         let due = due(&drawn);
-        calls.answered(&drawn, due.number, due.image);
+        calls.answered(&drawn, due.number, due.image, due.store);
     }
     let drawn = calls.next();
     let due = due(&drawn);
     let name = match drawn.function {
         Function::Fresh => "wharfnettle_fresh",
         Function::Convert => "wharfnettle_convert of the image to the report",
+        Function::Store => "wharfnettle_store",
+        Function::Recall => "wharfnettle_recall",
         Function::Call => "wharfnettle_call",
     };
     let mut text = format!(
         "call {place} of seed {seed}: {name}, the number due is {}\n\
-         lengths: image {}, ROM {}, schedule {}, log {}, report {}; n {}, runner {}\n\
+         lengths: image {}, ROM {}, schedule {}, log {}, report {}, store {}; n {}, runner {}\n\
          {:?}\n\
-         image given {}\nimage due   {}\nreport due  {}\n",
+         image given {}\nimage due   {}\nreport due  {}\nname {}\nstore given {}\nstore due   {}\n",
         due.number,
         drawn.image.len(),
         drawn.rom.len(),
         drawn.schedule.len(),
         drawn.log,
         drawn.report,
+        drawn.store.len(),
         drawn.n,
         drawn.runner,
         drawn.sheet,
         hex(&drawn.image),
         hex(&due.image),
         hex(&due.report),
+        hex(&drawn.name),
+        hex(&drawn.store),
+        hex(&due.store),
     );
     let (number, state) = restore(&drawn.image, drawn.sheet);
     if drawn.function == Function::Call && number == 0 {
@@ -235,10 +254,10 @@ mod tests {
             let drawn = calls.next();
             let due = due(&drawn);
             ended[usize::from(due.number)] += 1;
-            calls.answered(&drawn, due.number, due.image);
+            calls.answered(&drawn, due.number, due.image, due.store);
         }
         for number in [
-            0, 1, 2, 3, 11, 12, 13, 14, 21, 22, 23, 31, 32, 33, 34, 54, 71,
+            0, 1, 2, 3, 11, 12, 13, 14, 21, 22, 23, 31, 32, 33, 34, 51, 52, 53, 54, 71,
         ] {
             assert!(ended[number] >= 20, "{number}: {}", ended[number]);
         }
@@ -271,7 +290,7 @@ mod tests {
                 wrong[1] += usize::from(there > 31);
                 wrong[2] += usize::from(!(1..=3).contains(&levels));
             }
-            calls.answered(&drawn, due.number, due.image);
+            calls.answered(&drawn, due.number, due.image, due.store);
         }
         assert!(
             finished[1..].iter().all(|&count| count > 300),
@@ -284,6 +303,41 @@ mod tests {
             "{rows:?}"
         );
         assert!(short > 500, "{short}");
+    }
+
+    /// Stores are written and recalled from, and each call on them is refused by each of its numbers; entries are replaced and
+    /// added.
+    #[test]
+    fn every_kind_of_store_is_drawn() {
+        let mut calls = Calls::new(1);
+        let (mut stored, mut recalled) = ([0; 256], [0; 256]);
+        let (mut replaced, mut deepest) = (0, 0);
+        for _ in 0..20_000 {
+            let drawn = calls.next();
+            let due = due(&drawn);
+            let number = usize::from(due.number);
+            match drawn.function {
+                Function::Store => {
+                    stored[number] += 1;
+                    let name = drawn
+                        .store
+                        .chunks(90)
+                        .position(|entry| entry.starts_with(&drawn.name) && !drawn.name.is_empty());
+                    replaced += usize::from(number == 0 && name.is_some());
+                    deepest = deepest.max(name.unwrap_or(0));
+                }
+                Function::Recall => recalled[number] += 1,
+                _ => {}
+            }
+            calls.answered(&drawn, due.number, due.image, due.store);
+        }
+        for number in [0, 51, 53, 71] {
+            assert!(stored[number] >= 20, "{number}: {}", stored[number]);
+        }
+        for number in [0, 1, 51, 52, 71] {
+            assert!(recalled[number] >= 20, "{number}: {}", recalled[number]);
+        }
+        assert!(replaced > 100 && deepest > 2, "{replaced} {deepest}");
     }
 
     /// Images with each count are run and converted, and resets are written.
@@ -299,7 +353,7 @@ mod tests {
                 match drawn.function {
                     Function::Call => called[usize::from(state.count)] += 1,
                     Function::Convert => converted[usize::from(state.count)] += 1,
-                    Function::Fresh => {}
+                    Function::Fresh | Function::Store | Function::Recall => {}
                 }
             }
             if drawn.function == Function::Call && due.number == 0 {
@@ -311,7 +365,7 @@ mod tests {
                     .filter(|record| record[6] == 0)
                     .count();
             }
-            calls.answered(&drawn, due.number, due.image);
+            calls.answered(&drawn, due.number, due.image, due.store);
         }
         assert!(called.iter().all(|&count| count > 100), "{called:?}");
         assert!(converted.iter().all(|&count| count > 10), "{converted:?}");

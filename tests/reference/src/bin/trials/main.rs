@@ -1,15 +1,17 @@
-//! What crates test_calls and test_values are tried on: makes their streams of commands, and the text that
-//! they have to write. `stream.rs` tells both.
+//! What crates test_calls, test_values and test_store are tried on: makes their streams of commands, and the text
+//! that they have to write. `stream.rs` tells both.
 //!
-//! PROGRAM is `calls` or `values`. `trials PROGRAM FOLDER` writes the stored files of its crate, FOLDER/stdin
+//! PROGRAM is `calls`, `values` or `store`. `trials PROGRAM FOLDER` writes the stored files of its crate, FOLDER/stdin
 //! and FOLDER/stdout, of a few items. `trials PROGRAM whole FOLDER` writes FOLDER/stream and FOLDER/text, of
 //! all. `trials PROGRAM list` names the items, one for each line of the whole text; `trials PROGRAM show K`
-//! tells all of item K. `trials counts` says how many cases, groups and panels there are of each kind.
+//! tells all of item K. `trials counts` says how many cases, groups, panels and stores there are of each
+//! kind.
 
 mod cases;
 mod cuts;
 mod images;
 mod steps;
+mod stores;
 mod stream;
 
 use std::io::Write;
@@ -135,6 +137,23 @@ impl Trials {
     }
 }
 
+/// All items of a program, and what is wrong with them.
+fn all(program: &str) -> (Items, Vec<String>) {
+    if program == "store" {
+        return (stores::all(), stores::faults());
+    }
+    let trials = Trials::all();
+    let faults = trials.faults();
+    (trials.of(program), faults)
+}
+
+fn small(program: &str) -> Items {
+    match program {
+        "store" => stores::small(),
+        _ => Trials::small().of(program),
+    }
+}
+
 /// The whole stream, and its text.
 fn made(items: &Items) -> (Vec<u8>, String) {
     let mut stream = Stream::default();
@@ -170,33 +189,33 @@ fn done(words: &[String]) -> Result<String, String> {
                 images::counts(),
                 cuts::counts(),
                 steps::counts(),
+                stores::counts(),
             ]
             .concat(),
         )),
-        [program @ ("calls" | "values"), "list"] => {
-            let items = Trials::all().of(program);
+        [program @ ("calls" | "values" | "store"), "list"] => {
+            let (items, _) = all(program);
             let names = items.iter().map(|item| item.name()).enumerate();
             Ok(names
                 .map(|(place, name)| format!("{place} {name}\n"))
                 .collect())
         }
-        [program @ ("calls" | "values"), "show", place] => told(&Trials::all().of(program), place),
-        [program @ ("calls" | "values"), "whole", folder] => {
-            let trials = Trials::all();
-            let faults = trials.faults();
+        [program @ ("calls" | "values" | "store"), "show", place] => told(&all(program).0, place),
+        [program @ ("calls" | "values" | "store"), "whole", folder] => {
+            let (items, faults) = all(program);
             if !faults.is_empty() {
                 return Err(faults.join("\n"));
             }
-            write(folder, ["stream", "text"], &trials.of(program)).map_err(failed)?;
+            write(folder, ["stream", "text"], &items).map_err(failed)?;
             Ok(String::new())
         }
-        [program @ ("calls" | "values"), folder] => {
-            let items = Trials::small().of(program);
+        [program @ ("calls" | "values" | "store"), folder] => {
+            let items = small(program);
             write(folder, ["stdin", "stdout"], &items).map_err(failed)?;
             Ok(String::new())
         }
         _ => Err(String::from(
-            "counts is wanted, or calls or values and FOLDER, whole FOLDER, list or show K",
+            "counts is wanted, or calls, values or store and FOLDER, whole FOLDER, list or show K",
         )),
     }
 }

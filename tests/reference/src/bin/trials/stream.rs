@@ -1,10 +1,10 @@
-//! The commands of a stream, and the texts that crates test_calls and test_values write of it.
+//! The commands of a stream, and the texts that crates test_calls, test_values and test_store write of it.
 //!
 //! A command is 24 bytes: a letter (1), a value (1), a place (2), a length (4), n (8) and a runner (8),
 //! numbers big-endian; what a letter doesn't name is 0. Some have bytes behind them, as many as n says. A
 //! stream ends with the letter `.`; another letter, or an end before it, is told in words.
 //!
-//! # Both programs
+//! # The first two programs
 //!
 //! | letter | what |
 //! |---|---|
@@ -68,6 +68,23 @@
 //! to which those before wrote. What a list keeps is the state. A refused run has to answer the state given
 //! and every count 0, a refused save to leave the buffer, and a refused restore to answer the fresh state,
 //! which a list doesn't go on from.
+//!
+//! # test_store: images under names
+//!
+//! H, G and . are as above, and the values 0 and 1 of a call.
+//!
+//! | letter | what |
+//! |---|---|
+//! | M | the store, likewise, up to 65,536 bytes |
+//! | N | the name, likewise, up to 64 bytes |
+//! | I | the image, likewise, up to 512 bytes |
+//! | X | the store's byte at the place has the value |
+//! | W | the image is stored under the name: `store::keep` |
+//! | O | a recall of the name: `store::recall_check`, `store::find` and `store::recall` |
+//!
+//! A line of W has its number and the digest of the whole store; one of O its number, the place of the entry, and
+//! the length and the digest of the part handed back, all 0 but the number where it is refused. In a group they leave
+//! the same, with all bytes in place of their digest.
 
 use reference::case::{digest_from, state_bytes};
 use reference::{Runner, Sheet, State, Version};
@@ -292,6 +309,38 @@ impl Stream {
             length: u32::try_from(length).expect("a length has four bytes"),
             ..Command::default()
         });
+    }
+
+    pub fn store(&mut self, store: &[u8]) {
+        self.put_bytes(b'M', store);
+    }
+
+    pub fn store_length(&mut self, length: usize) {
+        self.put_length(b'M', length);
+    }
+
+    pub fn store_byte(&mut self, place: usize, value: u8) {
+        self.put_byte(b'X', place, value);
+    }
+
+    pub fn name(&mut self, name: &[u8]) {
+        self.put_bytes(b'N', name);
+    }
+
+    fn put_call(&mut self, letter: u8, of: Of) {
+        self.put(Command {
+            letter,
+            value: of.value(),
+            ..Command::default()
+        });
+    }
+
+    pub fn keep_image(&mut self, of: Of) {
+        self.put_call(b'W', of);
+    }
+
+    pub fn recall(&mut self, of: Of) {
+        self.put_call(b'O', of);
     }
 
     pub fn begin_runs(&mut self, log: usize) {

@@ -1,0 +1,7 @@
+pub mod Names
+pub mod Laid
+pub mod Book
+pub mod Replaced
+pub mod Lists
+pub mod Chip
+pub mod Figures
