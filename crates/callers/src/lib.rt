@@ -21,9 +21,11 @@ ghost use Rattle.waiting.specs.WaitingTimes.{startOfDay, waitingTimes};
 ghost use Rattle.waits_text.specs.Parts.{partRead};
 ghost use Rattle.waits_text.specs.Texts.{waitsText};
 ghost use Rattle.streams.specs.Streams.{Wrote};
+ghost use Rattle.store.specs.Answers.{storeAnswer, recallNumber};
+ghost use Rattle.store_calls.specs.Copy.{copyAnswer};
 ghost use Rattle.callers.specs.Uses.{FirstCall, TwoCalls, Fronts};
 
-// The numbers of two calls or conversions, one after the other.
+// The numbers of two calls, conversions or calls on a store, one after the other.
 pub struct Numbers {
     pub first: u8,
     pub second: u8,
@@ -162,6 +164,31 @@ pub fn two_conversions(
 {
     let first = conversion::wharfnettle_convert(from, between, one, rom_bytes, rows, levels);
     let second = conversion::wharfnettle_convert(between, to, other, rom_bytes, rows, levels);
+    Numbers { first, second }
+}
+
+// The number of a recall.
+pub fn recall_number(store: &[u8], name: &[u8], sheet: Sheet) -> u8
+    ensures { λ r. ⌜ r ≡ recallNumber (chip sheet) (now (store .entry)) (now (name .entry)) ⌝ }
+{
+    runs::outcome_number(store::recall_check(store, name, sheet))
+}
+
+// An image stored under a name, and what is then kept under another, copied.
+pub fn stored_and_recalled(
+    store: &mut [u8],
+    name: &[u8],
+    image: &[u8],
+    other: &[u8],
+    buffer: &mut [u8],
+    rom_bytes: u64,
+    rows: u64,
+    levels: u64,
+) -> Numbers
+    ensures { λ r. ⌜ (record { number = r .first; store = now (store .exit) } ≡ storeAnswer (chip (record { rom = «rom_bytes»; rows = rows; levels = levels })) (now (store .entry)) (now (name .entry)) (now (image .entry))) × (record { number = r .second; buffer = now (buffer .exit) } ≡ copyAnswer (chip (record { rom = «rom_bytes»; rows = rows; levels = levels })) (now (store .exit)) (now (other .entry)) (now (buffer .entry))) ⌝ }
+{
+    let first = store_calls::wharfnettle_store(store, name, image, rom_bytes, rows, levels);
+    let second = store_calls::wharfnettle_recall(store, other, buffer, rom_bytes, rows, levels);
     Numbers { first, second }
 }
 

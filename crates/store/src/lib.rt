@@ -177,11 +177,11 @@ fn find_room(store: &[u8], name: &[u8], image: &[u8], sheet: Sheet) -> Place
     if !is_accepted(image, sheet) {
         return Place::Nowhere(Refusal::StoreMalformed);
     }
-    let i = place_among(store, 0, used, name);
-    if i == store.len() / ENTRY_LENGTH {
+    let room = place_among(store, 0, used, name);
+    if room == store.len() / ENTRY_LENGTH {
         return Place::Nowhere(Refusal::StoreFull);
     }
-    Place::At(i)
+    Place::At(room)
 }
 
 // A name and an image, over the bytes of an entry.
@@ -227,6 +227,6 @@ pub fn recall<'a>(store: &'a [u8], name: &[u8], sheet: Sheet) -> &'a [u8]
     let Place::At(i) = place else {
         return &store[0..0];
     };
-    let at = ENTRY_LENGTH * i + NAME_LENGTH;
-    &store[at..at + IMAGE_LENGTH]
+    let from = ENTRY_LENGTH * i + NAME_LENGTH;
+    &store[from..from + IMAGE_LENGTH]
 }

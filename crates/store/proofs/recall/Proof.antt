@@ -74,11 +74,11 @@ returns c =
       place = λ e. absurd (refusal-some why (sym number ∙ e));
     }
 
-mul-at : tie.Need-mul-at
-mul-at c = omega (arith, within c)
+mul-from : tie.Need-mul-from
+mul-from c = omega (arith, within c)
 
-add-at : tie.Need-add-at
-add-at c = omega (arith, within c)
+add-from : tie.Need-add-from
+add-from c = omega (arith, within c)
 
 add-result : tie.Need-add-result
 add-result c = omega (arith, within c)
@@ -119,8 +119,8 @@ recall-spec =
     part-result-start
     part-result-end
     returns
-    mul-at
-    add-at
+    mul-from
+    add-from
     add-result
     sub-result-2
     part-result-start-2
