@@ -4,4 +4,3 @@ pub mod Book
 pub mod Replaced
 pub mod Lists
 pub mod Chip
-pub mod Figures

@@ -23,7 +23,7 @@ use Rattle.store.specs.Answers.{StoreAnswer, placeIn, judgedNumber, storeNumber
 use Rattle.store.proofs.Answers.{judged-fit, store-fit, store-judged, store-image, stored-done, recall-place, recalled-done, entry-within}
 use Rattle.keeping.specs.Lists.{Request, keepUnder, recallOf, madeOn, onOneStore, EveryListOnOneStoreIsMeant}
 use Rattle.keeping.specs.Lists.{Call, keep, recall, sheetOf, lentTo, unlessRefused, lastStored, firstStored, orderOf, isStored, putIn, entriesAfter}
-use Rattle.keeping.specs.Lists.{refusal, documentNumber, leaves, notRefused, last, AllLent, imageLength, emptyStore, Meant, HandsBackTheLast, KeepsTheOthers, ChangesNothing, GoesOn, KeepsTheLast}
+use Rattle.keeping.specs.Lists.{refusal, documentNumber, leaves, notRefused, last, AllLent, imageLength, emptyStore, Meant, HandsBackTheLast, KeepsTheOthers, ChangesNothing, NextCalls, KeepsTheLast}
 use Rattle.keeping.specs.Lists.{EveryListKeepsTheLast, SheetRefusesFirst, MalformedRefusesBeforeRoom}
 use Rattle.keeping.proofs.Names.{lookup, names, place-order, last-lookup, first-names}
 use Rattle.keeping.proofs.Book.{Holds, holds-none, holds-kept, holds-put, lookup-taken, next-recall, next-store, found-kept}

@@ -175,7 +175,7 @@ module _ {Sheet S : Type 0} (M : Sheet → Machine S) where
 
   -- What may be called next, where so many names were stored in this order: "52 no such name to recall; 53 no unused entry for a new name",
   -- and else it isn't refused.
-  pub record GoesOn (sheet : Sheet) (places : ℕ) (names : List (List ℕ)) (store : List ℕ) : Type 0 where
+  pub record NextCalls (sheet : Sheet) (places : ℕ) (names : List (List ℕ)) (store : List ℕ) : Type 0 where
     pub next-recall : (name : List ℕ) → legalName name ≡ true → recallNumber (M sheet) store name ≡ unless (isStored name names) 52
     pub next-store : (name image : List ℕ) → legalName name ≡ true → accepted (M sheet) image ≡ true
         → storeNumber (M sheet) store name image ≡ unless (isStored name names || ltb (length names) places) 53
@@ -191,7 +191,7 @@ module _ {Sheet S : Type 0} (M : Sheet → Machine S) where
     pub unchanged : Each (λ c. ChangesNothing (refusal c) c) calls
     pub refusals : Each (λ c. refusal c ≡ documentNumber c) calls
     pub goes-on : M sheet .ownNumber ≡ 0
-        → GoesOn sheet places (firstStored [] (notRefused calls)) (last (emptyStore sheet places) (notRefused calls))
+        → NextCalls sheet places (firstStored [] (notRefused calls)) (last (emptyStore sheet places) (notRefused calls))
 
   -- "For every list of stores and recalls from an empty store that nobody else writes"
   abbrev pub EveryListKeepsTheLast : Type 0
