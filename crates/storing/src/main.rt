@@ -40,7 +40,11 @@ fn parts(input: &[u8]) {
         expected();
         return;
     }
-    answer(&input[0..NAME_LENGTH], &input[STORE_AT..image_at], &input[image_at..]);
+    answer(
+        &input[0..NAME_LENGTH],
+        &input[STORE_AT..image_at],
+        &input[image_at..],
+    );
 }
 
 // The store is kept in a space of its own, whose first bytes it is.
