@@ -35,7 +35,25 @@ pub fn make(
     show: impl Fn(usize) -> String,
     made: impl FnOnce() -> Made,
 ) -> ExitCode {
-    let words: Vec<String> = env::args().skip(1).collect();
+    make_by(
+        env::args().skip(1).collect(),
+        program,
+        names,
+        counts,
+        show,
+        made,
+    )
+}
+
+/// The same by these words.
+pub fn make_by(
+    words: Vec<String>,
+    program: &str,
+    names: Vec<String>,
+    counts: impl FnOnce() -> Vec<Count>,
+    show: impl Fn(usize) -> String,
+    made: impl FnOnce() -> Made,
+) -> ExitCode {
     let done = match words.as_slice() {
         [word] if word == "list" => {
             let lines = names.iter().enumerate();
