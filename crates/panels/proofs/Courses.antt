@@ -11,7 +11,7 @@ use mathlib.Core.List.{List, [], _∷_}
 use lib.Dec.{T as Holds, ltb, leb, eqb}
 use lib.ListN.{length, take}
 use lib.Seq.{take-length}
-use borrow.Author.Tests.{ltb-false, leb-true, le-leb, le-ltb}
+use borrow.Author.Tests.{ltb-false, leb-true, le-leb, le-ltb, ne-eqb}
 use Rattle.runs.specs.Refusals.{firstOf, unless}
 use Rattle.laws.proofs.Lists.{and-left, and-right}
 use Rattle.panels.specs.declared.Needs.{Needs}
@@ -165,9 +165,9 @@ module _ (ends : Places) (ns : List Needs) where
 
   tests-fit : fits ends ns ≡ true → Fit firstPlaces ends ns
   tests-fit e =
-      let r = leb-true _ _ (and-left rom-test schedule-test (and-left (rom-test && schedule-test) log-test e)) in
-      let s = leb-true _ _ (and-right rom-test schedule-test (and-left (rom-test && schedule-test) log-test e)) in
-      let l = leb-true _ _ (and-right (rom-test && schedule-test) log-test e) in
+      let r : together (λ n. n .rom) ns ≤ ends .rom = leb-true _ _ (and-left rom-test schedule-test (and-left (rom-test && schedule-test) log-test e)) in
+      let s : together (λ n. n .schedule) ns ≤ ends .schedule = leb-true _ _ (and-right rom-test schedule-test (and-left (rom-test && schedule-test) log-test e)) in
+      let l : together (λ n. n .log) ns ≤ ends .log = leb-true _ _ (and-right (rom-test && schedule-test) log-test e) in
       record { rom = omega (arith, r); schedule = omega (arith, s); log = omega (arith, l) }
 
   no-more : (m : ℕ) (end : ℕ) → 0 + m ≤ end → m ≤ end
@@ -235,14 +235,25 @@ module _ (ends : Places) (ns : List Needs) where
 
     turned-away : (c : Course) (k : ℕ) → c .number ≡ suc k → (planOf c .number ≡ suc k) × (planOf c .count ≡ 0)
     unfolding planOf
-    turned-away c k e = (e, ap (λ (m : ℕ). cond (eqb m 0) (c .count) 0) e)
+    turned-away c k e = (e, ap (λ (m : ℕ). cond (eqb m 0) (c .count) 0) e ∙ ap (λ (z : Bool). cond z (c .count) 0) (ne-eqb (suc k) 0 (apart k)))
+
+    -- where no panel is gone through, none is noted
+    at-once : (c : Course) (k : ℕ) → c .count ≡ 0 → c .number ≡ suc k
+        → (planOf (noteAll c (take (c .count) ns)) .number ≡ suc k) × (planOf (noteAll c (take (c .count) ns)) .count ≡ 0)
+    at-once c k z e =
+        let none : noteAll c (take (c .count) ns) ≡ c = ap (λ (m : ℕ). noteAll c (take m ns)) z in
+        let away = turned-away c k e in
+        (ap (λ (d : Course). planOf d .number) none ∙ away .0, ap (λ (d : Course). planOf d .count) none ∙ away .1)
+
+    none-counted : (m : ℕ) → cond (eqb (suc m) 0) (length ns) 0 ≡ 0
+    none-counted m = ap (λ (z : Bool). cond z (length ns) 0) (ne-eqb (suc m) 0 (apart m))
 
     refused : (own : ℕ) (few all : Bool) → fits ends ns ≡ all → (k : ℕ) → refusal own few all ≡ suc k → (planned own few .number ≡ suc k) × (planned own few .count ≡ 0)
     unfolding firstOf
     refused zero true true f k e = absurd (apart k (sym e))
     refused zero true false f k e = turned-away noted k (number-is false f ∙ e)
-    refused zero false all f k e = turned-away (begun zero false) k e
-    refused (suc m) few all f k e = turned-away (begun (suc m) few) k e
+    refused zero false all f k e = at-once (begun zero false) k (none-counted 60) e
+    refused (suc m) few all f k e = at-once (begun (suc m) few) k (none-counted m) e
 
     -- THE PLAN OF A ROUND THAT ISN'T REFUSED
     pub plan-is : (own : ℕ) → roundNumber own ends ns ≡ 0 → plannedOf own ends t ns ≡ planFor ends t ns
