@@ -5,16 +5,17 @@ use Prim.Native.Nat.{ℕ, zero, suc, _+_, _≤_}
 use native.Mathlib.Omega.{arith}
 use mathlib.Core.Bool.{Bool, true, false, cond}
 use mathlib.Core.List.{List, [], _∷_, _++_}
-use lib.Dec.{eqb}
+use lib.Dec.{eqb, leb}
 use lib.ListN.{length, getD, set, take, length-append}
 use Rattle.runs.specs.Machine.{Machine}
 use Rattle.runs.specs.EveryRun.{EveryRunCountsWithin}
+use Rattle.runs.specs.Refusals.{firstOf, unless}
 use Rattle.upd546.specs.declared.State.{State}
 use Rattle.upd546.specs.TheMachine.{fresh}
 use Rattle.panels.specs.declared.Panel.{Panel}
 use Rattle.panels.specs.declared.Places.{Places}
 use Rattle.panels.specs.declared.Course.{Course}
-use Rattle.panels.specs.Places.{endsOf}
+use Rattle.panels.specs.Places.{mostPanels, endsOf}
 use Rattle.panels.specs.Courses.{beginOf, noteOf, planOf, afterOf, noteAll, plannedOf}
 use Rattle.panels.specs.Round.{needsOf, panelAfter, RoundAnswer, turnRun, turnLogs, roundAnswer}
 use Rattle.panels.proofs.Rounds.{needs-length, turnsOf, turns-make}
@@ -52,7 +53,7 @@ none-or-all false m n h = omega arith
 
 pub begin-count : (own m : ℕ) (ends : Places) (t : ℕ) → beginOf own m ends t .count ≤ m
 unfolding beginOf
-begin-count own m ends t = none-or-all _ m m (omega arith)
+begin-count own m ends t = none-or-all (eqb (firstOf (own ∷ unless (leb m mostPanels) 61 ∷ [])) 0) m m (omega arith)
 
 pub noting-count : (k i : ℕ) (zs : List Panel) (c : Course) → noting k i zs c .count ≡ c .count
 unfolding noteOf
