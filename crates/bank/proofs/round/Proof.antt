@@ -591,8 +591,8 @@ module _ {M : Type 1} (𝓤 : URA M) (H : Heap 𝓤) (A : Atoms 𝓤) (W : Given
         assigns ! (bin ! (load ! (from ! (stop !)) (look ! 48 refl)) (lit ! tt) (record { fits = scaled (room .1) within })) (from ! (stop !)) (store ! 22 refl (tt, record { fits = scaled (room .1) within })) $
         assigns ! (bin ! (load ! (from ! (fld ! refl (stop !))) (look-in ! 64 (sub ! 0 refl (whole !)))) (load ! (from ! (stop !)) (look ! 22 refl)) tt) (from ! (stop !)) (init ! 12 refl (tt, tt)) $
         rewrite ! 12 (λ (z : ℕ). ‵ (fat fullShare tyPtr l₂₆ 0 (vptr b z))) (sym (place-is size o i)) refl $
-        assigns ! (of-opd ! (load ! (from ! (fld ! refl (stop !))) (look-in ! 42 (sub ! 0 refl (whole !))))) (from ! (hop ! (look ! 12 refl) (stop !))) (store-raw ! 6 refl (typed-panel (r .panel) (is-panel r is′))) $
-        assigns ! (of-opd ! (load ! (from ! (fld ! refl (stop !))) (look-in ! 42 (sub ! 1 refl (whole !))))) (from ! (stop !)) (store ! 52 refl (typed-course (r .course) (is-course r is′))) $
+        assigns ! (of-opd ! (load ! (from ! (fld ! {τ = T′.mir} {d = 0} refl (stop !))) (look-in ! 42 {τ = T′.mir} (sub ! 0 {τ = T′.mir} {d = 0} refl (whole !))))) (from ! (hop ! (look ! 12 refl) (stop !))) (store-raw ! 6 refl (typed-panel (r .panel) (is-panel r is′))) $
+        assigns ! (of-opd ! (load ! (from ! (fld ! {τ = K′.mir} {d = 208} refl (stop !))) (look-in ! 42 {τ = K′.mir} (sub ! 1 {τ = K′.mir} {d = 208} refl (whole !))))) (from ! (stop !)) (store ! 52 refl (typed-course (r .course) (is-course r is′))) $
         assigns-last ! (bin ! (load ! (from ! (stop !)) (look ! 48 refl)) (lit ! tt) (record { fits = next-fits (room .0) within })) (from ! (stop !)) (store ! 48 refl (tt, record { fits = next-fits (room .0) within })) $
         move ! (7 ∷ []) $
         drop ! $
