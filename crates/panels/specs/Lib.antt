@@ -1,0 +1,5 @@
+pub mod Grants
+pub mod Places
+pub mod Courses
+pub mod Round
+pub mod Alone
