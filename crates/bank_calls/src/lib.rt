@@ -5,9 +5,11 @@ use board::REPORT_LENGTH;
 use upd546::Sheet;
 use upd546::layout::IMAGE_LENGTH;
 ghost use mathlib.Core.Path.{_≡_};
-ghost use lib.ListN.{length};
+ghost use mathlib.Core.List.{[], _∷_, _++_};
+ghost use lib.ListN.{length, take};
 ghost use Rattle.upd546.specs.TwoRunners.{chip};
-ghost use Rattle.bank_calls.specs.Entries.{entryLength, ownAnswer, entryAfter};
+ghost use Rattle.calls.specs.Call.{reportLength};
+ghost use Rattle.bank_calls.specs.Entries.{reportAt, entryLength, ownAnswer, entryAfter};
 
 // The bytes of a wish and of a length.
 const COUNT_BYTES: usize = 8;
@@ -20,6 +22,15 @@ const REPORT_AT: usize = WISH_AT + 4 * COUNT_BYTES;
 const NUMBER_AT: usize = REPORT_AT + REPORT_LENGTH;
 
 pub const ENTRY_LENGTH: usize = NUMBER_AT + 1;
+
+// What a call tells, in the entry: its report and its number.
+fn put_told(entry: &mut [u8], report: &[u8], number: u8)
+    requires { ⌜ (length (now entry) ≡ entryLength) × (length (now report) ≡ reportLength) ⌝ }
+    ensures { λ _. ⌜ now (entry .exit) ≡ take reportAt (now (entry .entry)) ++ now (report .entry) ++ number ∷ [] ⌝ }
+{
+    bytes::copy(report, &mut entry[REPORT_AT..]);
+    entry[NUMBER_AT] = number;
+}
 
 // One panel's turn: the board's call on the image of its entry, and what it tells, in the entry.
 fn turn(entry: &mut [u8], rom: &[u8], schedule: &[u8], log: &mut [u8], n: u64, sheet: Sheet)
@@ -40,6 +51,5 @@ fn turn(entry: &mut [u8], rom: &[u8], schedule: &[u8], log: &mut [u8], n: u64, s
         sheet.rows,
         sheet.levels,
     );
-    bytes::copy(&report, &mut entry[REPORT_AT..]);
-    entry[NUMBER_AT] = number;
+    put_told(entry, &report, number);
 }
