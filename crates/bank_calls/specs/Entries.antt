@@ -1,11 +1,12 @@
 -- Request R-9 on a bank of bytes, over any machine: "one entry of 147 bytes a panel: image (82), wish, ROM length, schedule length, log
 -- length (8 each), cycles, instructions, log bytes, steps (8 each), number (1), big-endian". Assumes nothing: these are definitions.
-use Prim.Native.Nat.{ℕ, zero, suc, _+_, _*_}
+use Prim.Native.Nat.{ℕ, zero, suc, _+_, _/_}
 use mathlib.Core.List.{List, [], _∷_, _++_}
-use lib.ListN.{take, drop, replicate}
+use lib.ListN.{length, take, drop, replicate}
 use Rattle.runs.specs.Machine.{Machine}
 use Rattle.upd546.specs.declared.Sheet.{Sheet}
 use Rattle.upd546.specs.Bytes.{part, numberAt}
+use Rattle.panels.specs.declared.Needs.{Needs}
 use Rattle.calls.specs.Call.{BoardCall, BoardAnswer, reportLength, boardAnswer}
 
 -- "image (82)"
@@ -32,6 +33,24 @@ entryLength = numberPlace + 1
 abbrev pub entriesOf : ℕ → List ℕ → List (List ℕ)
 entriesOf zero bytes = []
 entriesOf (suc n) bytes = take entryLength bytes ∷ entriesOf n (drop entryLength bytes)
+
+-- the whole entries of a bank
+abbrev pub entriesIn : List ℕ → List (List ℕ)
+entriesIn bank = entriesOf (length bank / entryLength) bank
+
+-- "wish, ROM length, schedule length, log length (8 each), .. big-endian"
+unfoldable pub entryNeeds : List ℕ → Needs
+entryNeeds entry = record {
+  wish = record { 0 = numberAt entry imageBytes 8 };
+  rom = numberAt entry (imageBytes + 8) 8;
+  schedule = numberAt entry (imageBytes + 16) 8;
+  log = numberAt entry (imageBytes + 24) 8;
+}
+
+-- of all entries, in order of the row
+unfoldable pub needsIn : List (List ℕ) → List Needs
+needsIn [] = []
+needsIn (e ∷ es) = entryNeeds e ∷ needsIn es
 
 module _ {S : Type 0} (M : Sheet → Machine S) (sheet : Sheet) where
   -- "its own timer-skipping run for its grant": the board's call (R-3) on the entry's image and its parts of the buffers, with the
