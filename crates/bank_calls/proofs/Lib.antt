@@ -1,1 +1,4 @@
 pub mod Told
+pub mod Span
+pub mod Turning
+pub mod Lots

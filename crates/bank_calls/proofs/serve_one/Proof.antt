@@ -1,76 +1,91 @@
+-- The entry's needs, its lot, and the board's call on its parts of the buffers. Assumes nothing.
+use mathlib.Core.Path.{_≡_, _∙_, ap}
+use mathlib.Core.List.{List}
+use Prim.Native.Nat.{ℕ}
+use native.Mathlib.Omega.{arith}
+use denote.Ref.{now}
+use Rattle.upd546.specs.TwoRunners.{chip}
+use Rattle.panels.specs.Courses.{lotOf, afterOf}
+use Rattle.bank_calls.specs.Entries.{entryNeeds, entryAfter}
+use Rattle.bank_calls.specs.InTurn.{Within}
+use Rattle.bank_calls.proofs.Lots.{Lent, lent, own-answer, own-logs}
 use borrow.Author.Needs.{needs}
 use Rattle.bank_calls.proofs.serve_one.Statement.{statement}
 use Rattle.bank_calls.proofs.serve_one.Tie as tie
-use Rattle.bank_calls.proofs.serve_one.Reads as reads
-use Rattle.bank_calls.proofs.serve_one.Lts as lts
-use Rattle.bank_calls.proofs.needs_of.Reads as needs-of-reads
-use Rattle.bank_calls.proofs.turn.Reads as turn-reads
-use Rattle.panels.proofs.after.Reads as after-reads
-use Rattle.panels.proofs.lot_of.Reads as lot-of-reads
 
--- src/lib.rt:108:9
 needs-of-requires : tie.Need-needs-of-requires
 needs-of-requires c κs = search needs
 
--- src/lib.rt:109:9
 lot-of-requires : tie.Need-lot-of-requires
 lot-of-requires c κs = search needs
 
--- src/lib.rt:110:9
 after-requires : tie.Need-after-requires
 after-requires c κs = search needs
 
--- src/lib.rt:119:9
+-- where the next course is known
+abbrev entry : tie.After-after → tie.Start
+entry c = c .before .before .before .before .before .before .before .before
+
+abbrev within : (c : tie.After-after) → Within (entry c .args .c) (now (entry c .args .roms)) (now (entry c .args .schedules)) (now (entry c .args .logs))
+within c = entry c .pre .1
+
+ends : (c : tie.After-after) → c .after .result ≡ afterOf (entry c .args .c) (entryNeeds (now (entry c .args .entry)))
+ends c = c .after .ensures ∙ ap (afterOf (entry c .args .c)) (c .before .before .needs-of .ensures)
+
+parts : (c : tie.After-after)
+    → Lent (entry c .args .c .at) (c .after .result .at) (now (entry c .args .roms)) (now (entry c .args .schedules)) (now (entry c .args .logs))
+parts c =
+    let a = entry c .args in
+    lent (now (a .roms)) (now (a .schedules)) (now (a .logs)) (a .c) (within c) (entryNeeds (now (a .entry))) (ends c)
+
 sub-turn : tie.Need-sub-turn
-sub-turn c = ?
+sub-turn c = parts (c .before) .rom
 
--- src/lib.rt:119:9
 part-turn-start : tie.Need-part-turn-start
-part-turn-start c = ?
+part-turn-start c = omega (arith, parts (c .before) .rom, parts (c .before) .rom-end)
 
--- src/lib.rt:119:9
 part-turn-end : tie.Need-part-turn-end
-part-turn-end c = ?
+part-turn-end c = omega (arith, parts (c .before) .rom, parts (c .before) .rom-end)
 
--- src/lib.rt:120:9
 sub-turn-2 : tie.Need-sub-turn-2
-sub-turn-2 c = ?
+sub-turn-2 c = parts (c .before .before) .schedule
 
--- src/lib.rt:120:9
 part-turn-start-2 : tie.Need-part-turn-start-2
-part-turn-start-2 c = ?
+part-turn-start-2 c = omega (arith, parts (c .before .before) .schedule, parts (c .before .before) .schedule-end)
 
--- src/lib.rt:120:9
 part-turn-end-2 : tie.Need-part-turn-end-2
-part-turn-end-2 c = ?
+part-turn-end-2 c = omega (arith, parts (c .before .before) .schedule, parts (c .before .before) .schedule-end)
 
--- src/lib.rt:121:9
 sub-turn-3 : tie.Need-sub-turn-3
-sub-turn-3 c = ?
+sub-turn-3 c = parts (c .before .before .before) .log
 
--- src/lib.rt:121:9
 part-turn-start-3 : tie.Need-part-turn-start-3
-part-turn-start-3 c = ?
+part-turn-start-3 c = omega (arith, parts (c .before .before .before) .log, parts (c .before .before .before) .log-end)
 
--- src/lib.rt:121:9
 part-turn-end-3 : tie.Need-part-turn-end-3
-part-turn-end-3 c = ?
+part-turn-end-3 c = omega (arith, parts (c .before .before .before) .log, parts (c .before .before .before) .log-end)
 
--- src/lib.rt:117:5
 turn-requires : tie.Need-turn-requires
 turn-requires c κs = search needs
 
--- src/lib.rt:95:1
 same-length : tie.Need-same-length
 same-length c = search needs
 
--- src/lib.rt:95:1
 same-length-2 : tie.Need-same-length-2
 same-length-2 c = search needs
 
--- src/lib.rt:95:1
 returns : tie.Need-returns
-returns c = ?
+returns c =
+    let at-turn = c .before .before .before .before in
+    let at-after = at-turn .before .before .before .before .before in
+    let a = entry at-after .args in
+    let its = at-after .before .lot-of .ensures ∙ ap (lotOf (a .c)) (at-after .before .before .needs-of .ensures) in
+    let same = own-answer (now (a .roms)) (now (a .schedules)) (now (a .logs)) (a .c) (within at-after) chip (a .sheet) (now (a .entry)) (ends at-after) its in (
+      at-turn .turn .ensures .0 ∙ ap (entryAfter (now (a .entry))) same,
+      own-logs (now (a .roms)) (now (a .schedules)) (now (a .logs)) (a .c) (within at-after) chip (a .sheet) (now (a .entry)) (ends at-after) its
+      (at-turn .turn .ensures .1),
+      ends at-after,
+    )
 
 pub serve-one-spec : {M : Type 1} → statement M
 serve-one-spec =
