@@ -2,3 +2,4 @@ pub mod Told
 pub mod Span
 pub mod Turning
 pub mod Lots
+pub mod Rounds
