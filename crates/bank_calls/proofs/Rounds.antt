@@ -157,3 +157,120 @@ module _ (sheet : Sheet) (roms schedules logs : List ℕ) where
         bank = entryAfter e (own-is e done c m placed ends fits j) ++ (there ∙ rest) j .bank;
         logs = (ap (λ (z : Served). z .logs) (there ∙ rest) ∙ joined) j;
       }
+
+-- THE WHOLE ROUND
+
+begin-count : (own m : ℕ) (ends : Places) (t : ℕ) → beginOf own m ends t .count ≤ m
+unfolding beginOf
+begin-count own m ends t = go (eqb (firstOf (own ∷ unless (leb m mostPanels) 61 ∷ [])) 0)
+  where
+    go : (b : Bool) → cond b m 0 ≤ m
+    go true = omega arith
+    go false = omega arith
+
+module _ (sheet : Sheet) (bank roms schedules logs : List ℕ) (t : ℕ) where
+  abbrev own-number : ℕ
+  own-number = chip sheet .ownNumber
+
+  abbrev ends : Places
+  ends = endsOf roms schedules logs
+
+  abbrev all-needs : List Needs
+  all-needs = needsIn (entriesIn bank)
+
+  -- what refuses a round but 63
+  abbrev pub refusal : ℕ
+  refusal = roundNumber own-number ends all-needs
+
+  as-many : length all-needs ≡ length bank / entryLength
+  as-many = length-needs (entriesIn bank) ∙ length-entries (length bank / entryLength) bank
+
+  -- begun, noted and planned
+  pub planned-is : {b n p : Course} → b ≡ beginOf own-number (length bank / entryLength) ends t → n ≡ noteAll b (needsIn (entriesOf (b .count) bank)) → p ≡ planOf n
+      → p ≡ plannedOf own-number ends t all-needs
+  planned-is begun noted planned =
+      let m : ℕ = length bank / entryLength in
+      let start : Course = beginOf own-number m ends t in
+      planned
+      ∙ ap planOf noted
+      ∙ ap (λ (c : Course). planOf (noteAll c (needsIn (entriesOf (c .count) bank)))) begun
+      ∙ ap (λ (ns : List Needs). planOf (noteAll start ns)) (sym (first-needs (start .count) m bank (begin-count own-number m ends t)))
+      ∙ ap (λ (k : ℕ). planOf (noteAll (beginOf own-number k ends t) (take (beginOf own-number k ends t .count) all-needs))) (sym as-many)
+
+  -- the entries that are noted are there
+  pub noted-fit : {b : Course} → b ≡ beginOf own-number (length bank / entryLength) ends t → entryLength * b .count ≤ length bank
+  noted-fit begun =
+      let few = begin-count own-number (length bank / entryLength) ends t in
+      omega (arith, few, ap (λ (c : Course). c .count) begun)
+
+  module _ {p : Course} (planned : p ≡ plannedOf own-number ends t all-needs) where
+    -- its number is that of the round, but for 63
+    pub number-is : p .number ≡ refusal
+    number-is = go refusal refl
+      where
+        go : (k : ℕ) → refusal ≡ k → p .number ≡ refusal
+        go zero e = ap (λ (c : Course). c .number) (planned ∙ plan-is ends all-needs t own-number e) ∙ sym e
+        go (suc k) e = ap (λ (c : Course). c .number) planned ∙ plan-refused ends all-needs t own-number k e .0 ∙ sym e
+
+    pub round-refused : (p .number ≡ 0 → ⊥) → record { number = p .number; bank = bank; logs = logs } ≡ bankAnswer chip sheet bank roms schedules logs t
+    unfolding bankAnswer bankNumber firstOf
+    round-refused some = go (p .number) some number-is
+      where
+        go : (k : ℕ) → (k ≡ 0 → ⊥) → k ≡ refusal
+            → record { number = k; bank = bank; logs = logs }
+            ≡ rounded chip sheet (firstOf (refusal ∷ unless (eqb (length bank % entryLength) 0) 63 ∷ [])) bank roms schedules logs t
+        go zero h e = absurd (h refl)
+        go (suc k) h e = ap (λ (j : ℕ). rounded chip sheet (firstOf (j ∷ unless (eqb (length bank % entryLength) 0) 63 ∷ [])) bank roms schedules logs t) e
+
+    module _ (none : p .number ≡ 0) where
+      nothing : 0 ≡ refusal
+      nothing = sym none ∙ number-is
+
+      plan : p ≡ planFor ends t all-needs
+      plan = planned ∙ plan-is ends all-needs t own-number (sym nothing)
+
+      pub round-odd : (length bank % entryLength ≡ 0 → ⊥) → record { number = 63; bank = bank; logs = logs } ≡ bankAnswer chip sheet bank roms schedules logs t
+      unfolding bankAnswer bankNumber firstOf
+      round-odd h =
+          ap₂ (λ (j : ℕ) (b : Bool). rounded chip sheet (firstOf (j ∷ unless b 63 ∷ [])) bank roms schedules logs t) nothing
+          (sym (ne-eqb (length bank % entryLength) 0 h))
+
+      module _ (even : length bank % entryLength ≡ 0) where
+        count-is : p .count ≡ length bank / entryLength
+        count-is = ap (λ (c : Course). c .count) plan ∙ as-many
+
+        -- the entries that have their turns are all of the bank
+        pub all-served : entryLength * p .count ≡ length bank
+        all-served = omega (arith, count-is, even)
+
+        pub first-within : Within p roms schedules logs
+        first-within =
+            let first : p .at ≡ firstPlaces = ap (λ (c : Course). c .at) plan in
+            record {
+              rom = omega (arith, ap (λ (z : Places). z .rom) first);
+              schedule = omega (arith, ap (λ (z : Places). z .schedule) first);
+              log = omega (arith, ap (λ (z : Places). z .log) first);
+              ends = ap (λ (c : Course). c .ends) plan;
+            }
+
+        pub round-done : {b l : List ℕ} → record { bank = b; logs = l } ≡ inTurn chip sheet roms schedules logs p (entriesOf (p .count) bank)
+            → record { number = 0; bank = b; logs = l } ≡ bankAnswer chip sheet bank roms schedules logs t
+        unfolding bankAnswer bankNumber firstOf
+        round-done {b} {l} turns =
+            let es : List (List ℕ) = entriesIn bank in
+            let fit : Fit firstPlaces ends all-needs = fits-all ends all-needs own-number (sym nothing) in
+            let c : Course = planFor ends t all-needs in
+            let all : record { bank = b; logs = l } ≡ leaves sheet roms schedules logs [] c es
+            = turns
+            ∙ (λ j. inTurn chip sheet roms schedules logs (plan j) (entriesOf (count-is j) bank))
+            ∙ serve-is sheet roms schedules logs es [] c refl refl (fit .log) in
+            let from-first : 0 + together (λ n. n .log) all-needs ≡ together (λ n. n .log) all-needs = omega arith in
+            let lots = plan-hands ends all-needs t fit in
+            ap {B = BankAnswer} (λ (z : Served). record { number = 0; bank = z .bank; logs = z .logs }) all
+            ∙ ap₂ {C = BankAnswer} (λ (ls : List Lot) (k : ℕ). record {
+              number = 0;
+              bank = served chip sheet roms schedules logs ls es;
+              logs = written chip sheet roms schedules logs ls es ++ drop k logs;
+            }) lots from-first
+            ∙ ap₂ (λ (j : ℕ) (z : Bool). rounded chip sheet (firstOf (j ∷ unless z 63 ∷ [])) bank roms schedules logs t) nothing
+            (sym (eq-eqb (length bank % entryLength) 0 even))
