@@ -35,9 +35,10 @@ put-entry-front : (bank e : List ℕ) (at : ℕ) → at ≤ length bank → leng
 put-entry-front bank e at h l p =
     let long : length (take at bank ++ e) ≡ at + entryLength = omega (arith, length-append (take at bank) e, length-take-le at bank h, l) in
     let rest : List ℕ = drop entryLength (drop at bank) in
-    let joined = p ∙ sym (append-assoc (take at bank) e rest) in
-    (ap (take (at + entryLength)) joined ∙ take-at (take at bank ++ e) rest (at + entryLength) long,
-    ap (drop (at + entryLength)) joined ∙ drop-at (take at bank ++ e) rest (at + entryLength) long ∙ drop-drop entryLength at bank)
+    let joined = p ∙ sym (append-assoc (take at bank) e rest) in (
+      ap (take (at + entryLength)) joined ∙ take-at (take at bank ++ e) rest (at + entryLength) long,
+      ap (drop (at + entryLength)) joined ∙ drop-at (take at bank ++ e) rest (at + entryLength) long ∙ drop-drop entryLength at bank,
+    )
 
 module _ {S : Type 0} (M : Sheet → Machine S) (sheet : Sheet) (roms schedules : List ℕ) where
   -- what the entries before i are, and the others will be

@@ -142,7 +142,14 @@ fn serve(
     let mut i = 0;
     while i < count {
         let at = ENTRY_LENGTH * i;
-        course = serve_one(&mut bank[at..at + ENTRY_LENGTH], roms, schedules, logs, course, sheet);
+        course = serve_one(
+            &mut bank[at..at + ENTRY_LENGTH],
+            roms,
+            schedules,
+            logs,
+            course,
+            sheet,
+        );
         i += 1;
     }
 }
@@ -167,7 +174,14 @@ pub extern "C" fn wharfnettle_round(
         levels,
     };
     let whole = bank.len() / ENTRY_LENGTH;
-    let begun = panels::begin(whole, roms.len(), schedules.len(), logs.len(), MachineCycles(t), sheet);
+    let begun = panels::begin(
+        whole,
+        roms.len(),
+        schedules.len(),
+        logs.len(),
+        MachineCycles(t),
+        sheet,
+    );
     let course = panels::planned(noted_all(bank, begun));
     if course.number != 0 {
         return course.number;

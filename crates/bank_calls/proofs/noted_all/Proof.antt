@@ -72,8 +72,8 @@ loop-again c =
     let seen = c .noted .ensures ∙ ap (noteOf (l .course)) (rw all at (c .before .needs-of .ensures)) in (
       omega (arith, more),
       ap (λ (z : Course). noteAll z (needsIn (span (now (a .bank)) (l .i + 1) (a .begun .count)))) seen
-      ∙ note-next (now (a .bank)) (l .i) (a .begun .count) (l .course) more
-      ∙ l .inv .1,
+          ∙ note-next (now (a .bank)) (l .i) (a .begun .count) (l .course) more
+          ∙ l .inv .1,
       l .inv .2,
     )
 

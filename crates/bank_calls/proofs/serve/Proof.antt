@@ -84,11 +84,11 @@ loop-again c =
       same-len-mid at (at + entryLength - at) (l .bank) (call .last .0) (call .kept .0) ∙ l .inv .2,
       same-logs ∙ l .inv .3,
       subst (λ (z : Course). Within z (now (a .roms)) (now (a .schedules)) (call .last .1 .1 .1 .0)) (sym onward)
-      (within-on (now (a .roms)) (now (a .schedules)) (l .logs) (l .course) (l .inv .4) (entryNeeds own) same-logs),
+          (within-on (now (a .roms)) (now (a .schedules)) (l .logs) (l .course) (l .inv .4) (entryNeeds own) same-logs),
       (λ j. left chip (a .sheet) (now (a .roms)) (now (a .schedules)) (putMid at (all j) (l .bank) (call .last .0)) (logs-left j) (onward j) (l .i + 1) (a .planned .count))
-      ∙ left-next chip (a .sheet) (now (a .roms)) (now (a .schedules)) (l .bank) (l .logs) (l .course) (l .i) (a .planned .count) more fits (call .last .0)
-      (rw all at (call .ensures .0)) long refl
-      ∙ l .inv .5,
+          ∙ left-next chip (a .sheet) (now (a .roms)) (now (a .schedules)) (l .bank) (l .logs) (l .course) (l .i) (a .planned .count) more fits (call .last .0)
+          (rw all at (call .ensures .0)) long refl
+          ∙ l .inv .5,
     )
 
 same-length : tie.Need-same-length Inv-loop μ-loop

@@ -82,8 +82,11 @@ returns c =
     let its = at-after .before .lot-of .ensures ∙ ap (lotOf (a .c)) (at-after .before .before .needs-of .ensures) in
     let same = own-answer (now (a .roms)) (now (a .schedules)) (now (a .logs)) (a .c) (within at-after) chip (a .sheet) (now (a .entry)) (ends at-after) its in (
       at-turn .turn .ensures .0 ∙ ap (entryAfter (now (a .entry))) same,
-      (own-logs (now (a .roms)) (now (a .schedules)) (now (a .logs)) (a .c) (within at-after) chip (a .sheet) (now (a .entry)) (ends at-after) its
-      (at-turn .turn .ensures .1), ends at-after),
+      (
+        own-logs (now (a .roms)) (now (a .schedules)) (now (a .logs)) (a .c) (within at-after) chip (a .sheet) (now (a .entry)) (ends at-after) its
+            (at-turn .turn .ensures .1),
+        ends at-after,
+      ),
     )
 
 pub serve-one-spec : {M : Type 1} → statement M
