@@ -1,0 +1,421 @@
+-- Each panel of a round has its own run and nothing else, and a refused round changes nothing. Assumes nothing.
+use mathlib.Core.Path.{_≡_, _∙_, refl, sym, ap, ap₂, subst}
+use mathlib.Core.Bool.{Bool, true, false, _&&_}
+use mathlib.Core.List.{List, [], _∷_, _++_, append-assoc}
+use Prim.Native.Nat.{ℕ, zero, suc, _+_, _-_, _≤_, _<_}
+use native.Mathlib.Omega.{arith}
+use lib.Dec.{leb, ltb, leb·zero}
+use lib.ListN.{length, getD, take, drop, length-append, length-take, length-drop, take-append-drop, List·getD-append}
+use lib.Seq.{take-at, drop-at, drop-drop, drop-append-le, drop-append-seam, getD-append-add, getD-drop}
+use borrow.Author.Tests.{leb-true, ltb-true, ltb-false}
+use Rattle.runs.specs.Machine.{Machine}
+use Rattle.runs.specs.Refusals.{firstOf, unless}
+use Rattle.runs.specs.TwoRunners.{RunAnswer, Stepped, strides, runNumber, told, skipping}
+use Rattle.runs.specs.EveryRun.{CountsWithin, EveryRunCountsWithin}
+use Rattle.runs.specs.Lists.{skippingOne}
+use Rattle.runs.proofs.Refusals.{first-at, first-is, passes}
+use Rattle.upd546.specs.declared.State.{State}
+use Rattle.upd546.specs.Bytes.{part}
+use Rattle.upd546.specs.TwoRunners.{chip}
+use Rattle.laws.proofs.Lists.{and-right}
+use Rattle.laws.proofs.Demand3.{every-run-counts-within}
+use Rattle.panels.specs.declared.Needs.{Needs}
+use Rattle.panels.specs.declared.Places.{Places}
+use Rattle.panels.specs.declared.Lot.{Lot}
+use Rattle.panels.specs.declared.Panel.{Panel}
+use Rattle.panels.specs.Grants.{granted, grants}
+use Rattle.panels.specs.Places.{mostPanels, firstPlaces, nextPlaces, wishesOf, lotsFrom, lotsOf, together, fits, endsOf, roundNumber}
+use Rattle.panels.specs.Round.{ownRun, lastOf, panelAfter, needsOf, RoundAnswer, served, written, rounded, roundAnswer}
+use Rattle.rounds.specs.Rounds.{Round, after, noPanel, panelAt, before, afterwards, noLot, lotIn, grantIn, romIn, scheduleIn, logIn, logAfterwards, runIn}
+use Rattle.rounds.specs.Rounds.{OnItsOwn, OutsideRecords, PanelsOnTheirOwn, EveryPanelIsOnItsOwn, SameFor, ComeOutTheSame, OthersAffectNothingElse, StopsHoldUpNobody}
+use Rattle.rounds.specs.Rounds.{EveryRoundIsRefusedByNumbers, SheetRefusesTheRoundFirst, RefusedRoundChangesNothing, EmptyBankDoesNothing}
+
+none-there : (i : ℕ) {A : Type 0} → i < 0 → A
+none-there i h = absurd (no i h)
+  where
+    no : (i : ℕ) → i < 0 → ⊥
+    no i h = omega arith
+
+apart : {n : ℕ} {A : Type 0} → 0 ≡ suc n → A
+apart {n} h = absurd (no n h)
+  where
+    no : (n : ℕ) → 0 ≡ suc n → ⊥
+    no n h = omega arith
+
+-- ROWS
+
+needs-length : (ps : List Panel) → length (needsOf ps) ≡ length ps
+unfolding needsOf
+needs-length [] = refl
+needs-length (p ∷ ps) = ap suc (needs-length ps)
+
+wishes-length : (ns : List Needs) → length (wishesOf ns) ≡ length ns
+unfolding wishesOf
+wishes-length [] = refl
+wishes-length (n ∷ ns) = ap suc (wishes-length ns)
+
+granted-length : (share left : ℕ) (ws : List ℕ) → length (granted share left ws) ≡ length ws
+unfolding granted
+granted-length share left [] = refl
+granted-length share left (w ∷ ws) = ap suc (granted-length share _ ws)
+
+lots-length : (at : Places) (gs : List ℕ) (ns : List Needs) → length gs ≡ length ns → length (lotsFrom at gs ns) ≡ length ns
+unfolding lotsFrom
+lots-length at gs [] e = refl
+lots-length at [] (n ∷ ns) e = apart e
+lots-length at (g ∷ gs) (n ∷ ns) e = ap suc (lots-length (nextPlaces at n) gs ns (omega (arith, e)))
+
+lot-grant : (at : Places) (gs : List ℕ) (ns : List Needs) (i : ℕ) → length gs ≡ length ns → i < length ns
+    → getD (lotsFrom at gs ns) i noLot .grant .0 ≡ getD gs i 0
+unfolding lotsFrom
+lot-grant at gs [] i e h = none-there i h
+lot-grant at [] (n ∷ ns) i e h = apart e
+lot-grant at (g ∷ gs) (n ∷ ns) zero e h = refl
+lot-grant at (g ∷ gs) (n ∷ ns) (suc i) e h = lot-grant (nextPlaces at n) gs ns i (omega (arith, e)) (omega (arith, h))
+
+-- A RUN'S LOG
+
+module _ (M : Machine State) (C : EveryRunCountsWithin M) (rom sched : List ℕ) (s : State) (log : List ℕ) (n : ℕ) where
+  -- it keeps its length
+  told-length : (k : ℕ) (q : Stepped State) → told M k q s log .written ≤ length log → length (told M k q s log .log) ≡ length log
+  told-length zero q h = omega (arith, length-append (q .ran .bytes) (drop (length (q .ran .bytes)) log), length-drop (length (q .ran .bytes)) log)
+  told-length (suc k) q h = refl
+
+  pub run-length : length (skipping M rom sched s log n .log) ≡ length log
+  unfolding skipping
+  run-length = told-length (runNumber M rom sched s n) (strides M rom sched n (length log) n s) (C skippingOne rom sched s log n .written)
+
+  -- and what stands behind the bytes written
+  told-rest : (k : ℕ) (q : Stepped State) → drop (told M k q s log .written) (told M k q s log .log) ≡ drop (told M k q s log .written) log
+  told-rest zero q = drop-append-seam (q .ran .bytes) (drop (length (q .ran .bytes)) log)
+  told-rest (suc k) q = refl
+
+  run-rest : drop (skipping M rom sched s log n .written) (skipping M rom sched s log n .log) ≡ drop (skipping M rom sched s log n .written) log
+  unfolding skipping
+  run-rest = told-rest (runNumber M rom sched s n) (strides M rom sched n (length log) n s)
+
+-- ALL THE PANELS OF A ROUND
+
+module _ (M : Machine State) (C : EveryRunCountsWithin M) (roms scheds logs : List ℕ) where
+  -- a panel's own run
+  abbrev own : Panel → Lot → RunAnswer State
+  own p lot = ownRun M roms scheds logs (p .needs) lot (p .state)
+
+  served-length : (lots : List Lot) (ps : List Panel) → length (served M roms scheds logs lots ps) ≡ length ps
+  unfolding served
+  served-length lots [] = refl
+  served-length [] (p ∷ ps) = refl
+  served-length (lot ∷ lots) (p ∷ ps) = ap suc (served-length lots ps)
+
+  served-at : (lots : List Lot) (ps : List Panel) (i : ℕ) → length lots ≡ length ps → i < length ps
+      → panelAt i (served M roms scheds logs lots ps) ≡ panelAfter (panelAt i ps) (own (panelAt i ps) (getD lots i noLot))
+  unfolding served
+  served-at lots [] i e h = none-there i h
+  served-at [] (p ∷ ps) i e h = apart e
+  served-at (lot ∷ lots) (p ∷ ps) zero e h = refl
+  served-at (lot ∷ lots) (p ∷ ps) (suc i) e h = served-at lots ps i (omega (arith, e)) (omega (arith, h))
+
+  -- the part of the logs that a panel has, where m bytes of later ones come behind it
+  part-long : (at k m : ℕ) → at + (k + m) ≤ length logs → length (part logs at k) ≡ k
+  part-long at k m h = omega (arith, length-take k (drop at logs), length-drop at logs)
+
+  own-long : (p : Panel) (lot : Lot) (m : ℕ) → lot .at .log + (p .needs .log + m) ≤ length logs → length (own p lot .log) ≡ p .needs .log
+  own-long p lot m h =
+      run-length M C (part roms (lot .at .rom) (p .needs .rom)) (part scheds (lot .at .schedule) (p .needs .schedule)) (p .state)
+      (part logs (lot .at .log) (p .needs .log)) (lot .grant .0)
+      ∙ part-long (lot .at .log) (p .needs .log) m h
+
+  abbrev logBytes : List Panel → ℕ
+  logBytes ps = together (λ n. n .log) (needsOf ps)
+
+  abbrev lotsFor : Places → List ℕ → List Panel → List Lot
+  lotsFor at gs ps = lotsFrom at gs (needsOf ps)
+
+  written-long : (at : Places) (gs : List ℕ) (ps : List Panel) → length gs ≡ length ps → at .log + logBytes ps ≤ length logs
+      → length (written M roms scheds logs (lotsFor at gs ps) ps) ≡ logBytes ps
+  unfolding written together needsOf lotsFrom
+  written-long at gs [] e h = refl
+  written-long at [] (p ∷ ps) e h = apart e
+  written-long at (g ∷ gs) (p ∷ ps) e h =
+      let lot : Lot = record { grant = record { 0 = g }; at = at } in
+      let w : List ℕ = written M roms scheds logs (lotsFor (nextPlaces at (p .needs)) gs ps) ps in
+      let rest : length w ≡ logBytes ps = written-long (nextPlaces at (p .needs)) gs ps (omega (arith, e)) (omega (arith, h)) in
+      omega (arith, rest, own-long p lot (logBytes ps) h, length-append (own p lot .log) w)
+
+  -- a place's part is within its buffer
+  lot-in : (at : Places) (gs : List ℕ) (ps : List Panel) (i : ℕ) → length gs ≡ length ps → i < length ps → at .log + logBytes ps ≤ length logs
+      → getD (lotsFor at gs ps) i noLot .at .log + panelAt i ps .needs .log ≤ length logs
+  unfolding together needsOf lotsFrom
+  lot-in at gs [] i e h r = none-there i h
+  lot-in at [] (p ∷ ps) i e h r = apart e
+  lot-in at (g ∷ gs) (p ∷ ps) zero e h r = omega (arith, r)
+  lot-in at (g ∷ gs) (p ∷ ps) (suc i) e h r = lot-in (nextPlaces at (p .needs)) gs ps i (omega (arith, e)) (omega (arith, h)) (omega (arith, r))
+
+  -- behind a front that ends where the first part begins
+  written-at : (at : Places) (gs : List ℕ) (ps : List Panel) (i : ℕ) (front z : List ℕ) → length front ≡ at .log → length gs ≡ length ps
+      → i < length ps → at .log + logBytes ps ≤ length logs
+      → part (front ++ written M roms scheds logs (lotsFor at gs ps) ps ++ z) (getD (lotsFor at gs ps) i noLot .at .log) (panelAt i ps .needs .log)
+      ≡ own (panelAt i ps) (getD (lotsFor at gs ps) i noLot) .log
+  unfolding written together needsOf lotsFrom
+  written-at at gs [] i front z f e h r = none-there i h
+  written-at at [] (p ∷ ps) i front z f e h r = apart e
+  written-at at (g ∷ gs) (p ∷ ps) zero front z f e h r =
+      let lot : Lot = record { grant = record { 0 = g }; at = at } in
+      let a : List ℕ = own p lot .log in
+      let w : List ℕ = written M roms scheds logs (lotsFor (nextPlaces at (p .needs)) gs ps) ps in
+      ap (take (p .needs .log)) (drop-at front ((a ++ w) ++ z) (at .log) f ∙ append-assoc a w z)
+      ∙ take-at a (w ++ z) (p .needs .log) (own-long p lot (logBytes ps) r)
+  written-at at (g ∷ gs) (p ∷ ps) (suc i) front z f e h r =
+      let lot : Lot = record { grant = record { 0 = g }; at = at } in
+      let a : List ℕ = own p lot .log in
+      let next : Places = nextPlaces at (p .needs) in
+      let w : List ℕ = written M roms scheds logs (lotsFor next gs ps) ps in
+      let same : front ++ (a ++ w) ++ z ≡ (front ++ a) ++ w ++ z
+      = ap (λ (l : List ℕ). front ++ l) (append-assoc a w z) ∙ sym (append-assoc front a (w ++ z)) in
+      ap (λ (l : List ℕ). part l (getD (lotsFor next gs ps) i noLot .at .log) (panelAt i ps .needs .log)) same
+      ∙ written-at next gs ps i (front ++ a) z (omega (arith, length-append front a, f, own-long p lot (logBytes ps) r)) (omega (arith, e))
+      (omega (arith, h)) (omega (arith, r))
+
+  -- behind the records of one panel the buffer is as it was
+  behind : (p : Panel) (lot : Lot) (m : ℕ) → lot .at .log + (p .needs .log + m) ≤ length logs
+      → drop (own p lot .written) (own p lot .log ++ drop (lot .at .log + p .needs .log) logs) ≡ drop (own p lot .written) (drop (lot .at .log) logs)
+  behind p lot m h =
+      let rom : List ℕ = part roms (lot .at .rom) (p .needs .rom) in
+      let sched : List ℕ = part scheds (lot .at .schedule) (p .needs .schedule) in
+      let l : List ℕ = drop (lot .at .log) logs in
+      let k : ℕ = p .needs .log in
+      let lent : List ℕ = take k l in
+      let a : RunAnswer State = own p lot in
+      let lent-long : length lent ≡ k = part-long (lot .at .log) k m h in
+      let within : a .written ≤ length lent = C skippingOne rom sched (p .state) lent (lot .grant .0) .written in
+      drop-append-le (a .written) (a .log) (drop (lot .at .log + k) logs) (omega (arith, within, lent-long, own-long p lot m h))
+      ∙ ap₂ _++_ (run-rest M C rom sched (p .state) lent (lot .grant .0)) (sym (drop-drop k (lot .at .log) logs))
+      ∙ sym (drop-append-le (a .written) lent (drop k l) within)
+      ∙ ap (drop (a .written)) (take-append-drop k l)
+
+  -- a byte that is none of them
+  one-outside : (p : Panel) (lot : Lot) (m : ℕ) (front : List ℕ) (x : ℕ) → length front ≡ lot .at .log
+      → lot .at .log + (p .needs .log + m) ≤ length logs → (lot .at .log ≤ x → lot .at .log + own p lot .written ≤ x)
+      → getD ((front ++ own p lot .log) ++ drop (lot .at .log + p .needs .log) logs) x 0 ≡ getD (front ++ drop (lot .at .log) logs) x 0
+  one-outside p lot m front x f h o = go (ltb x (lot .at .log)) refl
+    where
+      end : List ℕ
+      end = own p lot .log ++ drop (lot .at .log + p .needs .log) logs
+
+      -- so far behind the records
+      far : ℕ
+      far = x - (lot .at .log + own p lot .written)
+
+      there : lot .at .log ≤ x → x ≡ length front + (own p lot .written + far)
+      unfolding far
+      there q = omega (arith, o q, f)
+
+      go : (t : Bool) → ltb x (lot .at .log) ≡ t
+          → getD ((front ++ own p lot .log) ++ drop (lot .at .log + p .needs .log) logs) x 0 ≡ getD (front ++ drop (lot .at .log) logs) x 0
+      unfolding end
+      go true q =
+          let short : x < length front = omega (arith, ltb-true x (lot .at .log) q, f) in
+          ap (λ (l : List ℕ). getD l x 0) (append-assoc front (own p lot .log) (drop (lot .at .log + p .needs .log) logs))
+          ∙ List·getD-append front end 0 x short
+          ∙ sym (List·getD-append front (drop (lot .at .log) logs) 0 x short)
+      go false q =
+          let e : x ≡ length front + (own p lot .written + far) = there (ltb-false x (lot .at .log) q) in
+          ap (λ (l : List ℕ). getD l x 0) (append-assoc front (own p lot .log) (drop (lot .at .log + p .needs .log) logs))
+          ∙ ap (λ (y : ℕ). getD (front ++ end) y 0) e
+          ∙ getD-append-add front end (own p lot .written + far) 0
+          ∙ sym (getD-drop (own p lot .written) end far 0)
+          ∙ ap (λ (l : List ℕ). getD l far 0) (behind p lot m h)
+          ∙ getD-drop (own p lot .written) (drop (lot .at .log) logs) far 0
+          ∙ sym (getD-append-add front (drop (lot .at .log) logs) (own p lot .written + far) 0)
+          ∙ ap (λ (y : ℕ). getD (front ++ drop (lot .at .log) logs) y 0) (sym e)
+
+  -- the records of panel i leave it out
+  abbrev LeftOut : ℕ → List Lot → List Panel → ℕ → Type 0
+  LeftOut x lots ps i = getD lots i noLot .at .log ≤ x → getD lots i noLot .at .log + own (panelAt i ps) (getD lots i noLot) .written ≤ x
+
+  all-outside : (at : Places) (gs : List ℕ) (ps : List Panel) (front : List ℕ) (x : ℕ) → length front ≡ at .log → length gs ≡ length ps
+      → at .log + logBytes ps ≤ length logs → ((i : ℕ) → i < length ps → LeftOut x (lotsFor at gs ps) ps i)
+      → getD (front ++ written M roms scheds logs (lotsFor at gs ps) ps ++ drop (at .log + logBytes ps) logs) x 0 ≡ getD (front ++ drop (at .log) logs) x 0
+  unfolding written together needsOf lotsFrom
+  all-outside at gs [] front x f e r o = ap (λ (k : ℕ). getD (front ++ drop k logs) x 0) (omega arith)
+  all-outside at [] (p ∷ ps) front x f e r o = apart e
+  all-outside at (g ∷ gs) (p ∷ ps) front x f e r o =
+      let lot : Lot = record { grant = record { 0 = g }; at = at } in
+      let a : List ℕ = own p lot .log in
+      let next : Places = nextPlaces at (p .needs) in
+      let w : List ℕ = written M roms scheds logs (lotsFor next gs ps) ps in
+      let sums : at .log + (p .needs .log + logBytes ps) ≡ at .log + p .needs .log + logBytes ps = omega arith in
+      let z : List ℕ = drop (at .log + p .needs .log + logBytes ps) logs in
+      let same : front ++ (a ++ w) ++ drop (at .log + (p .needs .log + logBytes ps)) logs ≡ (front ++ a) ++ w ++ z
+      = ap (λ (k : ℕ). front ++ (a ++ w) ++ drop k logs) sums
+      ∙ ap (λ (l : List ℕ). front ++ l) (append-assoc a w z) ∙ sym (append-assoc front a (w ++ z)) in
+      ap (λ (l : List ℕ). getD l x 0) same
+      ∙ all-outside next gs ps (front ++ a) x (omega (arith, length-append front a, f, own-long p lot (logBytes ps) r)) (omega (arith, e))
+      (omega (arith, r)) (λ i h. o (suc i) (omega (arith, h)))
+      ∙ one-outside p lot (logBytes ps) front x f r (o 0 (omega arith))
+
+-- A ROUND THAT ISN'T REFUSED
+
+abbrev grantsOf : Round → List ℕ
+grantsOf r = grants (r .t) (wishesOf (needsOf (r .bank)))
+
+grants-length : (r : Round) → length (grantsOf r) ≡ length (r .bank)
+grants-length r =
+    granted-length _ _ (wishesOf (needsOf (r .bank))) ∙ wishes-length (needsOf (r .bank)) ∙ needs-length (r .bank)
+
+-- what it leaves, by its number
+abbrev leaves : Round → ℕ → RoundAnswer
+leaves r k = rounded (chip (r .sheet)) k (r .bank) (r .roms) (r .schedules) (r .logs) (r .t)
+
+abbrev numberOf : Round → ℕ
+numberOf r = roundNumber (chip (r .sheet) .ownNumber) (endsOf (r .roms) (r .schedules) (r .logs)) (needsOf (r .bank))
+
+after-is : (r : Round) → after r ≡ leaves r (numberOf r)
+unfolding roundAnswer
+after-is r = refl
+
+leaves-number : (r : Round) (k : ℕ) → leaves r k .number ≡ k
+leaves-number r zero = refl
+leaves-number r (suc k) = refl
+
+number-is : (r : Round) → after r .number ≡ numberOf r
+number-is r = ap (λ (a : RoundAnswer). a .number) (after-is r) ∙ leaves-number r (numberOf r)
+
+-- the logs fit their buffer
+record Accepted (r : Round) : Type 0 where
+  answer : after r ≡ leaves r 0
+  logs-fit : 0 + logBytes (chip (r .sheet)) (every-run-counts-within (r .sheet)) (r .roms) (r .schedules) (r .logs) (r .bank) ≤ length (r .logs)
+
+accepted : (r : Round) → after r .number ≡ 0 → Accepted r
+unfolding roundNumber
+accepted r e =
+    let z : numberOf r ≡ 0 = sym (number-is r) ∙ e in
+    let ns : List Needs = needsOf (r .bank) in
+    let fit : fits (endsOf (r .roms) (r .schedules) (r .logs)) ns ≡ true = passes _ 62 refl (first-at _ z 2) in
+    let log-fit : together (λ n. n .log) ns ≤ length (r .logs)
+    = leb-true _ _ (and-right (leb (together (λ n. n .rom) ns) (length (r .roms)) && leb (together (λ n. n .schedule) ns) (length (r .schedules))) (leb (together (λ n. n .log) ns) (length (r .logs))) fit) in
+    record { answer = after-is r ∙ ap (leaves r) z; logs-fit = omega (arith, log-fit) }
+
+-- EVERY PANEL IS ON ITS OWN
+
+module _ (r : Round) (e : after r .number ≡ 0) where
+  M : Machine State
+  M = chip (r .sheet)
+
+  C : EveryRunCountsWithin (chip (r .sheet))
+  C = every-run-counts-within (r .sheet)
+
+  lots-are : length (lotsOf (r .t) (needsOf (r .bank))) ≡ length (r .bank)
+  lots-are =
+      lots-length firstPlaces (grantsOf r) (needsOf (r .bank)) (grants-length r ∙ sym (needs-length (r .bank))) ∙ needs-length (r .bank)
+
+  panel-is : (i : ℕ) → i < length (r .bank) → afterwards i r ≡ panelAfter (before i r) (runIn i r)
+  panel-is i h =
+      ap (λ (a : RoundAnswer). panelAt i (a .panels)) (accepted r e .answer)
+      ∙ served-at (chip (r .sheet)) C (r .roms) (r .schedules) (r .logs) (lotsOf (r .t) (needsOf (r .bank))) (r .bank) i lots-are h
+
+  log-is : (i : ℕ) → i < length (r .bank) → logAfterwards i r ≡ runIn i r .log
+  log-is i h =
+      ap (λ (a : RoundAnswer). part (a .logs) (lotIn i r .at .log) (before i r .needs .log)) (accepted r e .answer)
+      ∙ written-at (chip (r .sheet)) C (r .roms) (r .schedules) (r .logs) firstPlaces (grantsOf r) (r .bank) i []
+      (drop (together (λ n. n .log) (needsOf (r .bank))) (r .logs)) refl (grants-length r) h (accepted r e .logs-fit)
+
+  -- its part of the logs has its length
+  pub log-long : (i : ℕ) → i < length (r .bank) → length (logIn i r) ≡ before i r .needs .log
+  log-long i h =
+      let inside : lotIn i r .at .log + before i r .needs .log ≤ length (r .logs)
+      = lot-in (chip (r .sheet)) C (r .roms) (r .schedules) (r .logs) firstPlaces (grantsOf r) (r .bank) i (grants-length r) h (accepted r e .logs-fit) in
+      part-long (chip (r .sheet)) C (r .roms) (r .schedules) (r .logs) (lotIn i r .at .log) (before i r .needs .log) 0 (omega (arith, inside))
+
+  own-is : (i : ℕ) → i < length (r .bank) → OnItsOwn i r
+  unfolding panelAfter
+  own-is i h = record {
+    grant = lot-grant firstPlaces (grantsOf r) (needsOf (r .bank)) i (grants-length r ∙ sym (needs-length (r .bank))) (omega (arith, needs-length (r .bank)));
+    state = ap (λ (p : Panel). p .state) (panel-is i h);
+    last = ap (λ (p : Panel). p .last) (panel-is i h);
+    log = log-is i h;
+    needs = ap (λ (p : Panel). p .needs) (panel-is i h);
+  }
+
+  row-is : length (after r .panels) ≡ length (r .bank)
+  row-is =
+      ap (λ (a : RoundAnswer). length (a .panels)) (accepted r e .answer)
+      ∙ served-length (chip (r .sheet)) C (r .roms) (r .schedules) (r .logs) (lotsOf (r .t) (needsOf (r .bank))) (r .bank)
+
+  abbrev all-logs : List ℕ
+  all-logs = written (chip (r .sheet)) (r .roms) (r .schedules) (r .logs) (lotsOf (r .t) (needsOf (r .bank))) (r .bank)
+
+  buffer-is : length (after r .logs) ≡ length (r .logs)
+  buffer-is =
+      let k : ℕ = together (λ n. n .log) (needsOf (r .bank)) in
+      let same : length (after r .logs) ≡ length (all-logs ++ drop k (r .logs)) = ap (λ (a : RoundAnswer). length (a .logs)) (accepted r e .answer) in
+      let long : length all-logs ≡ k = written-long (chip (r .sheet)) C (r .roms) (r .schedules) (r .logs) firstPlaces (grantsOf r) (r .bank) (grants-length r) (accepted r e .logs-fit) in
+      omega (arith, same, long, accepted r e .logs-fit, length-append all-logs (drop k (r .logs)), length-drop k (r .logs))
+
+  written-is : (i : ℕ) → i < length (r .bank) → afterwards i r .last .written ≡ runIn i r .written
+  unfolding panelAfter lastOf
+  written-is i h = ap (λ (p : Panel). p .last .written) (panel-is i h)
+
+  outside-is : (x : ℕ) → ((i : ℕ) → i < length (r .bank) → OutsideRecords x i r) → getD (after r .logs) x 0 ≡ getD (r .logs) x 0
+  outside-is x o =
+      let k : ℕ = together (λ n. n .log) (needsOf (r .bank)) in
+      ap (λ (a : RoundAnswer). getD (a .logs) x 0) (accepted r e .answer)
+      ∙ ap (λ (m : ℕ). getD (all-logs ++ drop m (r .logs)) x 0) (sym (no-more k))
+      ∙ all-outside (chip (r .sheet)) C (r .roms) (r .schedules) (r .logs) firstPlaces (grantsOf r) (r .bank) [] x refl (grants-length r)
+      (accepted r e .logs-fit) (λ i h q. omega (arith, o i h q, written-is i h))
+    where
+      no-more : (m : ℕ) → 0 + m ≡ m
+      no-more m = omega arith
+
+pub every-panel-is-on-its-own : EveryPanelIsOnItsOwn
+every-panel-is-on-its-own r e = record { own = own-is r e; row = row-is r e; buffer = buffer-is r e; outside = outside-is r e }
+
+-- TWO BANKS
+
+pub others-affect-nothing-else : OthersAffectNothingElse
+others-affect-nothing-else r q i j e f h k s g =
+    let same : runIn i r ≡ runIn j q
+    = (λ x. skipping (chip (s .sheet x)) (s .rom x) (s .schedule x) (s .state x) (s .log x) (g x)) in
+    record {
+      panel =
+          panel-is r e i h
+          ∙ (λ x. panelAfter (before i r) (same x))
+          ∙ moved
+          ∙ sym (panel-is q f j k);
+      log = log-is r e i h ∙ ap (λ (a : RunAnswer State). a .log) same ∙ sym (log-is q f j k);
+    }
+  where
+    moved : panelAfter (before i r) (runIn j q) ≡ panelAfter (before j q) (runIn j q)
+    unfolding panelAfter
+    moved = λ x. record { state = runIn j q .state; needs = s .needs x; last = lastOf (runIn j q) }
+
+pub stops-hold-up-nobody : StopsHoldUpNobody
+stops-hold-up-nobody r q i e f h t w s =
+    let k : i < length (q .bank)
+    = omega (arith, h, needs-length (r .bank), needs-length (q .bank), wishes-length (needsOf (r .bank)), wishes-length (needsOf (q .bank)), ap length w) in
+    others-affect-nothing-else r q i i e f h k s
+    (own-is r e i h .grant ∙ (λ x. getD (grants (t x) (w x)) i 0) ∙ sym (own-is q f i k .grant))
+
+-- REFUSALS
+
+pub every-round-is-refused-by-numbers : EveryRoundIsRefusedByNumbers
+unfolding roundNumber
+every-round-is-refused-by-numbers r =
+    number-is r ∙ ap (λ (m : ℕ). firstOf (chip (r .sheet) .ownNumber ∷ unless (leb m mostPanels) 61 ∷ unless (fits (endsOf (r .roms) (r .schedules) (r .logs)) (needsOf (r .bank))) 62 ∷ [])) (needs-length (r .bank))
+
+pub sheet-refuses-the-round-first : SheetRefusesTheRoundFirst
+sheet-refuses-the-round-first r k e = every-round-is-refused-by-numbers r ∙ first-is _ k _ e
+
+pub refused-round-changes-nothing : RefusedRoundChangesNothing
+refused-round-changes-nothing r k e = after-is r ∙ ap (leaves r) (sym (number-is r) ∙ e)
+
+pub empty-bank-does-nothing : EmptyBankDoesNothing
+empty-bank-does-nothing r e =
+    (λ x. roundAnswer (chip (r .sheet)) (e x) (r .roms) (r .schedules) (r .logs) (r .t))
+    ∙ nothing (chip (r .sheet) .ownNumber) ∙ refl
+  where
+    abbrev empty : ℕ → RoundAnswer
+    empty k = record { panels = []; logs = r .logs; number = k }
+
+    nothing : (own : ℕ) → roundAnswer (chip (r .sheet)) [] (r .roms) (r .schedules) (r .logs) (r .t) ≡ empty own
+    nothing = _
