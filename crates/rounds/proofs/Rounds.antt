@@ -154,7 +154,7 @@ module _ (M : Machine State) (C : EveryRunCountsWithin M) (roms scheds logs : Li
   -- behind a front that ends where the first part begins
   written-at : (at : Places) (gs : List ℕ) (ps : List Panel) (i : ℕ) (front z : List ℕ) → length front ≡ at .log → length gs ≡ length ps
       → i < length ps → at .log + logBytes ps ≤ length logs
-      → part (front ++ written M roms scheds logs (lotsFor at gs ps) ps ++ z) (getD (lotsFor at gs ps) i noLot .at .log) (panelAt i ps .needs .log)
+      → part (front ++ (written M roms scheds logs (lotsFor at gs ps) ps ++ z)) (getD (lotsFor at gs ps) i noLot .at .log) (panelAt i ps .needs .log)
       ≡ own (panelAt i ps) (getD (lotsFor at gs ps) i noLot) .log
   unfolding written together needsOf lotsFrom
   written-at at gs [] i front z f e h r = none-there i h
@@ -170,7 +170,7 @@ module _ (M : Machine State) (C : EveryRunCountsWithin M) (roms scheds logs : Li
       let a : List ℕ = own p lot .log in
       let next : Places = nextPlaces at (p .needs) in
       let w : List ℕ = written M roms scheds logs (lotsFor next gs ps) ps in
-      let same : front ++ (a ++ w) ++ z ≡ (front ++ a) ++ w ++ z
+      let same : front ++ ((a ++ w) ++ z) ≡ (front ++ a) ++ (w ++ z)
       = ap (λ (l : List ℕ). front ++ l) (append-assoc a w z) ∙ sym (append-assoc front a (w ++ z)) in
       ap (λ (l : List ℕ). part l (getD (lotsFor next gs ps) i noLot .at .log) (panelAt i ps .needs .log)) same
       ∙ written-at next gs ps i (front ++ a) z (omega (arith, length-append front a, f, own-long p lot (logBytes ps) r)) (omega (arith, e))
@@ -193,41 +193,37 @@ module _ (M : Machine State) (C : EveryRunCountsWithin M) (roms scheds logs : Li
       ∙ sym (drop-append-le (a .written) lent (drop k l) within)
       ∙ ap (drop (a .written)) (take-append-drop k l)
 
-  -- a byte that is none of them
-  one-outside : (p : Panel) (lot : Lot) (m : ℕ) (front : List ℕ) (x : ℕ) → length front ≡ lot .at .log
-      → lot .at .log + (p .needs .log + m) ≤ length logs → (lot .at .log ≤ x → lot .at .log + own p lot .written ≤ x)
-      → getD ((front ++ own p lot .log) ++ drop (lot .at .log + p .needs .log) logs) x 0 ≡ getD (front ++ drop (lot .at .log) logs) x 0
-  one-outside p lot m front x f h o = go (ltb x (lot .at .log)) refl
-    where
-      end : List ℕ
-      end = own p lot .log ++ drop (lot .at .log + p .needs .log) logs
+  -- a byte that is none of them, before the panel's part or behind its records
+  module _ (p : Panel) (lot : Lot) (m : ℕ) (front : List ℕ) (x : ℕ) (f : length front ≡ lot .at .log)
+      (h : lot .at .log + (p .needs .log + m) ≤ length logs) (o : lot .at .log ≤ x → lot .at .log + own p lot .written ≤ x) where
+    abbrev end : List ℕ
+    end = own p lot .log ++ drop (lot .at .log + p .needs .log) logs
 
-      -- so far behind the records
-      far : ℕ
-      far = x - (lot .at .log + own p lot .written)
+    abbrev lent : List ℕ
+    lent = drop (lot .at .log) logs
 
-      there : lot .at .log ≤ x → x ≡ length front + (own p lot .written + far)
-      unfolding far
-      there q = omega (arith, o q, f)
+    -- so far behind the records
+    abbrev far : ℕ
+    far = x - (lot .at .log + own p lot .written)
 
-      go : (t : Bool) → ltb x (lot .at .log) ≡ t
-          → getD ((front ++ own p lot .log) ++ drop (lot .at .log + p .needs .log) logs) x 0 ≡ getD (front ++ drop (lot .at .log) logs) x 0
-      unfolding end
-      go true q =
-          let short : x < length front = omega (arith, ltb-true x (lot .at .log) q, f) in
-          ap (λ (l : List ℕ). getD l x 0) (append-assoc front (own p lot .log) (drop (lot .at .log + p .needs .log) logs))
-          ∙ List·getD-append front end 0 x short
-          ∙ sym (List·getD-append front (drop (lot .at .log) logs) 0 x short)
-      go false q =
-          let e : x ≡ length front + (own p lot .written + far) = there (ltb-false x (lot .at .log) q) in
-          ap (λ (l : List ℕ). getD l x 0) (append-assoc front (own p lot .log) (drop (lot .at .log + p .needs .log) logs))
-          ∙ ap (λ (y : ℕ). getD (front ++ end) y 0) e
-          ∙ getD-append-add front end (own p lot .written + far) 0
-          ∙ sym (getD-drop (own p lot .written) end far 0)
-          ∙ ap (λ (l : List ℕ). getD l far 0) (behind p lot m h)
-          ∙ getD-drop (own p lot .written) (drop (lot .at .log) logs) far 0
-          ∙ sym (getD-append-add front (drop (lot .at .log) logs) (own p lot .written + far) 0)
-          ∙ ap (λ (y : ℕ). getD (front ++ drop (lot .at .log) logs) y 0) (sym e)
+    either : (t : Bool) → ltb x (lot .at .log) ≡ t → getD (front ++ end) x 0 ≡ getD (front ++ lent) x 0
+    either true q =
+        let short : x < length front = omega (arith, ltb-true x (lot .at .log) q, f) in
+        List·getD-append front end 0 x short ∙ sym (List·getD-append front lent 0 x short)
+    either false q =
+        let e : x ≡ length front + (own p lot .written + far) = omega (arith, o (ltb-false x (lot .at .log) q), f) in
+        ap (λ (y : ℕ). getD (front ++ end) y 0) e
+        ∙ getD-append-add front end (own p lot .written + far) 0
+        ∙ sym (getD-drop (own p lot .written) end far 0)
+        ∙ ap (λ (l : List ℕ). getD l far 0) (behind p lot m h)
+        ∙ getD-drop (own p lot .written) lent far 0
+        ∙ sym (getD-append-add front lent (own p lot .written + far) 0)
+        ∙ ap (λ (y : ℕ). getD (front ++ lent) y 0) (sym e)
+
+    one-outside : getD ((front ++ own p lot .log) ++ drop (lot .at .log + p .needs .log) logs) x 0 ≡ getD (front ++ lent) x 0
+    one-outside =
+        ap (λ (l : List ℕ). getD l x 0) (append-assoc front (own p lot .log) (drop (lot .at .log + p .needs .log) logs))
+        ∙ either (ltb x (lot .at .log)) refl
 
   -- the records of panel i leave it out
   abbrev LeftOut : ℕ → List Lot → List Panel → ℕ → Type 0
@@ -235,9 +231,11 @@ module _ (M : Machine State) (C : EveryRunCountsWithin M) (roms scheds logs : Li
 
   all-outside : (at : Places) (gs : List ℕ) (ps : List Panel) (front : List ℕ) (x : ℕ) → length front ≡ at .log → length gs ≡ length ps
       → at .log + logBytes ps ≤ length logs → ((i : ℕ) → i < length ps → LeftOut x (lotsFor at gs ps) ps i)
-      → getD (front ++ written M roms scheds logs (lotsFor at gs ps) ps ++ drop (at .log + logBytes ps) logs) x 0 ≡ getD (front ++ drop (at .log) logs) x 0
+      → getD (front ++ (written M roms scheds logs (lotsFor at gs ps) ps ++ drop (at .log + logBytes ps) logs)) x 0 ≡ getD (front ++ drop (at .log) logs) x 0
   unfolding written together needsOf lotsFrom
-  all-outside at gs [] front x f e r o = ap (λ (k : ℕ). getD (front ++ drop k logs) x 0) (omega arith)
+  all-outside at gs [] front x f e r o =
+      let none : at .log + 0 ≡ at .log = omega arith in
+      ap (λ (k : ℕ). getD (front ++ drop k logs) x 0) none
   all-outside at [] (p ∷ ps) front x f e r o = apart e
   all-outside at (g ∷ gs) (p ∷ ps) front x f e r o =
       let lot : Lot = record { grant = record { 0 = g }; at = at } in
@@ -246,8 +244,8 @@ module _ (M : Machine State) (C : EveryRunCountsWithin M) (roms scheds logs : Li
       let w : List ℕ = written M roms scheds logs (lotsFor next gs ps) ps in
       let sums : at .log + (p .needs .log + logBytes ps) ≡ at .log + p .needs .log + logBytes ps = omega arith in
       let z : List ℕ = drop (at .log + p .needs .log + logBytes ps) logs in
-      let same : front ++ (a ++ w) ++ drop (at .log + (p .needs .log + logBytes ps)) logs ≡ (front ++ a) ++ w ++ z
-      = ap (λ (k : ℕ). front ++ (a ++ w) ++ drop k logs) sums
+      let same : front ++ ((a ++ w) ++ drop (at .log + (p .needs .log + logBytes ps)) logs) ≡ (front ++ a) ++ (w ++ z)
+      = ap (λ (k : ℕ). front ++ ((a ++ w) ++ drop k logs)) sums
       ∙ ap (λ (l : List ℕ). front ++ l) (append-assoc a w z) ∙ sym (append-assoc front a (w ++ z)) in
       ap (λ (l : List ℕ). getD l x 0) same
       ∙ all-outside next gs ps (front ++ a) x (omega (arith, length-append front a, f, own-long p lot (logBytes ps) r)) (omega (arith, e))
@@ -372,6 +370,10 @@ every-panel-is-on-its-own r e = record { own = own-is r e; row = row-is r e; buf
 
 -- TWO BANKS
 
+after-same : (p q : Panel) (a : RunAnswer State) → p .needs ≡ q .needs → panelAfter p a ≡ panelAfter q a
+unfolding panelAfter
+after-same p q a e = λ x. record { state = a .state; needs = e x; last = lastOf a }
+
 pub others-affect-nothing-else : OthersAffectNothingElse
 others-affect-nothing-else r q i j e f h k s g =
     let same : runIn i r ≡ runIn j q
@@ -379,15 +381,11 @@ others-affect-nothing-else r q i j e f h k s g =
     record {
       panel =
           panel-is r e i h
-          ∙ (λ x. panelAfter (before i r) (same x))
-          ∙ moved
+          ∙ ap (panelAfter (before i r)) same
+          ∙ after-same (before i r) (before j q) (runIn j q) (s .needs)
           ∙ sym (panel-is q f j k);
       log = log-is r e i h ∙ ap (λ (a : RunAnswer State). a .log) same ∙ sym (log-is q f j k);
     }
-  where
-    moved : panelAfter (before i r) (runIn j q) ≡ panelAfter (before j q) (runIn j q)
-    unfolding panelAfter
-    moved = λ x. record { state = runIn j q .state; needs = s .needs x; last = lastOf (runIn j q) }
 
 pub stops-hold-up-nobody : StopsHoldUpNobody
 stops-hold-up-nobody r q i e f h t w s =
@@ -409,13 +407,24 @@ sheet-refuses-the-round-first r k e = every-round-is-refused-by-numbers r ∙ fi
 pub refused-round-changes-nothing : RefusedRoundChangesNothing
 refused-round-changes-nothing r k e = after-is r ∙ ap (leaves r) (sym (number-is r) ∙ e)
 
-pub empty-bank-does-nothing : EmptyBankDoesNothing
-empty-bank-does-nothing r e =
-    (λ x. roundAnswer (chip (r .sheet)) (e x) (r .roms) (r .schedules) (r .logs) (r .t))
-    ∙ nothing (chip (r .sheet) .ownNumber) ∙ refl
-  where
-    abbrev empty : ℕ → RoundAnswer
-    empty k = record { panels = []; logs = r .logs; number = k }
+-- of no panels nothing is too long
+empty-number : (own : ℕ) (ends : Places) → roundNumber own ends [] ≡ own
+unfolding roundNumber firstOf together
+empty-number zero ends = rw (leb·zero (ends .rom), leb·zero (ends .schedule), leb·zero (ends .log)) refl
+empty-number (suc k) ends = refl
 
-    nothing : (own : ℕ) → roundAnswer (chip (r .sheet)) [] (r .roms) (r .schedules) (r .logs) (r .t) ≡ empty own
-    nothing = _
+empty-leaves : (r : Round) (k : ℕ) → rounded (chip (r .sheet)) k [] (r .roms) (r .schedules) (r .logs) (r .t) ≡ record { panels = []; logs = r .logs; number = k }
+unfolding served written together needsOf
+empty-leaves r zero = refl
+empty-leaves r (suc k) = refl
+
+empty-is : (r : Round) → roundAnswer (chip (r .sheet)) [] (r .roms) (r .schedules) (r .logs) (r .t)
+    ≡ record { panels = []; logs = r .logs; number = chip (r .sheet) .ownNumber }
+unfolding roundAnswer needsOf
+empty-is r =
+    ap (λ (k : ℕ). rounded (chip (r .sheet)) k [] (r .roms) (r .schedules) (r .logs) (r .t))
+    (empty-number (chip (r .sheet) .ownNumber) (endsOf (r .roms) (r .schedules) (r .logs)))
+    ∙ empty-leaves r (chip (r .sheet) .ownNumber)
+
+pub empty-bank-does-nothing : EmptyBankDoesNothing
+empty-bank-does-nothing r e = (λ x. roundAnswer (chip (r .sheet)) (e x) (r .roms) (r .schedules) (r .logs) (r .t)) ∙ empty-is r
