@@ -6,7 +6,7 @@ use mathlib.Core.List.{List, [], _∷_, _++_, map}
 use mathlib.Core.Option.{Option, none, some}
 use Prim.Native.Nat.{ℕ, zero, suc, _+_, _≤_, _<_}
 use native.Mathlib.Omega.{arith}
-use lib.ListN.{length, take}
+use lib.ListN.{length, take, length-append, length-take}
 use Rattle.runs.specs.Refusals.{cycleLimit}
 use Rattle.runs.specs.Numbers.{isStop}
 use Rattle.runs.specs.TwoRunners.{End, finished, stopped, refused, numberOfEnd, RunAnswer, Ran, unbroken, logBound}
@@ -18,7 +18,7 @@ use Rattle.runs.proofs.Calls.{changes-nothing}
 use Rattle.upd546.specs.declared.State.{State}
 use Rattle.upd546.specs.declared.Sheet.{Sheet}
 use Rattle.upd546.specs.TwoRunners.{chip}
-use Rattle.laws.proofs.Demand3.{every-list, every-runs-number-tells}
+use Rattle.laws.proofs.Demand3.{every-list, every-run-counts-within, every-runs-number-tells}
 use Rattle.calls.specs.EveryCall.{endBy}
 use Rattle.calls.specs.Lists.{joined}
 use Rattle.waiting.specs.EveryList.{AllAccepted, carriedOn, logsOf, listLogs}
@@ -29,7 +29,7 @@ use Rattle.panels.specs.Round.{lastOf, RoundAnswer}
 use Rattle.rounds.specs.Rounds.{Round, after, panelAt, before, afterwards, romIn, scheduleIn, logIn, logAfterwards, grantIn, runIn, OnItsOwn, PanelsOnTheirOwn}
 use Rattle.rounds.specs.Lists.{keepRound, roundsNotRefused, OnOneBank, bankAfter, turnRefusal, turnsTaken, HasItsParts, RoundsMeant, panelLogs, total, grantsTogether}
 use Rattle.rounds.specs.Lists.{PanelEndsAs, EndsAsOneRun, EveryListOfRoundsEndsAsOneRun, EveryListOnOneBankIsMeant, ReportsAsOneRun, EveryListOfRoundsReportsAsOneRun}
-use Rattle.rounds.proofs.Rounds.{log-long, every-panel-is-on-its-own, refused-round-changes-nothing}
+use Rattle.rounds.proofs.Rounds.{run-length, log-long, every-panel-is-on-its-own, refused-round-changes-nothing}
 
 -- a panel's turn, as a call of demand 3
 abbrev turn : ℕ → Round → Call Sheet State
@@ -122,6 +122,20 @@ module _ (i : ℕ) where
   unfolding lastOf
   begun-are [] o = refl
   begun-are (r ∷ rs) o = ap₂ _+_ (ap (λ l. l .begun) (o .0 .last)) (begun-are rs (o .1))
+
+  written-are : (rs : List Round) → Each (OnItsOwn i) rs → total (λ r. afterwards i r .last .written) rs ≡ length (joined (panelLogs i rs))
+  unfolding lastOf
+  written-are [] o = refl
+  written-are (r ∷ rs) o =
+      let w : ℕ = afterwards i r .last .written in
+      let log : List ℕ = logAfterwards i r in
+      let same : w ≡ runIn i r .written = ap (λ l. l .written) (o .0 .last) in
+      let within : runIn i r .written ≤ length (logIn i r)
+      = every-run-counts-within (r .sheet) skippingOne (romIn i r) (scheduleIn i r) (before i r .state) (logIn i r) (grantIn i r) .written in
+      let long : length log ≡ length (logIn i r)
+      = ap length (o .0 .log)
+      ∙ run-length (chip (r .sheet)) (every-run-counts-within (r .sheet)) (romIn i r) (scheduleIn i r) (before i r .state) (logIn i r) (grantIn i r) in
+      omega (arith, same, within, long, length-take w log, length-append (take w log) (joined (panelLogs i rs)), written-are rs (o .1))
 
   -- how they end, by their numbers
   by-zero : (e : End) → NumberTells e → numberOfEnd e ≡ 0 → e ≡ finished
@@ -286,6 +300,9 @@ module _ (sheet : Sheet) (rom sched : List ℕ) (bank : List kept.Panel) (i : �
   ends-so n p v e =
       let t = every-list sheet rom sched s (turns i rs) p v meant in
       let same : u (asked chip (notRefused chip (turns i rs))) ≡ u n = ap u e in
+      let all-log : joined (panelLogs i rs) ≡ u n .bytes
+      = ap joined (logs-are i rs all-own) ∙ joined-log (runs chip (turns i rs)) ∙ t .nothing .log ∙ t .ends .log
+      ∙ ap (λ (w : Ran State). w .bytes) same in
       let finish : AllFinish (runs chip (turns i (turnsTaken i rs))) ↔ (u n .number ≡ none)
       = subst (λ (w : Ran State). AllFinish (runs chip (turns i (turnsTaken i rs))) ↔ (w .number ≡ none)) same
       (subst (λ (cs : List (Call Sheet State)). AllFinish (runs chip cs) ↔ (u (asked chip (notRefused chip (turns i rs))) .number ≡ none)) calls-are (t .ends .finish)) in
@@ -294,11 +311,10 @@ module _ (sheet : Sheet) (rom sched : List ℕ) (bank : List kept.Panel) (i : �
       (subst (λ (cs : List (Call Sheet State)). StopsHave (u (asked chip (notRefused chip (turns i rs))) .number) (runs chip cs)) calls-are (t .ends .stops)) in
       record {
         state = sym last-is ∙ t .ends .state ∙ ap (λ (w : Ran State). w .state) same;
-        log =
-            ap joined (logs-are i rs all-own) ∙ joined-log (runs chip (turns i rs)) ∙ t .nothing .log ∙ t .ends .log
-            ∙ ap (λ (w : Ran State). w .bytes) same;
+        log = all-log;
         cycles = cycles-are i rs all-own ∙ t .nothing .cycles ∙ t .ends .cycles ∙ ap (λ (w : Ran State). w .cycles) same;
         begun = begun-are i rs all-own ∙ t .nothing .begun ∙ t .ends .begun ∙ ap (λ (w : Ran State). w .begun) same;
+        written = written-are i rs all-own ∙ ap length all-log;
         finish = (λ f. finish .0 (finish-forth i (turnsTaken i rs) taken-own f), λ f. finish-back i (turnsTaken i rs) taken-own (finish .1 f));
         stops = stops-are i (u n .number) (turnsTaken i rs) taken-own (turn-taken i rs) stops;
       }

@@ -92,6 +92,7 @@ pub record PanelEndsAs (bank : List kept.Panel) (i : ℕ) (rs : List Round) (u :
   pub log : joined (panelLogs i rs) ≡ u .bytes
   pub cycles : total (λ r. afterwards i r .last .cycles .0) rs ≡ u .cycles
   pub begun : total (λ r. afterwards i r .last .begun) rs ≡ u .begun
+  pub written : total (λ r. afterwards i r .last .written) rs ≡ length (u .bytes)
   pub finish : Each (λ r. afterwards i r .last .number ≡ 0) (turnsTaken i rs) ↔ (u .number ≡ none)
   pub stops : Each (λ r. (k : ℕ) → afterwards i r .last .number ≡ suc k → u .number ≡ some (suc k)) (turnsTaken i rs)
 
