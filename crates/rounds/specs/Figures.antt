@@ -1,6 +1,6 @@
 -- Three panels, of which one stops and one is refused, and a list of rounds with refused ones among them: what the theorems have to say of
 -- them, a figure or a plain fact for each clause. Assumes nothing: these are definitions.
-use Prim.Native.Nat.{ℕ}
+use Prim.Native.Nat.{ℕ, suc}
 use mathlib.Core.Path.{_≡_}
 use mathlib.Core.List.{List, [], _∷_, _++_, map}
 use lib.ListN.{length, getD, take, replicate}
@@ -170,7 +170,7 @@ pub record ManyRounds : Type 0 where
   pub goes-on : turnRefusal 0 third ≡ 0
   -- the second panel stops with 23 and keeps to it
   pub stop-cycles : total (λ r. afterwards 1 r .last .cycles .0) both ≡ 1
-  pub stop-again : Each (λ r. (k : ℕ) → afterwards 1 r .last .number ≡ k → k ≡ 23) both
+  pub stop-again : Each (λ r. (k : ℕ) → afterwards 1 r .last .number ≡ suc k → suc k ≡ 23) both
   -- the third is refused each time, and stays as it was
   pub none-taken : turnsTaken 2 both ≡ []
   pub as-it-was : panelAt 2 (bankAfter bank both) .state ≡ fresh
