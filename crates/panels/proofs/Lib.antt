@@ -1,0 +1,4 @@
+pub mod Courses
+pub mod Cuts
+pub mod Fairness
+pub mod Rounds
