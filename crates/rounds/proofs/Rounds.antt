@@ -1,31 +1,33 @@
 -- Each panel of a round has its own run and nothing else, and a refused round changes nothing. Assumes nothing.
 use mathlib.Core.Path.{_≡_, _∙_, refl, sym, ap, ap₂, subst}
-use mathlib.Core.Bool.{Bool, true, false, _&&_}
+use mathlib.Core.Bool.{Bool, true, false}
 use mathlib.Core.List.{List, [], _∷_, _++_, append-assoc}
 use Prim.Native.Nat.{ℕ, zero, suc, _+_, _-_, _≤_, _<_}
 use native.Mathlib.Omega.{arith}
 use lib.Dec.{leb, ltb, leb·zero}
 use lib.ListN.{length, getD, take, drop, length-append, length-take, length-drop, take-append-drop, List·getD-append}
 use lib.Seq.{take-at, drop-at, drop-drop, drop-append-le, drop-append-seam, getD-append-add, getD-drop}
-use borrow.Author.Tests.{leb-true, ltb-true, ltb-false}
+use borrow.Author.Tests.{ltb-true, ltb-false}
 use Rattle.runs.specs.Machine.{Machine}
 use Rattle.runs.specs.Refusals.{firstOf, unless}
 use Rattle.runs.specs.TwoRunners.{RunAnswer, Stepped, strides, runNumber, told, skipping}
 use Rattle.runs.specs.EveryRun.{CountsWithin, EveryRunCountsWithin}
 use Rattle.runs.specs.Lists.{skippingOne}
-use Rattle.runs.proofs.Refusals.{first-at, first-is, passes}
+use Rattle.runs.proofs.Refusals.{first-is}
 use Rattle.upd546.specs.declared.State.{State}
 use Rattle.upd546.specs.Bytes.{part}
 use Rattle.upd546.specs.TwoRunners.{chip}
-use Rattle.laws.proofs.Lists.{and-right}
 use Rattle.laws.proofs.Demand3.{every-run-counts-within}
 use Rattle.panels.specs.declared.Needs.{Needs}
 use Rattle.panels.specs.declared.Places.{Places}
 use Rattle.panels.specs.declared.Lot.{Lot}
 use Rattle.panels.specs.declared.Panel.{Panel}
-use Rattle.panels.specs.Grants.{granted, grants}
+use Rattle.panels.specs.Grants.{grants}
 use Rattle.panels.specs.Places.{mostPanels, firstPlaces, nextPlaces, wishesOf, lotsFrom, lotsOf, together, fits, endsOf, roundNumber}
 use Rattle.panels.specs.Round.{ownRun, lastOf, panelAfter, needsOf, RoundAnswer, served, written, rounded, roundAnswer}
+use Rattle.panels.proofs.Fairness.{grants-fair}
+use Rattle.panels.proofs.Courses.{wishes-length, fits-all}
+use Rattle.panels.proofs.Rounds.{needs-length, part-length}
 use Rattle.rounds.specs.Rounds.{Round, after, noPanel, panelAt, before, afterwards, noLot, lotIn, grantIn, romIn, scheduleIn, logIn, logAfterwards, runIn}
 use Rattle.rounds.specs.Rounds.{OnItsOwn, OutsideRecords, PanelsOnTheirOwn, EveryPanelIsOnItsOwn, SameFor, ComeOutTheSame, OthersAffectNothingElse, StopsHoldUpNobody}
 use Rattle.rounds.specs.Rounds.{EveryRoundIsRefusedByNumbers, SheetRefusesTheRoundFirst, RefusedRoundChangesNothing, EmptyBankDoesNothing}
@@ -44,21 +46,6 @@ apart {n} h = absurd (no n h)
 
 -- ROWS
 
-needs-length : (ps : List Panel) → length (needsOf ps) ≡ length ps
-unfolding needsOf
-needs-length [] = refl
-needs-length (p ∷ ps) = ap suc (needs-length ps)
-
-wishes-length : (ns : List Needs) → length (wishesOf ns) ≡ length ns
-unfolding wishesOf
-wishes-length [] = refl
-wishes-length (n ∷ ns) = ap suc (wishes-length ns)
-
-granted-length : (share left : ℕ) (ws : List ℕ) → length (granted share left ws) ≡ length ws
-unfolding granted
-granted-length share left [] = refl
-granted-length share left (w ∷ ws) = ap suc (granted-length share _ ws)
-
 lots-length : (at : Places) (gs : List ℕ) (ns : List Needs) → length gs ≡ length ns → length (lotsFrom at gs ns) ≡ length ns
 unfolding lotsFrom
 lots-length at gs [] e = refl
@@ -76,16 +63,7 @@ lot-grant at (g ∷ gs) (n ∷ ns) (suc i) e h = lot-grant (nextPlaces at n) gs 
 -- A RUN'S LOG
 
 module _ (M : Machine State) (C : EveryRunCountsWithin M) (rom sched : List ℕ) (s : State) (log : List ℕ) (n : ℕ) where
-  -- it keeps its length
-  told-length : (k : ℕ) (q : Stepped State) → told M k q s log .written ≤ length log → length (told M k q s log .log) ≡ length log
-  told-length zero q h = omega (arith, length-append (q .ran .bytes) (drop (length (q .ran .bytes)) log), length-drop (length (q .ran .bytes)) log)
-  told-length (suc k) q h = refl
-
-  pub run-length : length (skipping M rom sched s log n .log) ≡ length log
-  unfolding skipping
-  run-length = told-length (runNumber M rom sched s n) (strides M rom sched n (length log) n s) (C skippingOne rom sched s log n .written)
-
-  -- and what stands behind the bytes written
+  -- what stands behind the bytes written stays
   told-rest : (k : ℕ) (q : Stepped State) → drop (told M k q s log .written) (told M k q s log .log) ≡ drop (told M k q s log .written) log
   told-rest zero q = drop-append-seam (q .ran .bytes) (drop (length (q .ran .bytes)) log)
   told-rest (suc k) q = refl
@@ -120,10 +98,7 @@ module _ (M : Machine State) (C : EveryRunCountsWithin M) (roms scheds logs : Li
   part-long at k m h = omega (arith, length-take k (drop at logs), length-drop at logs)
 
   own-long : (p : Panel) (lot : Lot) (m : ℕ) → lot .at .log + (p .needs .log + m) ≤ length logs → length (own p lot .log) ≡ p .needs .log
-  own-long p lot m h =
-      run-length M C (part roms (lot .at .rom) (p .needs .rom)) (part scheds (lot .at .schedule) (p .needs .schedule)) (p .state)
-      (part logs (lot .at .log) (p .needs .log)) (lot .grant .0)
-      ∙ part-long (lot .at .log) (p .needs .log) m h
+  own-long p lot m h = part-length M C roms scheds logs (p .needs) lot (p .state) (omega (arith, h))
 
   abbrev logBytes : List Panel → ℕ
   logBytes ps = together (λ n. n .log) (needsOf ps)
@@ -259,7 +234,7 @@ grantsOf r = grants (r .t) (wishesOf (needsOf (r .bank)))
 
 grants-length : (r : Round) → length (grantsOf r) ≡ length (r .bank)
 grants-length r =
-    granted-length _ _ (wishesOf (needsOf (r .bank))) ∙ wishes-length (needsOf (r .bank)) ∙ needs-length (r .bank)
+    grants-fair (r .t) (wishesOf (needsOf (r .bank))) .one-each ∙ wishes-length (needsOf (r .bank)) ∙ needs-length (r .bank)
 
 -- what it leaves, by its number
 abbrev leaves : Round → ℕ → RoundAnswer
@@ -285,14 +260,12 @@ record Accepted (r : Round) : Type 0 where
   logs-fit : 0 + logBytes (chip (r .sheet)) (every-run-counts-within (r .sheet)) (r .roms) (r .schedules) (r .logs) (r .bank) ≤ length (r .logs)
 
 accepted : (r : Round) → after r .number ≡ 0 → Accepted r
-unfolding roundNumber
 accepted r e =
     let z : numberOf r ≡ 0 = sym (number-is r) ∙ e in
-    let ns : List Needs = needsOf (r .bank) in
-    let fit : fits (endsOf (r .roms) (r .schedules) (r .logs)) ns ≡ true = passes _ 62 refl (first-at _ z 2) in
-    let log-fit : together (λ n. n .log) ns ≤ length (r .logs)
-    = leb-true _ _ (and-right (leb (together (λ n. n .rom) ns) (length (r .roms)) && leb (together (λ n. n .schedule) ns) (length (r .schedules))) (leb (together (λ n. n .log) ns) (length (r .logs))) fit) in
-    record { answer = after-is r ∙ ap (leaves r) z; logs-fit = omega (arith, log-fit) }
+    record {
+      answer = after-is r ∙ ap (leaves r) z;
+      logs-fit = fits-all (endsOf (r .roms) (r .schedules) (r .logs)) (needsOf (r .bank)) (chip (r .sheet) .ownNumber) z .log;
+    }
 
 -- EVERY PANEL IS ON ITS OWN
 
