@@ -17,6 +17,7 @@ use Rattle.runs.proofs.Refusals.{first-is}
 use Rattle.upd546.specs.declared.State.{State}
 use Rattle.upd546.specs.Bytes.{part}
 use Rattle.upd546.specs.TwoRunners.{chip}
+use Rattle.laws.proofs.Parts.{length-part}
 use Rattle.laws.proofs.Demand3.{every-run-counts-within}
 use Rattle.panels.specs.declared.Needs.{Needs}
 use Rattle.panels.specs.declared.Places.{Places}
@@ -62,7 +63,7 @@ lot-grant at (g ∷ gs) (n ∷ ns) (suc i) e h = lot-grant (nextPlaces at n) gs 
 
 -- A RUN'S LOG
 
-module _ (M : Machine State) (C : EveryRunCountsWithin M) (rom sched : List ℕ) (s : State) (log : List ℕ) (n : ℕ) where
+module _ (M : Machine State) (rom sched : List ℕ) (s : State) (log : List ℕ) (n : ℕ) where
   -- what stands behind the bytes written stays
   told-rest : (k : ℕ) (q : Stepped State) → drop (told M k q s log .written) (told M k q s log .log) ≡ drop (told M k q s log .written) log
   told-rest zero q = drop-append-seam (q .ran .bytes) (drop (length (q .ran .bytes)) log)
@@ -93,10 +94,7 @@ module _ (M : Machine State) (C : EveryRunCountsWithin M) (roms scheds logs : Li
   served-at (lot ∷ lots) (p ∷ ps) zero e h = refl
   served-at (lot ∷ lots) (p ∷ ps) (suc i) e h = served-at lots ps i (omega (arith, e)) (omega (arith, h))
 
-  -- the part of the logs that a panel has, where m bytes of later ones come behind it
-  part-long : (at k m : ℕ) → at + (k + m) ≤ length logs → length (part logs at k) ≡ k
-  part-long at k m h = omega (arith, length-take k (drop at logs), length-drop at logs)
-
+  -- where m bytes of later parts come behind a panel's own
   own-long : (p : Panel) (lot : Lot) (m : ℕ) → lot .at .log + (p .needs .log + m) ≤ length logs → length (own p lot .log) ≡ p .needs .log
   own-long p lot m h = part-length M C roms scheds logs (p .needs) lot (p .state) (omega (arith, h))
 
@@ -161,10 +159,10 @@ module _ (M : Machine State) (C : EveryRunCountsWithin M) (roms scheds logs : Li
       let k : ℕ = p .needs .log in
       let lent : List ℕ = take k l in
       let a : RunAnswer State = own p lot in
-      let lent-long : length lent ≡ k = part-long (lot .at .log) k m h in
+      let lent-long : length lent ≡ k = length-part logs (lot .at .log) k (omega (arith, h)) in
       let within : a .written ≤ length lent = C skippingOne rom sched (p .state) lent (lot .grant .0) .written in
       drop-append-le (a .written) (a .log) (drop (lot .at .log + k) logs) (omega (arith, within, lent-long, own-long p lot m h))
-      ∙ ap₂ _++_ (run-rest M C rom sched (p .state) lent (lot .grant .0)) (sym (drop-drop k (lot .at .log) logs))
+      ∙ ap₂ _++_ (run-rest M rom sched (p .state) lent (lot .grant .0)) (sym (drop-drop k (lot .at .log) logs))
       ∙ sym (drop-append-le (a .written) lent (drop k l) within)
       ∙ ap (drop (a .written)) (take-append-drop k l)
 
@@ -270,9 +268,6 @@ accepted r e =
 -- EVERY PANEL IS ON ITS OWN
 
 module _ (r : Round) (e : after r .number ≡ 0) where
-  M : Machine State
-  M = chip (r .sheet)
-
   C : EveryRunCountsWithin (chip (r .sheet))
   C = every-run-counts-within (r .sheet)
 
@@ -296,7 +291,7 @@ module _ (r : Round) (e : after r .number ≡ 0) where
   log-long i h =
       let inside : lotIn i r .at .log + before i r .needs .log ≤ length (r .logs)
       = lot-in (chip (r .sheet)) C (r .roms) (r .schedules) (r .logs) firstPlaces (grantsOf r) (r .bank) i (grants-length r) h (accepted r e .logs-fit) in
-      part-long (chip (r .sheet)) C (r .roms) (r .schedules) (r .logs) (lotIn i r .at .log) (before i r .needs .log) 0 (omega (arith, inside))
+      length-part (r .logs) (lotIn i r .at .log) (before i r .needs .log) inside
 
   own-is : (i : ℕ) → i < length (r .bank) → OnItsOwn i r
   unfolding panelAfter
