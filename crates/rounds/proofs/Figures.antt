@@ -18,7 +18,7 @@ use Rattle.laws.proofs.Lists.{below-all}
 use Rattle.waiting.specs.declared.Reading.{Reading}
 use Rattle.panels.specs.Round.{RoundAnswer}
 use Rattle.rounds.specs.Rounds.{Round, after, afterwards, grantIn, OutsideRecords, PanelsOnTheirOwn, SameFor, ComeOutTheSame}
-use Rattle.rounds.specs.Lists.{roundsNotRefused, OnOneBank, turnsTaken, HasItsParts, RoundsMeant, total, grantsTogether, EndsAsOneRun, ReportsAsOneRun}
+use Rattle.rounds.specs.Lists.{roundsNotRefused, OnOneBank, turnsTaken, HasItsParts, RoundsMeant, total, grantsTogether, PanelEndsAsOneRun, PanelReportsAsOneRun}
 use Rattle.rounds.specs.Figures.{six, lamp, halt, torn, high, bank, first, bankThen, short, crowded, noChip, second, rounds, alone, sound, wantedDay, OneRound, both, third, ManyRounds}
 use Rattle.rounds.proofs.Opened.{opened}
 use Rattle.rounds.proofs.Rounds.{every-panel-is-on-its-own, others-affect-nothing-else, stops-hold-up-nobody}
@@ -87,6 +87,7 @@ one-round = record {
   grant-0 = own .own 0 (lit< tt) .grant;
   grant-1 = own .own 1 (lit< tt) .grant;
   grant-2 = own .own 2 (lit< tt) .grant;
+  place = own .own 2 (lit< tt) .place;
   state = ap (λ (s : State). s .cycle .0) (own .own 0 (lit< tt) .state);
   last = own .own 0 (lit< tt) .last;
   log = own .own 0 (lit< tt) .log;
@@ -150,15 +151,15 @@ meant-1 = record {
   );
 }
 
-run-0 : EndsAsOneRun six lamp [] bank 0 (roundsNotRefused rounds) (unbroken (chip six) lamp [] (grantsTogether 0 (roundsNotRefused rounds)) fresh)
+run-0 : PanelEndsAsOneRun six lamp [] bank 0 (roundsNotRefused rounds) (unbroken (chip six) lamp [] (grantsTogether 0 (roundsNotRefused rounds)) fresh)
 run-0 = every-list-of-rounds six lamp [] bank 0 rounds (lit< tt) panel-0 fresh-sound meant-0
 
-run-1 : EndsAsOneRun six halt high bank 1 (roundsNotRefused rounds) (unbroken (chip six) halt high (grantsTogether 1 (roundsNotRefused rounds)) fresh)
+run-1 : PanelEndsAsOneRun six halt high bank 1 (roundsNotRefused rounds) (unbroken (chip six) halt high (grantsTogether 1 (roundsNotRefused rounds)) fresh)
 run-1 = every-list-of-rounds six halt high bank 1 rounds (lit< tt) panel-1 fresh-sound meant-1
 
 -- the same of the two rounds, with their grants as figures
 abbrev Ended : ℕ → List ℕ → List ℕ → List Round → ℕ → Type 0
-Ended i rom sched rs n = EndsAsOneRun six rom sched bank i rs (unbroken (chip six) rom sched n fresh)
+Ended i rom sched rs n = PanelEndsAsOneRun six rom sched bank i rs (unbroken (chip six) rom sched n fresh)
 
 asked-0 : grantsTogether 0 both ≡ 14
 unfolding opened bankThen
@@ -196,7 +197,7 @@ meant-2 : RoundsMeant six lamp [] bank 2 rounds
 unfolding opened bankThen
 meant-2 = record { one-bank = one-bank; own-parts = subst (λ (rs : List Round). Each (HasItsParts six lamp [] 2) (turnsTaken 2 rs)) (sym not-refused) (subst (Each (HasItsParts six lamp [] 2)) (sym taken-2) tt) }
 
-run-2 : EndsAsOneRun six lamp [] bank 2 (roundsNotRefused rounds) (unbroken (chip six) lamp [] (grantsTogether 2 (roundsNotRefused rounds)) fresh)
+run-2 : PanelEndsAsOneRun six lamp [] bank 2 (roundsNotRefused rounds) (unbroken (chip six) lamp [] (grantsTogether 2 (roundsNotRefused rounds)) fresh)
 run-2 = every-list-of-rounds six lamp [] bank 2 rounds (lit< tt) panel-0 fresh-sound meant-2
 
 ended-2 : Ended 2 lamp [] both 0
@@ -205,14 +206,14 @@ ended-2 =
     (subst (λ (rs : List Round). Ended 2 lamp [] rs (grantsTogether 2 rs)) not-refused run-2)
 
 -- the first panel's day
-reports-0 : ReportsAsOneRun 0 both (unbroken (chip six) lamp [] 14 fresh)
+reports-0 : PanelReportsAsOneRun 0 both (unbroken (chip six) lamp [] 14 fresh)
 reports-0 =
     let limit : fresh .cycle .0 + grantsTogether 0 (roundsNotRefused rounds) ≤ cycleLimit
     = subst (λ (rs : List Round). 0 + grantsTogether 0 rs ≤ cycleLimit) (sym not-refused) (subst (λ (n : ℕ). 0 + n ≤ cycleLimit) (sym asked-0) (lit≤ tt)) in
     let day = every-list-of-rounds-reports six lamp [] bank 0 rounds (lit< tt) panel-0 fresh-sound meant-0 limit in
-    subst (λ (n : ℕ). ReportsAsOneRun 0 both (unbroken (chip six) lamp [] n fresh)) asked-0
-    (subst (λ (rs : List Round). ReportsAsOneRun 0 rs (unbroken (chip six) lamp [] (grantsTogether 0 both) fresh)) taken-0
-    (subst (λ (rs : List Round). ReportsAsOneRun 0 (turnsTaken 0 rs) (unbroken (chip six) lamp [] (grantsTogether 0 rs) fresh)) not-refused day))
+    subst (λ (n : ℕ). PanelReportsAsOneRun 0 both (unbroken (chip six) lamp [] n fresh)) asked-0
+    (subst (λ (rs : List Round). PanelReportsAsOneRun 0 rs (unbroken (chip six) lamp [] (grantsTogether 0 both) fresh)) taken-0
+    (subst (λ (rs : List Round). PanelReportsAsOneRun 0 (turnsTaken 0 rs) (unbroken (chip six) lamp [] (grantsTogether 0 rs) fresh)) not-refused day))
 
 -- THE FIGURES
 
@@ -288,6 +289,7 @@ many-rounds = record {
   stop-again = stops-23;
   none-taken = taken-2;
   as-it-was = ended-2 .ends .state;
+  read = reports-0 .accepted;
   day = ap (λ (r : Reading). r .carried) (reports-0 .report);
   one-bank = every-list-on-one-bank bank (first ∷ short ∷ second ∷ []) threaded .0;
 }

@@ -61,6 +61,46 @@ lot-grant at [] (n ∷ ns) i e h = apart e
 lot-grant at (g ∷ gs) (n ∷ ns) zero e h = refl
 lot-grant at (g ∷ gs) (n ∷ ns) (suc i) e h = lot-grant (nextPlaces at n) gs ns i (omega (arith, e)) (omega (arith, h))
 
+-- places counted from these on, behind the lengths of so many panels
+abbrev placedAt : Places → ℕ → List Needs → Places
+placedAt at i ns = record {
+  rom = at .rom + together (λ n. n .rom) (take i ns);
+  schedule = at .schedule + together (λ n. n .schedule) (take i ns);
+  log = at .log + together (λ n. n .log) (take i ns);
+}
+
+lot-place : (at : Places) (gs : List ℕ) (ns : List Needs) (i : ℕ) → length gs ≡ length ns → i < length ns
+    → getD (lotsFrom at gs ns) i noLot .at ≡ placedAt at i ns
+unfolding lotsFrom together
+lot-place at gs [] i e h = none-there i h
+lot-place at [] (n ∷ ns) i e h = apart e
+lot-place at (g ∷ gs) (n ∷ ns) zero e h = λ x. record { rom = no-more (at .rom) x; schedule = no-more (at .schedule) x; log = no-more (at .log) x }
+  where
+    no-more : (k : ℕ) → k ≡ k + 0
+    no-more k = omega arith
+lot-place at (g ∷ gs) (n ∷ ns) (suc i) e h =
+    lot-place (nextPlaces at n) gs ns i (omega (arith, e)) (omega (arith, h))
+    ∙ (λ x. record {
+      rom = further (at .rom) (n .rom) (together (λ n. n .rom) (take i ns)) x;
+      schedule = further (at .schedule) (n .schedule) (together (λ n. n .schedule) (take i ns)) x;
+      log = further (at .log) (n .log) (together (λ n. n .log) (take i ns)) x;
+    })
+  where
+    further : (a b c : ℕ) → a + b + c ≡ a + (b + c)
+    further a b c = omega arith
+
+first-place : (i : ℕ) (ns : List Needs)
+    → placedAt firstPlaces i ns
+    ≡ record { rom = together (λ n. n .rom) (take i ns); schedule = together (λ n. n .schedule) (take i ns); log = together (λ n. n .log) (take i ns) }
+first-place i ns = λ x. record {
+  rom = none-before (together (λ n. n .rom) (take i ns)) x;
+  schedule = none-before (together (λ n. n .schedule) (take i ns)) x;
+  log = none-before (together (λ n. n .log) (take i ns)) x;
+}
+  where
+    none-before : (k : ℕ) → 0 + k ≡ k
+    none-before k = omega arith
+
 -- A RUN'S LOG
 
 module _ (M : Machine State) (rom sched : List ℕ) (s : State) (log : List ℕ) (n : ℕ) where
@@ -297,6 +337,9 @@ module _ (r : Round) (e : after r .number ≡ 0) where
   unfolding panelAfter
   own-is i h = record {
     grant = lot-grant firstPlaces (grantsOf r) (needsOf (r .bank)) i (grants-length r ∙ sym (needs-length (r .bank))) (omega (arith, needs-length (r .bank)));
+    place =
+        lot-place firstPlaces (grantsOf r) (needsOf (r .bank)) i (grants-length r ∙ sym (needs-length (r .bank))) (omega (arith, needs-length (r .bank)))
+        ∙ first-place i (needsOf (r .bank));
     state = ap (λ (p : Panel). p .state) (panel-is i h);
     last = ap (λ (p : Panel). p .last) (panel-is i h);
     log = log-is i h;

@@ -4,9 +4,8 @@ use Prim.Native.Nat.{ℕ, suc}
 use mathlib.Core.Path.{_≡_}
 use mathlib.Core.List.{List, [], _∷_, _++_, map}
 use lib.ListN.{length, getD, take, replicate}
-use Rattle.runs.specs.TwoRunners.{RunAnswer, finished}
+use Rattle.runs.specs.TwoRunners.{finished}
 use Rattle.runs.specs.Lists.{Kind, Each, runAnswer}
-use Rattle.upd546.specs.declared.State.{State}
 use Rattle.upd546.specs.declared.Sheet.{Sheet}
 use Rattle.upd546.specs.TheMachine.{fresh}
 use Rattle.upd546.specs.TwoRunners.{chip}
@@ -14,10 +13,9 @@ use Rattle.calls.specs.Lists.{joined}
 use Rattle.waiting.specs.declared.Landing.{Landing}
 use Rattle.waiting.specs.declared.Carried.{Carried}
 use Rattle.waiting.specs.WaitingTimes.{noWaits, startOfDay}
-use Rattle.waiting.specs.EveryList.{carriedOn}
+use Rattle.waiting.specs.EveryList.{AllAccepted, carriedOn}
 use Rattle.panels.specs.declared.Panel.{Panel}
-use Rattle.panels.specs.Round.{RoundAnswer}
-use Rattle.rounds.specs.Rounds.{Round, after, panelAt, afterwards, grantIn, logAfterwards, ComeOutTheSame}
+use Rattle.rounds.specs.Rounds.{Round, after, panelAt, afterwards, lotIn, grantIn, logAfterwards, ComeOutTheSame}
 use Rattle.rounds.specs.Lists.{roundsNotRefused, OnOneBank, bankAfter, turnRefusal, turnsTaken, panelLogs, total, grantsTogether}
 
 -- THE BANK
@@ -120,6 +118,8 @@ pub record OneRound : Type 0 where
   pub grant-0 : grantIn 0 first ≡ 9
   pub grant-1 : grantIn 1 first ≡ 2
   pub grant-2 : grantIn 2 first ≡ 5
+  -- the third's parts begin behind those of the first two
+  pub place : lotIn 2 first .at ≡ record { rom = 12; schedule = 10; log = 176 }
   -- the first panel finishes, its lamp lit
   pub state : afterwards 0 first .state .cycle .0 ≡ 9
   pub last : afterwards 0 first .last ≡ record { cycles = record { 0 = 9 }; begun = 9; written = 24; steps = 9; number = 0 }
@@ -175,6 +175,7 @@ pub record ManyRounds : Type 0 where
   pub none-taken : turnsTaken 2 both ≡ []
   pub as-it-was : panelAt 2 (bankAfter bank both) .state ≡ fresh
   -- `EveryListOfRoundsReportsAsOneRun`
+  pub read : AllAccepted startOfDay (panelLogs 0 both)
   pub day : carriedOn startOfDay (panelLogs 0 both) ≡ wantedDay
   -- `EveryListOnOneBankIsMeant`
   pub one-bank : OnOneBank bank (roundsNotRefused (first ∷ short ∷ second ∷ []))

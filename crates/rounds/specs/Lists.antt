@@ -97,7 +97,7 @@ pub record PanelEndsAs (bank : List kept.Panel) (i : ℕ) (rs : List Round) (u :
   pub stops : Each (λ r. (k : ℕ) → afterwards i r .last .number ≡ suc k → u .number ≡ some (suc k)) (turnsTaken i rs)
 
 -- THE POWER-OFF GUARANTEE, of one panel of a bank and one list of rounds, where u is the unbroken run.
-pub record EndsAsOneRun (sheet : Sheet) (rom sched : List ℕ) (bank : List kept.Panel) (i : ℕ) (rs : List Round) (u : Ran State) : Type 0 where
+pub record PanelEndsAsOneRun (sheet : Sheet) (rom sched : List ℕ) (bank : List kept.Panel) (i : ℕ) (rs : List Round) (u : Ran State) : Type 0 where
   pub ends : PanelEndsAs bank i rs u
   -- "That run is as demand 2 defines it": where "N keeps within the cycle limit", it is what one call for N cycles answers, of either
   -- runner
@@ -115,7 +115,7 @@ abbrev pub EveryListOfRoundsEndsAsOneRun : Type 0
 EveryListOfRoundsEndsAsOneRun =
     (sheet : Sheet) (rom sched : List ℕ) (bank : List kept.Panel) (i : ℕ) (rounds : List Round) → i < length bank
     → Panel (chip sheet) rom sched → chip sheet .stateNumber (panelAt i bank .state) ≡ 0 → RoundsMeant sheet rom sched bank i rounds
-    → EndsAsOneRun sheet rom sched bank i (roundsNotRefused rounds)
+    → PanelEndsAsOneRun sheet rom sched bank i (roundsNotRefused rounds)
     (unbroken (chip sheet) rom sched (grantsTogether i (roundsNotRefused rounds)) (panelAt i bank .state))
 
 -- Rounds on one bank, refused ones too, are such a list, and the bank that the last of them leaves is that of the rounds not refused.
@@ -128,7 +128,7 @@ EveryListOnOneBankIsMeant =
 
 -- from the start of a day the log bytes that a panel's runs wrote are accepted, round by round, and the report that is carried on is the
 -- report of the unbroken run's log, which is accepted too
-pub record ReportsAsOneRun (i : ℕ) (rs : List Round) (u : Ran State) : Type 0 where
+pub record PanelReportsAsOneRun (i : ℕ) (rs : List Round) (u : Ran State) : Type 0 where
   pub accepted : AllAccepted startOfDay (panelLogs i rs)
   pub report : record { number = 0; carried = carriedOn startOfDay (panelLogs i rs) } ≡ waitingTimes (u .bytes) startOfDay
 
@@ -137,5 +137,5 @@ EveryListOfRoundsReportsAsOneRun =
     (sheet : Sheet) (rom sched : List ℕ) (bank : List kept.Panel) (i : ℕ) (rounds : List Round) → i < length bank
     → Panel (chip sheet) rom sched → chip sheet .stateNumber (panelAt i bank .state) ≡ 0 → RoundsMeant sheet rom sched bank i rounds
     → panelAt i bank .state .cycle .0 + grantsTogether i (roundsNotRefused rounds) ≤ cycleLimit
-    → ReportsAsOneRun i (turnsTaken i (roundsNotRefused rounds))
+    → PanelReportsAsOneRun i (turnsTaken i (roundsNotRefused rounds))
     (unbroken (chip sheet) rom sched (grantsTogether i (roundsNotRefused rounds)) (panelAt i bank .state))

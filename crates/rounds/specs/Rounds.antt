@@ -5,7 +5,7 @@ use Prim.Native.Nat.{ℕ, suc, _+_, _<_, _≤_}
 use mathlib.Core.Path.{_≡_}
 use mathlib.Core.List.{List, [], _∷_}
 use lib.Dec.{leb}
-use lib.ListN.{length, getD}
+use lib.ListN.{length, getD, take}
 use Rattle.runs.specs.Refusals.{firstOf, unless}
 use Rattle.runs.specs.TwoRunners.{RunAnswer}
 use Rattle.upd546.specs.declared.State.{State}
@@ -14,10 +14,11 @@ use Rattle.upd546.specs.Bytes.{part}
 use Rattle.upd546.specs.TheMachine.{fresh}
 use Rattle.upd546.specs.TheSheet.{sheetNumber}
 use Rattle.upd546.specs.TwoRunners.{chip}
+use Rattle.panels.specs.declared.Needs.{Needs}
 use Rattle.panels.specs.declared.Lot.{Lot}
 use Rattle.panels.specs.declared.Panel.{Panel}
 use Rattle.panels.specs.Grants.{grants}
-use Rattle.panels.specs.Places.{mostPanels, firstPlaces, wishesOf, lotsOf, fits, endsOf}
+use Rattle.panels.specs.Places.{mostPanels, firstPlaces, wishesOf, lotsOf, together, fits, endsOf}
 use Rattle.panels.specs.Round.{ownRun, lastOf, needsOf, RoundAnswer, roundAnswer}
 
 -- A round with all that it is given: the bank, "three lent buffers" for "the ROMs, schedules and logs", T, and the sheet, which is given
@@ -83,10 +84,16 @@ runIn i r = ownRun (chip (r .sheet)) (r .roms) (r .schedules) (r .logs) (before 
 
 -- EVERY PANEL IS ON ITS OWN
 
+-- the bytes that the panels before it have, of a kind
+abbrev pub bytesBefore : (Needs → ℕ) → ℕ → Round → ℕ
+bytesBefore length i r = together length (take i (needsOf (r .bank)))
+
 -- "A panel's state, log, counts and number after a round are those of its own timer-skipping run for its grant, and its wish and lengths
--- stay"
+-- stay": the grant that T and the wishes give it, and parts that lie "end to end in row order, by lengths kept with each panel"
 pub record OnItsOwn (i : ℕ) (r : Round) : Type 0 where
   pub grant : grantIn i r ≡ getD (grants (r .t) (wishesOf (needsOf (r .bank)))) i 0
+  pub place : lotIn i r .at
+      ≡ record { rom = bytesBefore (λ n. n .rom) i r; schedule = bytesBefore (λ n. n .schedule) i r; log = bytesBefore (λ n. n .log) i r }
   pub state : afterwards i r .state ≡ runIn i r .state
   pub last : afterwards i r .last ≡ lastOf (runIn i r)
   pub log : logAfterwards i r ≡ runIn i r .log
