@@ -1,3 +1,4 @@
+pub mod Alone
 pub mod Courses
 pub mod Cuts
 pub mod Fairness
