@@ -29,7 +29,9 @@ use Rattle.panels.specs.Round.{ownRun, lastOf, panelAfter, needsOf, RoundAnswer
 use Rattle.panels.proofs.Fairness.{grants-fair}
 use Rattle.panels.proofs.Courses.{wishes-length, fits-all}
 use Rattle.panels.proofs.Rounds.{needs-length, part-length}
-use Rattle.rounds.specs.Rounds.{Round, after, noPanel, panelAt, before, afterwards, noLot, lotIn, grantIn, romIn, scheduleIn, logIn, logAfterwards, runIn}
+use Rattle.panels.proofs.Alone.{each-alone}
+use Rattle.panels.specs.Alone.{noLot, EachAlone}
+use Rattle.rounds.specs.Rounds.{Round, after, noPanel, panelAt, before, afterwards, lotIn, grantIn, romIn, scheduleIn, logIn, logAfterwards, runIn}
 use Rattle.rounds.specs.Rounds.{OnItsOwn, OutsideRecords, PanelsOnTheirOwn, EveryPanelIsOnItsOwn, SameFor, ComeOutTheSame, OthersAffectNothingElse, StopsHoldUpNobody}
 use Rattle.rounds.specs.Rounds.{EveryRoundIsRefusedByNumbers, SheetRefusesTheRoundFirst, RefusedRoundChangesNothing, EmptyBankDoesNothing}
 
@@ -46,12 +48,6 @@ apart {n} h = absurd (no n h)
     no n h = omega arith
 
 -- ROWS
-
-lots-length : (at : Places) (gs : List ℕ) (ns : List Needs) → length gs ≡ length ns → length (lotsFrom at gs ns) ≡ length ns
-unfolding lotsFrom
-lots-length at gs [] e = refl
-lots-length at [] (n ∷ ns) e = apart e
-lots-length at (g ∷ gs) (n ∷ ns) e = ap suc (lots-length (nextPlaces at n) gs ns (omega (arith, e)))
 
 lot-grant : (at : Places) (gs : List ℕ) (ns : List Needs) (i : ℕ) → length gs ≡ length ns → i < length ns
     → getD (lotsFrom at gs ns) i noLot .grant .0 ≡ getD gs i 0
@@ -120,20 +116,6 @@ module _ (M : Machine State) (C : EveryRunCountsWithin M) (roms scheds logs : Li
   abbrev own : Panel → Lot → RunAnswer State
   own p lot = ownRun M roms scheds logs (p .needs) lot (p .state)
 
-  served-length : (lots : List Lot) (ps : List Panel) → length (served M roms scheds logs lots ps) ≡ length ps
-  unfolding served
-  served-length lots [] = refl
-  served-length [] (p ∷ ps) = refl
-  served-length (lot ∷ lots) (p ∷ ps) = ap suc (served-length lots ps)
-
-  served-at : (lots : List Lot) (ps : List Panel) (i : ℕ) → length lots ≡ length ps → i < length ps
-      → panelAt i (served M roms scheds logs lots ps) ≡ panelAfter (panelAt i ps) (own (panelAt i ps) (getD lots i noLot))
-  unfolding served
-  served-at lots [] i e h = none-there i h
-  served-at [] (p ∷ ps) i e h = apart e
-  served-at (lot ∷ lots) (p ∷ ps) zero e h = refl
-  served-at (lot ∷ lots) (p ∷ ps) (suc i) e h = served-at lots ps i (omega (arith, e)) (omega (arith, h))
-
   -- where m bytes of later parts come behind a panel's own
   own-long : (p : Panel) (lot : Lot) (m : ℕ) → lot .at .log + (p .needs .log + m) ≤ length logs → length (own p lot .log) ≡ p .needs .log
   own-long p lot m h = part-length M C roms scheds logs (p .needs) lot (p .state) (omega (arith, h))
@@ -163,31 +145,6 @@ module _ (M : Machine State) (C : EveryRunCountsWithin M) (roms scheds logs : Li
   lot-in at [] (p ∷ ps) i e h r = apart e
   lot-in at (g ∷ gs) (p ∷ ps) zero e h r = omega (arith, r)
   lot-in at (g ∷ gs) (p ∷ ps) (suc i) e h r = lot-in (nextPlaces at (p .needs)) gs ps i (omega (arith, e)) (omega (arith, h)) (omega (arith, r))
-
-  -- behind a front that ends where the first part begins
-  written-at : (at : Places) (gs : List ℕ) (ps : List Panel) (i : ℕ) (front z : List ℕ) → length front ≡ at .log → length gs ≡ length ps
-      → i < length ps → at .log + logBytes ps ≤ length logs
-      → part (front ++ (written M roms scheds logs (lotsFor at gs ps) ps ++ z)) (getD (lotsFor at gs ps) i noLot .at .log) (panelAt i ps .needs .log)
-      ≡ own (panelAt i ps) (getD (lotsFor at gs ps) i noLot) .log
-  unfolding written together needsOf lotsFrom
-  written-at at gs [] i front z f e h r = none-there i h
-  written-at at [] (p ∷ ps) i front z f e h r = apart e
-  written-at at (g ∷ gs) (p ∷ ps) zero front z f e h r =
-      let lot : Lot = record { grant = record { 0 = g }; at = at } in
-      let a : List ℕ = own p lot .log in
-      let w : List ℕ = written M roms scheds logs (lotsFor (nextPlaces at (p .needs)) gs ps) ps in
-      ap (take (p .needs .log)) (drop-at front ((a ++ w) ++ z) (at .log) f ∙ append-assoc a w z)
-      ∙ take-at a (w ++ z) (p .needs .log) (own-long p lot (logBytes ps) r)
-  written-at at (g ∷ gs) (p ∷ ps) (suc i) front z f e h r =
-      let lot : Lot = record { grant = record { 0 = g }; at = at } in
-      let a : List ℕ = own p lot .log in
-      let next : Places = nextPlaces at (p .needs) in
-      let w : List ℕ = written M roms scheds logs (lotsFor next gs ps) ps in
-      let same : front ++ ((a ++ w) ++ z) ≡ (front ++ a) ++ (w ++ z)
-      = ap (λ (l : List ℕ). front ++ l) (append-assoc a w z) ∙ sym (append-assoc front a (w ++ z)) in
-      ap (λ (l : List ℕ). part l (getD (lotsFor next gs ps) i noLot .at .log) (panelAt i ps .needs .log)) same
-      ∙ written-at next gs ps i (front ++ a) z (omega (arith, length-append front a, f, own-long p lot (logBytes ps) r)) (omega (arith, e))
-      (omega (arith, h)) (omega (arith, r))
 
   -- behind the records of one panel the buffer is as it was
   behind : (p : Panel) (lot : Lot) (m : ℕ) → lot .at .log + (p .needs .log + m) ≤ length logs
@@ -311,20 +268,14 @@ module _ (r : Round) (e : after r .number ≡ 0) where
   C : EveryRunCountsWithin (chip (r .sheet))
   C = every-run-counts-within (r .sheet)
 
-  lots-are : length (lotsOf (r .t) (needsOf (r .bank))) ≡ length (r .bank)
-  lots-are =
-      lots-length firstPlaces (grantsOf r) (needsOf (r .bank)) (grants-length r ∙ sym (needs-length (r .bank))) ∙ needs-length (r .bank)
+  alone : EachAlone (chip (r .sheet)) (r .bank) (r .roms) (r .schedules) (r .logs) (r .t)
+  alone = each-alone (chip (r .sheet)) C (r .bank) (r .roms) (r .schedules) (r .logs) (r .t) e
 
   panel-is : (i : ℕ) → i < length (r .bank) → afterwards i r ≡ panelAfter (before i r) (runIn i r)
-  panel-is i h =
-      ap (λ (a : RoundAnswer). panelAt i (a .panels)) (accepted r e .answer)
-      ∙ served-at (chip (r .sheet)) C (r .roms) (r .schedules) (r .logs) (lotsOf (r .t) (needsOf (r .bank))) (r .bank) i lots-are h
+  panel-is i h = alone .panel-alone i noPanel h
 
   log-is : (i : ℕ) → i < length (r .bank) → logAfterwards i r ≡ runIn i r .log
-  log-is i h =
-      ap (λ (a : RoundAnswer). part (a .logs) (lotIn i r .at .log) (before i r .needs .log)) (accepted r e .answer)
-      ∙ written-at (chip (r .sheet)) C (r .roms) (r .schedules) (r .logs) firstPlaces (grantsOf r) (r .bank) i []
-      (drop (together (λ n. n .log) (needsOf (r .bank))) (r .logs)) refl (grants-length r) h (accepted r e .logs-fit)
+  log-is i h = alone .log-alone i noPanel h
 
   -- its part of the logs has its length
   pub log-long : (i : ℕ) → i < length (r .bank) → length (logIn i r) ≡ before i r .needs .log
@@ -345,11 +296,6 @@ module _ (r : Round) (e : after r .number ≡ 0) where
     log = log-is i h;
     needs = ap (λ (p : Panel). p .needs) (panel-is i h);
   }
-
-  row-is : length (after r .panels) ≡ length (r .bank)
-  row-is =
-      ap (λ (a : RoundAnswer). length (a .panels)) (accepted r e .answer)
-      ∙ served-length (chip (r .sheet)) C (r .roms) (r .schedules) (r .logs) (lotsOf (r .t) (needsOf (r .bank))) (r .bank)
 
   abbrev all-logs : List ℕ
   all-logs = written (chip (r .sheet)) (r .roms) (r .schedules) (r .logs) (lotsOf (r .t) (needsOf (r .bank))) (r .bank)
@@ -377,7 +323,7 @@ module _ (r : Round) (e : after r .number ≡ 0) where
       no-more m = omega arith
 
 pub every-panel-is-on-its-own : EveryPanelIsOnItsOwn
-every-panel-is-on-its-own r e = record { own = own-is r e; row = row-is r e; buffer = buffer-is r e; outside = outside-is r e }
+every-panel-is-on-its-own r e = record { own = own-is r e; row = alone r e .as-many; buffer = buffer-is r e; outside = outside-is r e }
 
 -- TWO BANKS
 

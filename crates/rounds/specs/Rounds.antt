@@ -18,8 +18,9 @@ use Rattle.panels.specs.declared.Needs.{Needs}
 use Rattle.panels.specs.declared.Lot.{Lot}
 use Rattle.panels.specs.declared.Panel.{Panel}
 use Rattle.panels.specs.Grants.{grants}
-use Rattle.panels.specs.Places.{mostPanels, firstPlaces, wishesOf, lotsOf, together, fits, endsOf}
+use Rattle.panels.specs.Places.{mostPanels, wishesOf, lotsOf, together, fits, endsOf}
 use Rattle.panels.specs.Round.{ownRun, lastOf, needsOf, RoundAnswer, roundAnswer}
+use Rattle.panels.specs.Alone.{noLot}
 
 -- A round with all that it is given: the bank, "three lent buffers" for "the ROMs, schedules and logs", T, and the sheet, which is given
 -- last (R-11).
@@ -56,9 +57,6 @@ abbrev pub afterwards : ℕ → Round → Panel
 afterwards i r = panelAt i (after r .panels)
 
 -- what it has for the round: its grant, and where its parts of the buffers begin
-abbrev pub noLot : Lot
-noLot = record { grant = record { 0 = 0 }; at = firstPlaces }
-
 abbrev pub lotIn : ℕ → Round → Lot
 lotIn i r = getD (lotsOf (r .t) (needsOf (r .bank))) i noLot
 
