@@ -1,6 +1,6 @@
 -- Three panels, of which one stops and one is refused, and rounds with refused ones among them. Assumes nothing.
 use mathlib.Core.Path.{_≡_, _∙_, refl, sym, ap, subst}
-use mathlib.Core.List.{List, [], _∷_, _++_, map}
+use mathlib.Core.List.{List, [], _∷_, map}
 use mathlib.Core.Option.{Option, none, some}
 use Prim.Native.Nat.{ℕ, zero, suc, _+_, _<_, _≤_}
 use native.Mathlib.Omega.{arith}
@@ -19,7 +19,7 @@ use Rattle.waiting.specs.declared.Reading.{Reading}
 use Rattle.panels.specs.Round.{RoundAnswer}
 use Rattle.rounds.specs.Rounds.{Round, after, afterwards, grantIn, OutsideRecords, PanelsOnTheirOwn, SameFor, ComeOutTheSame}
 use Rattle.rounds.specs.Lists.{roundsNotRefused, OnOneBank, turnsTaken, HasItsParts, RoundsMeant, total, grantsTogether, PanelEndsAsOneRun, PanelReportsAsOneRun}
-use Rattle.rounds.specs.Figures.{six, lamp, halt, torn, high, bank, first, bankThen, short, crowded, noChip, second, rounds, alone, sound, wantedDay, OneRound, both, third, ManyRounds}
+use Rattle.rounds.specs.Figures.{six, lamp, halt, high, bank, first, bankThen, short, crowded, noChip, second, rounds, alone, sound, OneRound, both, third, ManyRounds}
 use Rattle.rounds.proofs.Opened.{opened}
 use Rattle.rounds.proofs.Rounds.{every-panel-is-on-its-own, others-affect-nothing-else, stops-hold-up-nobody}
 use Rattle.rounds.proofs.Rounds.{every-round-is-refused-by-numbers, sheet-refuses-the-round-first, refused-round-changes-nothing, empty-bank-does-nothing}

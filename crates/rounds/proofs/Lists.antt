@@ -26,9 +26,9 @@ use Rattle.waiting.specs.WaitingTimes.{startOfDay, waitingTimes}
 use Rattle.switch_offs.proofs.EveryList.{every-list-reports-as-one-run}
 use Rattle.panels.specs.declared.Panel as kept
 use Rattle.panels.specs.Round.{lastOf, RoundAnswer}
-use Rattle.rounds.specs.Rounds.{Round, after, panelAt, before, afterwards, romIn, scheduleIn, logIn, logAfterwards, grantIn, runIn, OnItsOwn, PanelsOnTheirOwn}
+use Rattle.rounds.specs.Rounds.{Round, after, panelAt, before, afterwards, romIn, scheduleIn, logIn, logAfterwards, grantIn, runIn, OnItsOwn}
 use Rattle.rounds.specs.Lists.{keepRound, roundsNotRefused, OnOneBank, bankAfter, turnRefusal, turnsTaken, HasItsParts, RoundsMeant, panelLogs, total, grantsTogether}
-use Rattle.rounds.specs.Lists.{PanelEndsAs, PanelEndsAsOneRun, EveryListOfRoundsEndsAsOneRun, EveryListOnOneBankIsMeant, PanelReportsAsOneRun, EveryListOfRoundsReportsAsOneRun}
+use Rattle.rounds.specs.Lists.{PanelEndsAs, EveryListOfRoundsEndsAsOneRun, EveryListOnOneBankIsMeant, EveryListOfRoundsReportsAsOneRun}
 use Rattle.panels.proofs.Rounds.{run-length}
 use Rattle.rounds.proofs.Rounds.{log-long, every-panel-is-on-its-own, refused-round-changes-nothing}
 

@@ -1,17 +1,17 @@
 -- Each panel of a round has its own run and nothing else, and a refused round changes nothing. Assumes nothing.
-use mathlib.Core.Path.{_≡_, _∙_, refl, sym, ap, ap₂, subst}
+use mathlib.Core.Path.{_≡_, _∙_, refl, sym, ap, ap₂}
 use mathlib.Core.Bool.{Bool, true, false}
 use mathlib.Core.List.{List, [], _∷_, _++_, append-assoc}
 use Prim.Native.Nat.{ℕ, zero, suc, _+_, _-_, _≤_, _<_}
 use native.Mathlib.Omega.{arith}
 use lib.Dec.{leb, ltb, leb·zero}
-use lib.ListN.{length, getD, take, drop, length-append, length-take, length-drop, take-append-drop, List·getD-append}
-use lib.Seq.{take-at, drop-at, drop-drop, drop-append-le, drop-append-seam, getD-append-add, getD-drop}
+use lib.ListN.{length, getD, take, drop, length-append, length-drop, take-append-drop, List·getD-append}
+use lib.Seq.{drop-drop, drop-append-le, drop-append-seam, getD-append-add, getD-drop}
 use borrow.Author.Tests.{ltb-true, ltb-false}
 use Rattle.runs.specs.Machine.{Machine}
 use Rattle.runs.specs.Refusals.{firstOf, unless}
 use Rattle.runs.specs.TwoRunners.{RunAnswer, Stepped, strides, runNumber, told, skipping}
-use Rattle.runs.specs.EveryRun.{CountsWithin, EveryRunCountsWithin}
+use Rattle.runs.specs.EveryRun.{EveryRunCountsWithin}
 use Rattle.runs.specs.Lists.{skippingOne}
 use Rattle.runs.proofs.Refusals.{first-is}
 use Rattle.upd546.specs.declared.State.{State}
@@ -31,8 +31,8 @@ use Rattle.panels.proofs.Courses.{wishes-length, fits-all}
 use Rattle.panels.proofs.Rounds.{needs-length, part-length}
 use Rattle.panels.proofs.Alone.{each-alone}
 use Rattle.panels.specs.Alone.{noLot, EachAlone}
-use Rattle.rounds.specs.Rounds.{Round, after, noPanel, panelAt, before, afterwards, lotIn, grantIn, romIn, scheduleIn, logIn, logAfterwards, runIn}
-use Rattle.rounds.specs.Rounds.{OnItsOwn, OutsideRecords, PanelsOnTheirOwn, EveryPanelIsOnItsOwn, SameFor, ComeOutTheSame, OthersAffectNothingElse, StopsHoldUpNobody}
+use Rattle.rounds.specs.Rounds.{Round, after, noPanel, panelAt, before, afterwards, lotIn, logIn, logAfterwards, runIn}
+use Rattle.rounds.specs.Rounds.{OnItsOwn, OutsideRecords, EveryPanelIsOnItsOwn, OthersAffectNothingElse, StopsHoldUpNobody}
 use Rattle.rounds.specs.Rounds.{EveryRoundIsRefusedByNumbers, SheetRefusesTheRoundFirst, RefusedRoundChangesNothing, EmptyBankDoesNothing}
 
 none-there : (i : ℕ) {A : Type 0} → i < 0 → A
