@@ -76,6 +76,9 @@ extern "C" {
  *   52       the caller                  the store has no such name
  *   53       the caller                  the store has no unused entry for a new name
  *   54       the caller                  an image of version 1 is wanted while the count of cycles with RES high isn't 0
+ *   61       the caller                  the bank has more than sixteen panels
+ *   62       the caller                  the lengths of a bank's ROMs, schedules or logs together exceed their buffer
+ *   63       the caller                  the bank's length is no multiple of 147
  *   71       whoever wrote the sheet     the sheet is outside its limits: ROM bytes 1 to 2,000, rows 0 to 31, levels 1 to 3
  *
  * A stop (3, 22, 23) leaves the panel before the instruction that wasn't begun. Image, log and report are those of the cycles up to
