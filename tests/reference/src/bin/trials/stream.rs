@@ -94,7 +94,7 @@
 //!
 //! | letter | what |
 //! |---|---|
-//! | M | the bank, likewise, up to 16,384 bytes |
+//! | M | the bank, likewise, up to 4,096 bytes |
 //! | X | its byte at the place has the value |
 //! | K, B | the bank is kept; the kept one is brought back. Its length stays |
 //! | C | `wharfnettle_round` of the bank with n cycles for all, on logs of this length, in which the pattern stands |

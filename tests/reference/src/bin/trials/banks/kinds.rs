@@ -71,7 +71,7 @@ fn numbers() -> Vec<Group> {
     let bad = Sheet { levels: 4, ..PAGE };
     let mut groups = Vec::new();
     for form in Form::BOTH {
-        for panels in [0, 1, 2, 15, 16, 17, 18, 40] {
+        for panels in [0, 1, 2, 15, 16, 17, 18, 20] {
             for (short, words) in [
                 (None, "whole buffers"),
                 (Some(0), "a byte less of ROMs"),
