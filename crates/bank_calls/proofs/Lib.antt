@@ -1,0 +1,5 @@
+pub mod Told
+pub mod Span
+pub mod Turning
+pub mod Lots
+pub mod Rounds

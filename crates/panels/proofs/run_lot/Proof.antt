@@ -1,0 +1,113 @@
+use denote.Ref.{now}
+use Rattle.panels.proofs.Cuts.{own-run}
+use borrow.Author.Needs.{needs}
+use Rattle.panels.proofs.run_lot.Statement.{statement}
+use Rattle.panels.proofs.run_lot.Tie as tie
+use Rattle.panels.proofs.run_lot.Reads as reads
+use Rattle.panels.proofs.run_lot.Lts as lts
+use Rattle.panels.proofs.past.Reads as past-reads
+use Rattle.runner.proofs.run_skipping.Reads as run-skipping-reads
+
+-- src/lib.rt:292:9
+past-requires : tie.Need-past-requires
+past-requires c κs = search needs
+
+-- src/lib.rt:293:9
+past-requires-2 : tie.Need-past-requires-2
+past-requires-2 c κs = search needs
+
+-- src/lib.rt:294:9
+past-requires-3 : tie.Need-past-requires-3
+past-requires-3 c κs = search needs
+
+-- src/lib.rt:295:9
+past-requires-4 : tie.Need-past-requires-4
+past-requires-4 c κs = search needs
+
+-- src/lib.rt:296:9
+past-requires-5 : tie.Need-past-requires-5
+past-requires-5 c κs = search needs
+
+-- src/lib.rt:297:9
+past-requires-6 : tie.Need-past-requires-6
+past-requires-6 c κs = search needs
+
+-- src/lib.rt:299:18
+sub-run-skipping : tie.Need-sub-run-skipping
+sub-run-skipping c = search needs
+
+-- src/lib.rt:299:18
+part-run-skipping-start : tie.Need-part-run-skipping-start
+part-run-skipping-start c = search needs
+
+-- src/lib.rt:299:18
+part-run-skipping-end : tie.Need-part-run-skipping-end
+part-run-skipping-end c = search needs
+
+-- src/lib.rt:299:33
+sub-run-skipping-2 : tie.Need-sub-run-skipping-2
+sub-run-skipping-2 c = search needs
+
+-- src/lib.rt:299:33
+part-run-skipping-start-2 : tie.Need-part-run-skipping-start-2
+part-run-skipping-start-2 c = search needs
+
+-- src/lib.rt:299:33
+part-run-skipping-end-2 : tie.Need-part-run-skipping-end-2
+part-run-skipping-end-2 c = search needs
+
+-- src/lib.rt:299:56
+sub-run-skipping-3 : tie.Need-sub-run-skipping-3
+sub-run-skipping-3 c = search needs
+
+-- src/lib.rt:299:56
+part-run-skipping-start-3 : tie.Need-part-run-skipping-start-3
+part-run-skipping-start-3 c = search needs
+
+-- src/lib.rt:299:56
+part-run-skipping-end-3 : tie.Need-part-run-skipping-end-3
+part-run-skipping-end-3 c = search needs
+
+-- src/lib.rt:299:5
+run-skipping-requires : tie.Need-run-skipping-requires
+run-skipping-requires c κs = search needs
+
+-- src/lib.rt:281:1
+same-length : tie.Need-same-length
+same-length c = search needs
+
+-- src/lib.rt:281:1
+returns : tie.Need-returns
+returns c = 
+    let at-run = c .before .before in
+    let at-6 = at-run .before .before .before .before .before in
+    let at-5 = at-6 .before in
+    let at-4 = at-5 .before in
+    let at-3 = at-4 .before in
+    let at-2 = at-3 .before in
+    let at-1 = at-2 .before in
+    let a = at-1 .before .before .before .before .args in
+    own-run (a .sheet) (now (a .roms)) (now (a .schedules)) (now (a .logs)) (a .n) (a .lot) (a .s) (at-run .run-skipping .result) _ (at-1 .past .ensures) (at-2 .past2 .ensures) (at-3 .past3 .ensures) (at-4 .past4 .ensures) (at-5 .past5 .ensures) (at-6 .past6 .ensures) (at-run .run-skipping .ensures)
+
+pub run-lot-spec : {M : Type 1} → statement M
+run-lot-spec =
+    tie.close
+    (tie.spec
+    past-requires
+    past-requires-2
+    past-requires-3
+    past-requires-4
+    past-requires-5
+    past-requires-6
+    sub-run-skipping
+    part-run-skipping-start
+    part-run-skipping-end
+    sub-run-skipping-2
+    part-run-skipping-start-2
+    part-run-skipping-end-2
+    sub-run-skipping-3
+    part-run-skipping-start-3
+    part-run-skipping-end-3
+    run-skipping-requires
+    same-length
+    returns)

@@ -1,0 +1,4 @@
+pub mod Grants
+pub mod Places
+pub mod Courses
+pub mod Round
