@@ -1,3 +1,5 @@
+pub mod Alone
 pub mod Courses
 pub mod Cuts
 pub mod Fairness
+pub mod Rounds

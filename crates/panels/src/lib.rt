@@ -213,6 +213,14 @@ pub fn noted(c: Course, n: Needs) -> Course
     }
 }
 
+// The same of a whole panel.
+pub fn panel_noted(c: Course, p: Panel) -> Course
+    ensures { λ r. ⌜ r ≡ noteOf c (p .needs) ⌝ }
+{
+    let needs = p.needs;
+    noted(c, needs)
+}
+
 // All panels are noted: with a number none has a turn.
 pub fn planned(c: Course) -> Course
     ensures { λ r. ⌜ r ≡ planOf c ⌝ }
