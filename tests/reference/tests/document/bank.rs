@@ -512,7 +512,7 @@ fn a_refused_round_leaves_the_last_ones_counts() {
     assert_eq!(bank, after);
 }
 
-/// the sheet judges "every panel's state (that panel's 34) and ROM length (that panel's 21)".
+/// the sheet judges every panel's state, which is that panel's 34, and the length of its ROM, which is that panel's 21.
 #[test]
 fn the_sheet_judges_each_panel() {
     let mut held = State::fresh();
