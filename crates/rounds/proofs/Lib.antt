@@ -1,0 +1,4 @@
+pub mod Rounds
+pub mod Lists
+pub mod Opened
+pub mod Figures
