@@ -8,6 +8,11 @@
        cost stores COUNT ENTRIES USED WHAT
                      makes so many calls on a store of so many entries, of which the first are used, and prints nothing: WHAT is recall, of
                      the last used name, or keep, under that name
+       cost rounds COUNT T HOW
+                     makes so many rounds of T cycles on a bank of sixteen, and prints what it comes to; HOW is bank, by wharfnettle_round, or
+                     calls, by wharfnettle_call on each panel for its sixteenth. Even panels are loads of request R-4 with all their records,
+                     odd ones wait on their timer. tests/reference/examples/bank.rs does the same
+       cost bank     prints the time of a round, in nanoseconds
 
    board/build DIR && gcc -std=c11 -O2 board/cost.c -I DIR -L DIR -lwharfnettle -o DIR/cost && DIR/cost */
 #define _DEFAULT_SOURCE
@@ -19,7 +24,7 @@
 #include <ucontext.h>
 #include "wharfnettle.h"
 
-enum { RECORDS = 4096, SLICE = 100, STACK = 64 * 1024, ALLOWED = 3072, UNUSED = 0xA5, ENTRIES = 200 };
+enum { RECORDS = 4096, SLICE = 100, STACK = 64 * 1024, ALLOWED = 3072, UNUSED = 0xA5, ENTRIES = 200, LARGEST = 1600000 };
 
 /* The first two landings of samples/lobby.panel, in a loop. And a timer of STM 63 that turns port F over when it has run out. */
 static const uint8_t lobby[] = {0x54, 0xC4, 0x85, 0x70, 0x81, 0x50, 0xC9, 0x85, 0x60, 0x55, 0xCD, 0x85, 0x71, 0x81, 0x51, 0xD2, 0x85, 0x61, 0xC0};
@@ -96,6 +101,107 @@ static void begin_store(size_t entries, size_t used)
         kept[14] = (uint8_t)(k % 16); /* Acc */
         keep();
     }
+}
+
+/* The bank: sixteen panels, and their parts end to end. */
+static uint8_t bank[WHARFNETTLE_PANELS * WHARFNETTLE_PANEL], roms[WHARFNETTLE_PANELS * WHARFNETTLE_ROM];
+static uint8_t schedules[WHARFNETTLE_PANELS * WHARFNETTLE_SCHEDULE], logs[WHARFNETTLE_LOG(LARGEST)];
+static uint64_t t;
+
+/* Seeds of R-4 whose loads run ten million cycles. */
+static const uint32_t seeds[] = {0, 1, 2, 3, 4, 5, 6, 7};
+
+/* Request R-4: each byte is the top eight bits of the new s. */
+static uint8_t draw_byte(uint32_t *s)
+{
+    *s = 1664525 * *s + 1013904223;
+    return (uint8_t)(*s >> 24);
+}
+
+static void load(uint32_t seed, uint8_t *to_rom, uint8_t *to_schedule)
+{
+    uint32_t s = seed;
+    uint64_t cycle = 0;
+    for (int k = 0; k < WHARFNETTLE_ROM; k++)
+        to_rom[k] = draw_byte(&s);
+    s = seed;
+    for (int k = 0; k < RECORDS; k++, to_schedule += 10) {
+        cycle += (uint64_t)draw_byte(&s) + 1;
+        for (int b = 0; b < 6; b++)
+            to_schedule[b] = (uint8_t)(cycle >> (40 - 8 * b));
+        to_schedule[6] = draw_byte(&s);
+        to_schedule[7] = draw_byte(&s);
+        to_schedule[8] = draw_byte(&s) & 1;
+        to_schedule[9] = 0;
+    }
+}
+
+static size_t records_of(int panel)
+{
+    return panel % 2 ? 0 : WHARFNETTLE_SCHEDULE;
+}
+
+/* Each panel wishes a sixteenth of T. */
+static void begin_bank(uint64_t cycles)
+{
+    uint8_t *to_schedule = schedules;
+    t = cycles;
+    memset(roms, 0, sizeof roms);
+    for (int k = 0; k < WHARFNETTLE_PANELS; k++) {
+        uint8_t *to_rom = roms + k * WHARFNETTLE_ROM;
+        if (k % 2)
+            memcpy(to_rom, blink, sizeof blink);
+        else
+            load(seeds[k / 2], to_rom, to_schedule);
+        wharfnettle_set(bank + k * WHARFNETTLE_PANEL, t / WHARFNETTLE_PANELS, WHARFNETTLE_ROM, records_of(k),
+                        WHARFNETTLE_LOG(t / WHARFNETTLE_PANELS));
+        to_schedule += records_of(k);
+    }
+}
+
+static void run_round(void)
+{
+    number = wharfnettle_round(bank, sizeof bank, roms, sizeof roms, schedules, sizeof schedules, logs, sizeof logs, t, rom_bytes, rows,
+                               levels);
+}
+
+/* The same by sixteen calls, one after the other. */
+static void run_calls(void)
+{
+    const uint8_t *from_schedule = schedules;
+    size_t room = WHARFNETTLE_LOG(t / WHARFNETTLE_PANELS);
+    for (int k = 0; k < WHARFNETTLE_PANELS; k++) {
+        uint8_t *panel = bank + k * WHARFNETTLE_PANEL;
+        panel[WHARFNETTLE_PANEL - 1] = wharfnettle_call(panel, WHARFNETTLE_IMAGE, roms + k * WHARFNETTLE_ROM, WHARFNETTLE_ROM, from_schedule,
+                                                        records_of(k), logs + k * room, room, t / WHARFNETTLE_PANELS, 1, panel + 114,
+                                                        WHARFNETTLE_REPORT, rom_bytes, rows, levels);
+        from_schedule += records_of(k);
+    }
+    number = 0;
+}
+
+/* The digest of tests/reference. */
+static uint64_t digest(uint64_t h, const uint8_t *bytes, size_t length)
+{
+    while (length--)
+        h = (257 * h + *bytes++ + 1) % 1000000007;
+    return h;
+}
+
+/* So many rounds, and what they come to: the bank, and the log bytes of the last round. */
+static int make_rounds(unsigned long count, uint64_t cycles, void (*function)(void))
+{
+    uint64_t written = 0;
+    if (cycles > LARGEST)
+        return 1;
+    begin_bank(cycles);
+    number = 0;
+    while (count--)
+        function();
+    for (int k = 0; k < WHARFNETTLE_PANELS; k++)
+        written += wharfnettle_count(wharfnettle_report(bank + k * WHARFNETTLE_PANEL), WHARFNETTLE_LOG_BYTES);
+    printf("%d %llu %llu\n", number, (unsigned long long)digest(0, bank, sizeof bank), (unsigned long long)written);
+    return number;
 }
 
 /* The least time of a call over many rounds of about a millisecond, so that other work on the machine counts little. */
@@ -196,6 +302,11 @@ static int print_stack(void)
         deepest = depth > deepest ? depth : deepest;
         deepest = other > deepest ? other : deepest;
     }
+    begin_bank(16000);
+    for (int k = 0; k < 4; k++) {
+        size_t depth = depth_of(run_round);
+        deepest = depth > deepest ? depth : deepest;
+    }
     size_t taken = deepest > base ? deepest - base : 0;
     printf("stack: a call takes %zu bytes, %d are allowed\n", taken, ALLOWED);
     return taken > ALLOWED;
@@ -221,6 +332,19 @@ static int make_stores(unsigned long count, size_t entries, size_t used, void (*
     return number;
 }
 
+static void print_bank(void)
+{
+    static const uint64_t sizes[] = {16000, LARGEST};
+    printf("nanoseconds of a round; and of sixteen calls one after the other\n");
+    printf("cycles for all        round        calls\n");
+    for (size_t k = 0; k < sizeof sizes / sizeof *sizes; k++) {
+        begin_bank(sizes[k]);
+        double of_round = nanoseconds(run_round);
+        begin_bank(sizes[k]);
+        printf("%14llu %12.0f %12.0f\n", (unsigned long long)sizes[k], of_round, nanoseconds(run_calls));
+    }
+}
+
 static void print_stores(void)
 {
     static const size_t sizes[] = {1, 16, ENTRIES};
@@ -238,6 +362,12 @@ int main(int count, char **words)
     if (count == 6 && !strcmp(words[1], "stores"))
         return make_stores(strtoul(words[2], NULL, 10), strtoul(words[3], NULL, 10), strtoul(words[4], NULL, 10),
                            strcmp(words[5], "recall") ? keep : recall);
+    if (count == 5 && !strcmp(words[1], "rounds"))
+        return make_rounds(strtoul(words[2], NULL, 10), strtoull(words[3], NULL, 10), strcmp(words[4], "bank") ? run_calls : run_round);
+    if (count == 2 && !strcmp(words[1], "bank")) {
+        print_bank();
+        return 0;
+    }
     if (count == 2 && !strcmp(words[1], "store")) {
         print_stores();
         return 0;

@@ -12,11 +12,11 @@
 #include "wharfnettle.h"
 
 enum { PAGE = 4096, GUARD = 64, GUARDS = 0xA5, LONGEST = 1 << 16 };
-enum { FRESH = 1, NEW_ROM = 2, NEW_SCHEDULE = 4, NULLS = 8, CONVERT = 16, KEEP = 32, RECALL = 64 };
-enum { IMAGE, ROM, SCHEDULE, LOG, REPORT, STORE, NAME, PARTS };
+enum { FRESH = 1, NEW_ROM = 2, NEW_SCHEDULE = 4, NULLS = 8, CONVERT = 16, KEEP = 32, RECALL = 64, ROUND = 128 };
+enum { IMAGE, ROM, SCHEDULE, LOG, REPORT, STORE, NAME, BANK, PARTS };
 
-static const char *const names[PARTS] = {"image", "ROM", "schedule", "log", "report", "store", "name"};
-static const uint8_t numbers[] = {0, 1, 2, 3, 11, 12, 13, 14, 21, 22, 23, 31, 32, 33, 34, 51, 52, 53, 54, 71};
+static const char *const names[PARTS] = {"image", "ROM", "schedule", "log", "report", "store", "name", "bank"};
+static const uint8_t numbers[] = {0, 1, 2, 3, 11, 12, 13, 14, 21, 22, 23, 31, 32, 33, 34, 51, 52, 53, 54, 61, 62, 63, 71};
 
 /* A part of a call. */
 struct part {
@@ -98,7 +98,7 @@ static void hold(const struct part *part, const char *name)
 static unsigned one_call(void)
 {
     struct part *image = &parts[IMAGE], *rom = &parts[ROM], *schedule = &parts[SCHEDULE], *log = &parts[LOG], *report = &parts[REPORT];
-    struct part *store = &parts[STORE], *key = &parts[NAME];
+    struct part *store = &parts[STORE], *key = &parts[NAME], *bank = &parts[BANK];
     uint64_t flags = get_number();
     for (int k = 0; k < PARTS; k++) {
         parts[k].length = get_number();
@@ -114,6 +114,7 @@ static unsigned one_call(void)
         get(schedule->before, schedule->length);
     get(store->before, store->length);
     get(key->before, key->length);
+    get(bank->before, bank->length);
     get(image->due, image->length);
     get(report->due, report->length);
     for (size_t i = 0; i < report->length; i++)
@@ -123,6 +124,7 @@ static unsigned one_call(void)
     memcpy(log->due, log->before, log->length);
     get(log->due, written);
     get(store->due, store->length);
+    get(bank->due, bank->length);
     memcpy(key->due, key->before, key->length);
     memcpy(rom->due, rom->before, rom->length);
     memcpy(schedule->due, schedule->before, schedule->length);
@@ -143,6 +145,10 @@ static unsigned one_call(void)
     } else if (flags & RECALL) {
         name = "wharfnettle_recall";
         number = wharfnettle_recall(store->bytes, store->length, key->bytes, key->length, image->bytes, image->length, rom_bytes, rows, levels);
+    } else if (flags & ROUND) {
+        name = "wharfnettle_round";
+        number = wharfnettle_round(bank->bytes, bank->length, rom->bytes, rom->length, schedule->bytes, schedule->length, log->bytes,
+                                   log->length, n, rom_bytes, rows, levels);
     } else {
         number = wharfnettle_call(image->bytes, image->length, rom->bytes, rom->length, schedule->bytes, schedule->length, log->bytes,
                                   log->length, n, runner, report->bytes, report->length, rom_bytes, rows, levels);

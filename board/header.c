@@ -14,11 +14,14 @@
 
 static uint8_t image[WHARFNETTLE_IMAGE], again[WHARFNETTLE_IMAGE], old[WHARFNETTLE_OLD_IMAGE];
 static uint8_t records[WHARFNETTLE_LOG(1000)], report[WHARFNETTLE_REPORT], store[2 * WHARFNETTLE_ENTRY];
+static uint8_t bank[2 * WHARFNETTLE_PANEL], roms[2 * WHARFNETTLE_ROM];
 MUST(sizeof records == 16000);
 MUST(WHARFNETTLE_LOG(0) == 0);
 MUST(2 * WHARFNETTLE_LOG(1 + 2) == 96);
 MUST(WHARFNETTLE_IMAGE == WHARFNETTLE_OLD_IMAGE + 1);
 MUST(WHARFNETTLE_ENTRY == WHARFNETTLE_NAME + WHARFNETTLE_IMAGE);
+MUST(WHARFNETTLE_PANEL == WHARFNETTLE_IMAGE + 4 * 8 + WHARFNETTLE_REPORT + 1);
+MUST(WHARFNETTLE_PANELS == 16);
 MUST(sizeof WHARFNETTLE_LOG(1) == sizeof(size_t));
 MUST(WHARFNETTLE_SCHEDULE % 10 == 0);
 static const uint64_t upd546[] = {WHARFNETTLE_UPD546};
@@ -99,5 +102,26 @@ int main(void)
              && !memcmp(again, image, sizeof image), "and recalled");
     hold(wharfnettle_recall(store, sizeof store, name, WHARFNETTLE_NAME - 1, again, sizeof again, WHARFNETTLE_UPD546) == 51,
          "a name has eight bytes");
+    uint8_t *second = bank + WHARFNETTLE_PANEL;
+    memset(bank, 0xA5, sizeof bank);
+    wharfnettle_set(bank, 0x0102030405060708, WHARFNETTLE_ROM, 0, WHARFNETTLE_LOG(1000));
+    wharfnettle_set(second, 7, WHARFNETTLE_ROM, 0, 0);
+    for (int k = 0; k < 8; k++)
+        hold(bank[82 + k] == k + 1, "a wish is big-endian");
+    hold(bank[96] == 7 && bank[97] == 0xD0 && bank[111] == 0 && bank[112] == 0x3E && bank[113] == 0x80, "lengths stand behind the wish");
+    hold(!wharfnettle_count(wharfnettle_report(bank), WHARFNETTLE_STEPS) && !wharfnettle_number(bank), "no round was run");
+    hold(wharfnettle_round(bank, sizeof bank, roms, sizeof roms, NULL, 0, records, sizeof records, 20, WHARFNETTLE_UPD546) == 0, "a round");
+    hold(wharfnettle_count(wharfnettle_report(bank), WHARFNETTLE_CYCLES) == 13
+             && wharfnettle_count(wharfnettle_report(second), WHARFNETTLE_CYCLES) == 7, "has twenty cycles for both panels");
+    wharfnettle_wish(bank, 5);
+    hold(wharfnettle_round(bank, sizeof bank, roms, sizeof roms, NULL, 0, records, sizeof records, 20, WHARFNETTLE_UPD546) == 0
+             && wharfnettle_count(wharfnettle_report(bank), WHARFNETTLE_CYCLES) == 5, "a new wish");
+    second[0] = 'u';
+    hold(wharfnettle_round(bank, sizeof bank, roms, sizeof roms, NULL, 0, records, sizeof records, 20, WHARFNETTLE_UPD546) == 0
+             && wharfnettle_number(bank) == 0 && wharfnettle_number(second) == 32, "each panel has its number");
+    hold(wharfnettle_round(bank, sizeof bank, roms, sizeof roms - 1, NULL, 0, records, sizeof records, 20, WHARFNETTLE_UPD546) == 62,
+         "ROMs that aren't all there");
+    hold(wharfnettle_round(bank, sizeof bank - 1, roms, sizeof roms, NULL, 0, records, sizeof records, 20, WHARFNETTLE_UPD546) == 63,
+         "a torn bank");
     return wrong;
 }

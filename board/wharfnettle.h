@@ -3,7 +3,7 @@
  *
  * A board keeps three things of a panel: its ROM, its line schedule and its image. The image is the panel itself, 82 bytes. Between two
  * calls it may stand in a file, and the building may be switched off: slices end as one unbroken run ends, whichever cycles they are cut
- * at and whichever runner each of them has. example.c makes the calls, keeper.c keeps a panel in files.
+ * at and whichever runner each of them has. example.c makes the calls, keeper.c keeps a panel in files, bank.c runs sixteen landings.
  *
  *     uint8_t image[WHARFNETTLE_IMAGE], log[WHARFNETTLE_LOG(1000)], report[WHARFNETTLE_REPORT];
  *     wharfnettle_fresh(image, sizeof image);
@@ -33,6 +33,8 @@ extern "C" {
 #define WHARFNETTLE_REPORT 32         /* at least, else 1 */
 #define WHARFNETTLE_NAME 8            /* exactly, else 51 */
 #define WHARFNETTLE_ENTRY 90          /* an entry of a store, a name and an image; a store has some of them, else 51 */
+#define WHARFNETTLE_PANEL 147         /* an entry of a bank, a panel with what it needs and what it did; a bank has some of them, else 63 */
+#define WHARFNETTLE_PANELS 16         /* at most, else 61 */
 
 /*
  * The sheet of a chip, three numbers that are given last. It isn't kept in the image: the board knows its chip, and gives the same sheet
@@ -76,6 +78,9 @@ extern "C" {
  *   52       the caller                  the store has no such name
  *   53       the caller                  the store has no unused entry for a new name
  *   54       the caller                  an image of version 1 is wanted while the count of cycles with RES high isn't 0
+ *   61       the caller                  the bank has more than sixteen panels
+ *   62       the caller                  the lengths of a bank's ROMs, schedules or logs together exceed their buffer
+ *   63       the caller                  the bank's length is no multiple of 147
  *   71       whoever wrote the sheet     the sheet is outside its limits: ROM bytes 1 to 2,000, rows 0 to 31, levels 1 to 3
  *
  * A stop (3, 22, 23) leaves the panel before the instruction that wasn't begun. Image, log and report are those of the cycles up to
@@ -189,6 +194,50 @@ uint8_t wharfnettle_recall(const uint8_t *store, size_t store_length,
                            uint8_t *image, size_t image_length,
                            uint64_t rom_bytes, uint64_t rows, uint64_t levels);
 
+/*
+ * Sixteen landings: a bank is a row of up to sixteen panels, and one call runs them all. It is a buffer of the board's, WHARFNETTLE_PANEL
+ * bytes for each panel, in row order:
+ *
+ *     0    the image, 82 bytes
+ *     82   the wish, the machine cycles that the panel would like of a round, 8 bytes, big-endian, as are all numbers here
+ *     90   how many bytes its ROM, its schedule and its log have, 8 bytes each
+ *     114  what the last round did: a report as wharfnettle_call writes it, 32 bytes
+ *     146  the panel's number of the last round, as wharfnettle_call answers it
+ *
+ * Three buffers hold the ROMs, the schedules and the logs of all panels, end to end in row order: a panel's part begins where the part of
+ * the one before it ends. wharfnettle_set writes an entry of a panel that was never run; the functions below it read one.
+ *
+ *     static uint8_t bank[16 * WHARFNETTLE_PANEL];
+ *     for (int k = 0; k < 16; k++)
+ *         wharfnettle_set(bank + k * WHARFNETTLE_PANEL, 1000, WHARFNETTLE_ROM, schedule_length[k], WHARFNETTLE_LOG(1000));
+ *     number = wharfnettle_round(bank, sizeof bank, roms, sizeof roms, schedules, sizeof schedules, logs, sizeof logs,
+ *                                16000, WHARFNETTLE_UPD546);
+ *
+ * bank       read, and written where 0 is answered: of each panel the image, unless it is refused, the report and the number. Wish and
+ *            lengths stay
+ * roms       read
+ * schedules  read
+ * logs       written where 0 is answered: each panel's records from the first byte of its part on; all other bytes stay
+ * t          how many machine cycles the round has for all panels together; 0 is allowed
+ * rom_bytes, rows, levels   the sheet, one for all panels
+ *
+ * Of m panels each is first granted the smaller of its wish and t / m, rounded down. What is left goes to wishes that aren't met, in row
+ * order. So no panel gets more than it wishes, none less than its share of t unless it wishes less, and t is used up or every wish is met.
+ * Each panel is then run for its grant as by wharfnettle_call with runner 1. A panel that stops or is refused holds nobody up; what it
+ * doesn't use of its grant nobody gets. A log of WHARFNETTLE_LOG(wish) bytes is never too short.
+ *
+ * Answers 0, whatever the panels' own numbers are; or, in this order, 71; 61 where there are more than sixteen panels; 62 where the lengths
+ * of the ROMs, of the schedules or of the logs together exceed their buffer; 63 where the bank's length is no multiple of
+ * WHARFNETTLE_PANEL. Then nothing is written. bank and logs overlap neither each other nor the other parts, and what holds of
+ * wharfnettle_call's pointers holds of these. A bank may stand in a file between two rounds, as an image may between two calls.
+ */
+uint8_t wharfnettle_round(uint8_t *bank, size_t bank_length,
+                          const uint8_t *roms, size_t roms_length,
+                          const uint8_t *schedules, size_t schedules_length,
+                          uint8_t *logs, size_t logs_length,
+                          uint64_t t,
+                          uint64_t rom_bytes, uint64_t rows, uint64_t levels);
+
 /* The counts of a report. */
 enum wharfnettle_count {
     WHARFNETTLE_CYCLES,
@@ -203,6 +252,34 @@ static inline uint64_t wharfnettle_count(const uint8_t *report, enum wharfnettle
     for (int k = 0; k < 8; k++)
         count = count << 8 | report[8 * (int)which + k];
     return count;
+}
+
+/* A panel's report and number of the last round. */
+static inline const uint8_t *wharfnettle_report(const uint8_t *panel)
+{
+    return panel + 114;
+}
+
+static inline uint8_t wharfnettle_number(const uint8_t *panel)
+{
+    return panel[146];
+}
+
+/* A new wish; the rest of the entry stays. */
+static inline void wharfnettle_wish(uint8_t *panel, uint64_t wish)
+{
+    for (int k = 0; k < 8; k++)
+        panel[82 + k] = (uint8_t)(wish >> (56 - 8 * k));
+}
+
+/* The entry of a panel that was never run, with its wish and the bytes of its ROM, its schedule and its log. */
+static inline void wharfnettle_set(uint8_t *panel, uint64_t wish, uint64_t rom, uint64_t schedule, uint64_t log)
+{
+    const uint64_t numbers[] = {wish, rom, schedule, log, 0, 0, 0, 0};
+    wharfnettle_fresh(panel, WHARFNETTLE_IMAGE);
+    for (int k = 0; k < 64; k++)
+        panel[82 + k] = (uint8_t)(numbers[k / 8] >> (56 - 8 * (k % 8)));
+    panel[146] = 0;
 }
 
 #ifdef __cplusplus

@@ -27,7 +27,12 @@ pub const ROM: usize = 2_000;
 pub const NAME: usize = 8;
 /// The bytes of an entry of a store: a name, then an image.
 pub const ENTRY: usize = NAME + IMAGE;
+/// The bytes of a panel in a bank: an image, what the panel needs, and what the last round did.
+pub const PANEL: usize = IMAGE + 4 * 8 + REPORT + 1;
+/// The most panels of a bank.
+pub const PANELS: usize = 16;
 const REPORT: usize = 32;
+const REPORT_AT: usize = PANEL - 1 - REPORT;
 
 /// An image: the panel as bytes, to be kept while the building is switched off.
 pub type Image = [u8; IMAGE];
@@ -113,6 +118,19 @@ pub struct Answer {
     pub counts: Counts,
 }
 
+/// What a panel of a bank needs: the machine cycles that it would like of a round, and how many bytes its ROM, schedule and log have.
+#[derive(Clone, Copy, PartialEq, Eq, Debug)]
+pub struct Needs {
+    /// Machine cycles.
+    pub wish: u64,
+    /// Bytes of its ROM.
+    pub rom: u64,
+    /// Bytes of its schedule.
+    pub schedule: u64,
+    /// Bytes of its log; with [`log_bytes`] of its wish it never stops with 3.
+    pub log: u64,
+}
+
 mod c {
     extern "C" {
         pub fn wharfnettle_call(
@@ -165,6 +183,20 @@ mod c {
             rows: u64,
             levels: u64,
         ) -> u8;
+        pub fn wharfnettle_round(
+            bank: *mut u8,
+            bank_length: usize,
+            roms: *const u8,
+            roms_length: usize,
+            schedules: *const u8,
+            schedules_length: usize,
+            logs: *mut u8,
+            logs_length: usize,
+            t: u64,
+            rom_bytes: u64,
+            rows: u64,
+            levels: u64,
+        ) -> u8;
     }
 }
 
@@ -202,6 +234,11 @@ pub fn call(
             sheet.levels,
         )
     };
+    answer(number, &report)
+}
+
+/// What a number and a report say.
+fn answer(number: u8, report: &[u8]) -> Answer {
     let end = match number {
         0 => End::Finished,
         3 | 22 | 23 => End::Stopped(number),
@@ -301,6 +338,54 @@ pub fn recall(store: &[u8], name: &[u8], sheet: Sheet) -> Result<Image, u8> {
         )
     };
     done(number).map(|()| image)
+}
+
+/// A panel of a bank that has had no round yet.
+pub fn panel(image: &Image, needs: Needs) -> [u8; PANEL] {
+    let mut panel = [0; PANEL];
+    panel[..IMAGE].copy_from_slice(image);
+    let numbers = [needs.wish, needs.rom, needs.schedule, needs.log];
+    for (place, number) in panel[IMAGE..REPORT_AT].chunks_exact_mut(8).zip(numbers) {
+        place.copy_from_slice(&number.to_be_bytes());
+    }
+    panel
+}
+
+/// What a panel of a bank did in the last round.
+pub fn last_round(panel: &[u8; PANEL]) -> Answer {
+    answer(panel[PANEL - 1], &panel[REPORT_AT..PANEL - 1])
+}
+
+/// Runs all panels of a bank, which share t machine cycles; ROMs, schedules and logs stand end to end in the bank's order. A bank is up to
+/// [`PANELS`] entries of [`PANEL`] bytes. Slices of any length and content may be given: what is wrong with them is answered, 71, 61, 62 or
+/// 63, and then nothing is changed. What is wrong with one panel is that panel's own, and [`last_round`] tells it.
+pub fn round(
+    bank: &mut [u8],
+    roms: &[u8],
+    schedules: &[u8],
+    logs: &mut [u8],
+    t: u64,
+    sheet: Sheet,
+) -> Result<(), u8> {
+    // SAFETY: each pointer leads to as many bytes as the length behind it says. `bank` and `logs` are borrowed
+    // to be written, so they overlap nothing and nobody else uses them.
+    let number = unsafe {
+        c::wharfnettle_round(
+            bank.as_mut_ptr(),
+            bank.len(),
+            roms.as_ptr(),
+            roms.len(),
+            schedules.as_ptr(),
+            schedules.len(),
+            logs.as_mut_ptr(),
+            logs.len(),
+            t,
+            sheet.rom_bytes,
+            sheet.rows,
+            sheet.levels,
+        )
+    };
+    done(number)
 }
 
 fn done(number: u8) -> Result<(), u8> {

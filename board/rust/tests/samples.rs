@@ -5,8 +5,8 @@ use std::fs;
 use std::path::{Path, PathBuf};
 
 use wharfnettle::{
-    back, call, forward, fresh_image, log_bytes, recall, store, Answer, Counts, End, Image, Runner,
-    Sheet, ENTRY, NAME, ROM,
+    back, call, forward, fresh_image, last_round, log_bytes, recall, round, store, Answer, Counts,
+    End, Image, Needs, Runner, Sheet, ENTRY, NAME, PANEL, ROM,
 };
 
 const UPD546: Sheet = Sheet::UPD546;
@@ -411,4 +411,84 @@ fn a_store_that_is_refused_is_left() {
     assert_eq!(recall(&sound, b"fresh   ", HALF), Err(51));
     assert_eq!(refused(&[0; ENTRY], b"held    ", &held, HALF), 51);
     assert_eq!(recall(&sound, b"held    ", UPD546), Ok(held));
+}
+
+/// The samples as a bank: each panel ends as its own call does, however many rounds there are.
+#[test]
+fn a_bank_is_its_panels_calls() {
+    let names = ["lobby", "lamp", "reset", "keys"];
+    let panels: Vec<Panel> = names.into_iter().map(panel).collect();
+    for rounds in [1, 2, 7] {
+        let needs = |panel: &Panel| Needs {
+            wish: panel.n.div_ceil(rounds),
+            rom: panel.rom.len() as u64,
+            schedule: panel.schedule.len() as u64,
+            log: log_bytes(panel.n.div_ceil(rounds) as usize) as u64,
+        };
+        let entry = |each: &Panel| wharfnettle::panel(&fresh_image(), needs(each));
+        let mut bank: Vec<u8> = panels.iter().flat_map(entry).collect();
+        let roms: Vec<u8> = panels.iter().flat_map(|panel| panel.rom.clone()).collect();
+        let schedules: Vec<u8> = panels.iter().flat_map(|p| p.schedule.clone()).collect();
+        let mut joined = vec![Vec::new(); panels.len()];
+        for _ in 0..rounds {
+            let mut logs = vec![0; panels.iter().map(|panel| needs(panel).log as usize).sum()];
+            round(&mut bank, &roms, &schedules, &mut logs, u64::MAX, UPD546).unwrap();
+            let mut at = 0;
+            for (place, each) in panels.iter().enumerate() {
+                let entry = bank[place * PANEL..][..PANEL].try_into().unwrap();
+                let written = last_round(entry).counts.log_bytes as usize;
+                joined[place].extend_from_slice(&logs[at..at + written]);
+                at += needs(each).log as usize;
+            }
+        }
+        for (place, each) in panels.iter().enumerate() {
+            let n = needs(each).wish * rounds;
+            let (answer, image, log) = Panel {
+                n,
+                ..panel(names[place])
+            }
+            .whole(Runner::Plain);
+            let entry: &[u8; PANEL] = bank[place * PANEL..][..PANEL].try_into().unwrap();
+            assert_eq!(last_round(entry).end, answer.end, "{}", names[place]);
+            assert_eq!((&entry[..82], &joined[place]), (&image[..], &log));
+        }
+    }
+}
+
+#[test]
+fn a_bank_that_is_refused_is_left() {
+    let needs = Needs {
+        wish: 10,
+        rom: 2_000,
+        schedule: 0,
+        log: 0,
+    };
+    let bank = wharfnettle::panel(&fresh_image(), needs).repeat(17);
+    let roms = vec![0; 16 * ROM];
+    let refused = |length: usize, roms: &[u8], sheet: Sheet| {
+        let mut after = bank[..length].to_vec();
+        let number = round(&mut after, roms, &[], &mut [], 160, sheet).unwrap_err();
+        assert_eq!(after, bank[..length]);
+        number
+    };
+    let bad = Sheet {
+        levels: 4,
+        ..UPD546
+    };
+    assert_eq!(refused(17 * PANEL, &roms, bad), 71);
+    assert_eq!(refused(17 * PANEL, &[], UPD546), 61);
+    assert_eq!(refused(16 * PANEL, &roms[1..], UPD546), 62);
+    assert_eq!(refused(16 * PANEL - 1, &roms[1..15 * ROM], UPD546), 62);
+    assert_eq!(refused(16 * PANEL - 1, &roms, UPD546), 63);
+    let mut none = [];
+    assert_eq!(round(&mut none, &[], &[], &mut [], 160, UPD546), Ok(()));
+    // One damaged image is that panel's refusal alone.
+    let mut bank = bank[..3 * PANEL].to_vec();
+    bank[PANEL] = b'u';
+    round(&mut bank, &roms, &[], &mut [], 160, UPD546).unwrap();
+    let ends: Vec<End> = bank
+        .chunks(PANEL)
+        .map(|entry| last_round(entry.try_into().unwrap()).end)
+        .collect();
+    assert_eq!(ends, [End::Finished, End::Refused(32), End::Finished]);
 }

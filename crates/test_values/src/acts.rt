@@ -1,13 +1,12 @@
 // The calls that are made with the state under the sheet: runs on a part of the log, saves to a buffer, restores of its bytes. The state
 // that a run or a restore answers is the next one's.
 use crate::answers;
-use crate::values;
-use crate::values::LENGTH;
-use crate::values::SHEET;
 use driver::KeptMachine;
 use driver::Runner;
 use runs::MachineCycles;
 use runs::Version;
+use test_states::LENGTH;
+use test_states::SHEET;
 use test_stream::Command;
 use test_stream::LIST;
 use test_stream::Session;
@@ -30,7 +29,7 @@ pub(crate) fn one(
 ) -> Session {
     let letter = c.letter;
     let size = c.length as usize;
-    let under = values::sheet_of(sheet);
+    let under = test_states::sheet_of(sheet);
     match letter {
         b'A' => run(c, s, rom, schedule, value, log, under),
         b'W' => save(c, s, value, image, under),
@@ -115,7 +114,7 @@ fn driven(
     log: &mut [u8],
     sheet: Sheet,
 ) -> Session {
-    let state = values::state_of(value);
+    let state = test_states::state_of(value);
     let answer = driver::advance_from(
         KeptMachine { state },
         kind(c.runner),
@@ -128,7 +127,7 @@ fn driven(
     );
     let after = answer.machine.state;
     let report = answer.report;
-    values::put(value, after);
+    test_states::put(value, after);
     answers::run_answered(c, s, report, before, value, log)
 }
 
@@ -156,7 +155,7 @@ fn save(c: Command, s: Session, value: &[u8], image: &mut [u8], sheet: Sheet) ->
 
 fn saved(c: Command, s: Session, value: &[u8], buffer: &mut [u8], sheet: Sheet) -> Session {
     test_stream::fill(buffer);
-    let state = values::state_of(value);
+    let state = test_states::state_of(value);
     let outcome = save::save(state, version(c.place), buffer, sheet);
     test_stream::buffer_answered(c, s, runs::outcome_number(outcome), buffer)
 }
@@ -169,7 +168,7 @@ fn restore(c: Command, s: Session, value: &mut [u8], image: &[u8], sheet: Sheet)
 
 fn keep(value: &mut [u8], state: State, kept: bool) {
     if kept {
-        values::put(value, state);
+        test_states::put(value, state);
     }
 }
 
@@ -178,8 +177,8 @@ fn restored(c: Command, s: Session, answer: RestoreAnswer, value: &mut [u8]) -> 
     let outcome = answer.outcome;
     let state = answer.state;
     let number = runs::outcome_number(outcome);
-    let fresh = values::digest_of(0, state) == values::digest_of(0, upd546::fresh_state());
-    let h = values::digest_of(test_stream::mixed(s.digest, number as u64), state);
+    let fresh = test_states::digest_of(0, state) == test_states::digest_of(0, upd546::fresh_state());
+    let h = test_states::digest_of(test_stream::mixed(s.digest, number as u64), state);
     keep(value, state, (c.value != LIST) | (number == 0));
     answers::restore_answered(c, s, number, h, fresh)
 }

@@ -6,10 +6,9 @@
 // them. It may not know how a run, a save or a restore goes.
 mod acts;
 mod answers;
-mod values;
 
-use crate::values::LENGTH;
-use crate::values::SHEET;
+use test_states::LENGTH;
+use test_states::SHEET;
 use test_stream::Command;
 use test_stream::Session;
 use test_stream::bytes;

@@ -18,6 +18,12 @@ pub const NAME_UNKNOWN: u8 = 52;
 pub const STORE_FULL: u8 = 53;
 /// Refusal: a version 1 image wanted while the count isn't 0 (request R-8).
 pub const COUNT_LOST: u8 = 54;
+/// Refusal: more than sixteen panels (request R-9).
+pub const MANY_PANELS: u8 = 61;
+/// Refusal: the lengths of a kind together exceed their buffer.
+pub const BUFFER_LENGTHS: u8 = 62;
+/// Refusal: the bytes of a bank are no multiple of an entry's.
+pub const BANK_LENGTH: u8 = 63;
 
 // Whoever wrote the schedule.
 /// Refusal: length no multiple of 10.

@@ -1,5 +1,6 @@
-//! What document 01 says, and where they change it, and R-7, executed.
+//! What document 01 says, and where they change it, and, executed.
 
+mod bank;
 mod bench_cases;
 mod common;
 mod image;

@@ -1,7 +1,8 @@
 //! How the calls are drawn. A panel has a sheet, in one of two cases the uPD546's, and gets some dozens of calls, one after the other
-//! on its image; some keep the image in the panel's store, or recall one from it. Most are sound, and some have a part that is damaged, or
+//! on its image; some keep the image in the panel's store, or recall one from it, and some run a bank. Most are sound, and some have a part that is damaged, or
 //! another sheet.
 
+use reference::bank::{grants, ENTRY as PANEL, MOST};
 use reference::call::{convert, fresh};
 use reference::case::{reset_record, Case, FEW_JCP, FEW_JUMPS, INSIDE, NO_STOPS};
 use reference::draw::Draw;
@@ -21,10 +22,11 @@ pub enum Function {
     Convert,
     Store,
     Recall,
+    Round,
 }
 
 /// All that a call is given. A conversion takes the image to the report's bytes, and n is its version. Store and name are empty where
-/// the function has none.
+/// the function has none, and so is the bank. A round has the ROMs, schedules and logs of all its panels, and n is its T.
 #[derive(Clone)]
 pub struct Drawn {
     pub function: Function,
@@ -40,6 +42,7 @@ pub struct Drawn {
     pub fill: u8,
     pub store: Vec<u8>,
     pub name: Vec<u8>,
+    pub bank: Vec<u8>,
     pub sheet: Sheet,
 }
 
@@ -50,8 +53,18 @@ pub struct Calls {
     rom: Vec<u8>,
     schedule: Vec<u8>,
     store: Vec<u8>,
+    bank: Bank,
     sheet: Sheet,
     left: u64,
+}
+
+/// The entries of a bank, the ROMs and schedules of its panels, and how long their logs are.
+#[derive(Clone, Default)]
+struct Bank {
+    entries: Vec<u8>,
+    roms: Vec<u8>,
+    schedules: Vec<u8>,
+    logs: usize,
 }
 
 impl Calls {
@@ -62,6 +75,7 @@ impl Calls {
             rom: Vec::new(),
             schedule: Vec::new(),
             store: Vec::new(),
+            bank: Bank::default(),
             sheet: Sheet::UPD546,
             left: 0,
         }
@@ -79,6 +93,7 @@ impl Calls {
                 1..=4 => Function::Convert,
                 5..=10 => Function::Store,
                 11..=15 => Function::Recall,
+                16 => Function::Round,
                 _ => Function::Call,
             },
             null: draw.one_in(2),
@@ -92,8 +107,16 @@ impl Calls {
             fill: draw.byte(),
             store: Vec::new(),
             name: Vec::new(),
+            bank: Vec::new(),
             sheet: self.sheet,
         };
+        if drawn.function == Function::Round {
+            if draw.one_in(2) {
+                self.bank = bank(draw, self.sheet, &self.image);
+            }
+            round(draw, &mut drawn, &self.bank);
+            return drawn;
+        }
         if drawn.function == Function::Fresh {
             drawn.image = bytes(draw, 2 * IMAGE as u64 / 3 + 60);
         }
@@ -126,11 +149,21 @@ impl Calls {
     }
 
     /// What a call answered: the panel goes on from its image, also from one that was changed and is
-    /// still a panel's, or that was recalled; and with its store.
-    pub fn answered(&mut self, drawn: &Drawn, number: u8, mut image: Vec<u8>, store: Vec<u8>) {
+    /// still a panel's, or that was recalled; and with its store and its bank.
+    pub fn answered(
+        &mut self,
+        drawn: &Drawn,
+        number: u8,
+        mut image: Vec<u8>,
+        store: Vec<u8>,
+        bank: Vec<u8>,
+    ) {
         match drawn.function {
             Function::Call if matches!(number, 0 | 3 | 22 | 23) => self.image = image,
             Function::Store if number == 0 => self.store = store,
+            Function::Round if number == 0 && bank.len() == self.bank.entries.len() => {
+                self.bank.entries = bank;
+            }
             Function::Recall if number == 0 => {
                 image.truncate(IMAGE);
                 self.image = image;
@@ -335,6 +368,119 @@ fn damage_store(draw: &mut Draw, store: &mut Vec<u8>) {
 fn damage_part(draw: &mut Draw, image: &mut [u8]) {
     for _ in 0..1 + draw.below(3) {
         image[draw.below(IMAGE as u64) as usize] ^= 1 << draw.below(8);
+    }
+}
+
+/// A grant up to which a run returns soon.
+const SOON: u64 = 3_000;
+
+/// A bank of 0 to 17 panels: of the image that there is, fresh ones and any, some of them damaged; with ROMs and schedules that are sound,
+/// cut short or of no bytes.
+fn bank(draw: &mut Draw, sheet: Sheet, image: &[u8]) -> Bank {
+    let panels = match draw.below(8) {
+        0 => MOST + 1,
+        1 | 2 => MOST,
+        _ => draw.below(MOST as u64) as usize,
+    };
+    let mut bank = Bank::default();
+    let roms: Vec<Vec<u8>> = (0..3).map(|_| rom(draw, sheet)).collect();
+    for _ in 0..panels {
+        let mut image = match draw.below(3) {
+            0 if image.len() == IMAGE => image.to_vec(),
+            1 => {
+                let mut state = draw.counted_state();
+                state.pc %= sheet.rom as u16;
+                state.cycle = draw.of(&[0, 100, LAST_CYCLE - 20]);
+                let mut image = vec![0; IMAGE];
+                save(
+                    Version::Two,
+                    &sheet.fitted(&state),
+                    &mut image,
+                    Sheet::UPD546,
+                );
+                image
+            }
+            _ => {
+                let mut image = vec![0; IMAGE];
+                fresh(&mut image);
+                image
+            }
+        };
+        if draw.one_in(6) {
+            damage_image(draw, &mut image);
+            image.resize(IMAGE, 0);
+        }
+        let mut rom = roms[draw.below(3) as usize].clone();
+        let mut lines = schedule(draw, cycle_of(&image));
+        // As many as fit beside the others.
+        lines.truncate(2_000);
+        match draw.below(12) {
+            0 => rom.clear(),
+            1 => damage_rom(draw, &mut rom),
+            2 | 3 => damage_schedule(draw, &mut lines),
+            4 => rom[draw.below(4.min(sheet.rom)) as usize] = 0x1C,
+            _ => {}
+        }
+        rom.truncate(2_048);
+        lines.truncate(2_100);
+        let log = draw.of(&[0, 7, 8, 40, 400, 1_600]);
+        let wish = match draw.below(6) {
+            0 => 0,
+            1 => u64::MAX,
+            2 => (1 << 48) + draw.below(9),
+            3 => draw.below(2_000),
+            _ => draw.below(100),
+        };
+        bank.entries.extend(&image);
+        for number in [wish, rom.len() as u64, lines.len() as u64, log as u64] {
+            bank.entries.extend(number.to_be_bytes());
+        }
+        bank.entries.extend((0..33).map(|_| draw.byte()));
+        bank.roms.extend(rom);
+        bank.schedules.extend(lines);
+        bank.logs += log;
+    }
+    bank
+}
+
+/// A round of a bank, mostly a sound one. Each grant is small, or so large that the run is refused at once.
+fn round(draw: &mut Draw, drawn: &mut Drawn, bank: &Bank) {
+    drawn.bank = bank.entries.clone();
+    drawn.rom = bank.roms.clone();
+    drawn.schedule = bank.schedules.clone();
+    drawn.log = bank.logs;
+    let entries = bank.entries.len() / PANEL;
+    drawn.n = match draw.below(8) {
+        0 => 0,
+        1 => 1,
+        2 => (entries as u64).saturating_sub(1),
+        3 | 4 => u64::MAX - draw.below(2),
+        _ => draw.below(SOON),
+    };
+    match draw.below(12) {
+        // A length of a kind, as long as 64 bits may say.
+        0 if entries > 0 => {
+            let at = PANEL * draw.below(entries as u64) as usize + 90 + 8 * draw.below(3) as usize;
+            let length = draw.of(&[u64::MAX, 1 << 63, 1 << 32, 3_000]);
+            drawn.bank[at..at + 8].copy_from_slice(&length.to_be_bytes());
+        }
+        1 => drop(drawn.rom.pop()),
+        2 => drop(drawn.schedule.pop()),
+        3 => drawn.log = drawn.log.saturating_sub(1),
+        4 => drawn.log += draw.below(50) as usize,
+        5 => {
+            let cut = 1 + draw.below(PANEL as u64 - 1) as usize;
+            drawn.bank.truncate(drawn.bank.len().saturating_sub(cut));
+        }
+        6 => drawn.bank.extend(bytes(draw, PANEL as u64)),
+        7 => drawn.sheet = other_sheet(draw, drawn.sheet),
+        _ => {}
+    }
+    let wish = |entry: &[u8]| entry[82..90].iter().fold(0, |n, &b| n << 8 | u64::from(b));
+    let wishes: Vec<u64> = drawn.bank.chunks_exact(PANEL).map(wish).collect();
+    let soon = |&grant: &u64| grant <= SOON || grant > LAST_CYCLE;
+    if !grants(drawn.n, &wishes).iter().all(soon) {
+        drawn.n = draw.below(SOON);
     }
 }
 

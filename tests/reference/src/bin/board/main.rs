@@ -7,21 +7,22 @@
 //! # The stream
 //!
 //! Numbers have 8 bytes, big-endian. First the seed and how many calls there are; then the calls.
-//! A call is 16 numbers and bytes:
+//! A call is 17 numbers and bytes:
 //!
 //! | number | what |
 //! |---|---|
-//! | 0 | 1 for `wharfnettle_fresh`, 16 for `wharfnettle_convert`, 32 for `wharfnettle_store`, 64 for `wharfnettle_recall`, else 0; plus 2 where a ROM follows, 4 where a schedule follows, 8 where a part of length 0 has a null pointer |
-//! | 1 to 7 | lengths of image, ROM, schedule, log, report, store and name |
-//! | 8, 9 | n, runner |
-//! | 10 | f: before the call, byte i of log and report is (7 i + f) modulo 256 |
-//! | 11 | the number due |
-//! | 12 | w: the log's bytes from w on are due as they were |
-//! | 13 to 15 | the sheet: ROM bytes, rows, levels |
+//! | 0 | 1 for `wharfnettle_fresh`, 16 for `wharfnettle_convert`, 32 for `wharfnettle_store`, 64 for `wharfnettle_recall`, 128 for `wharfnettle_round`, else 0; plus 2 where a ROM follows, 4 where a schedule follows, 8 where a part of length 0 has a null pointer |
+//! | 1 to 8 | lengths of image, ROM, schedule, log, report, store, name and bank |
+//! | 9, 10 | n, runner |
+//! | 11 | f: before the call, byte i of log and report is (7 i + f) modulo 256 |
+//! | 12 | the number due |
+//! | 13 | w: the log's bytes from w on are due as they were |
+//! | 14 to 16 | the sheet: ROM bytes, rows, levels |
 //!
 //! The bytes are the image given; the ROM and the schedule, where they follow, else they are those of
-//! the call before; the store and the name; then what is due: the image, the report, the first w bytes of the log,
-//! the store. A conversion takes the image to the bytes of the report, and n is the version.
+//! the call before; the store, the name and the bank; then what is due: the image, the report, the first w bytes of
+//! the log, the store, the bank. A conversion takes the image to the bytes of the report, and n is the version. A round has
+//! n cycles for all, and ROM, schedule and log are those of all its panels.
 
 mod drawn;
 
@@ -30,6 +31,7 @@ use std::io::{self, BufWriter, Write};
 use std::process::ExitCode;
 
 use drawn::{Calls, Drawn, Function};
+use reference::bank::round_bytes;
 use reference::call::{call, convert, fresh};
 use reference::lent::Lent;
 use reference::store::{recall_to, store};
@@ -44,6 +46,7 @@ struct Due {
     log: Vec<u8>,
     report: Vec<u8>,
     store: Vec<u8>,
+    bank: Vec<u8>,
 }
 
 fn filled(length: usize, fill: u8) -> Vec<u8> {
@@ -58,11 +61,20 @@ fn due(drawn: &Drawn) -> Due {
     let mut log = filled(drawn.log, drawn.fill);
     let mut report = filled(drawn.report, drawn.fill);
     let mut lent = drawn.store.clone();
+    let mut bank = drawn.bank.clone();
     let number = match drawn.function {
         Function::Fresh => fresh(&mut image),
         Function::Convert => convert(&image, &mut report, drawn.n, drawn.sheet),
         Function::Store => store(&mut lent, &drawn.name, &image, drawn.sheet),
         Function::Recall => recall_to(&lent, &drawn.name, &mut image, drawn.sheet),
+        Function::Round => round_bytes(
+            &mut bank,
+            &drawn.rom,
+            &drawn.schedule,
+            &mut log,
+            drawn.n,
+            drawn.sheet,
+        ),
         Function::Call => call(
             &mut image,
             &drawn.rom,
@@ -80,6 +92,7 @@ fn due(drawn: &Drawn) -> Due {
         log,
         report,
         store: lent,
+        bank,
     }
 }
 
@@ -109,7 +122,8 @@ fn write_calls(count: u64, seed: u64, out: &mut impl Write) -> io::Result<()> {
                     | u64::from(drawn.null) << 3
                     | u64::from(drawn.function == Function::Convert) << 4
                     | u64::from(drawn.function == Function::Store) << 5
-                    | u64::from(drawn.function == Function::Recall) << 6,
+                    | u64::from(drawn.function == Function::Recall) << 6
+                    | u64::from(drawn.function == Function::Round) << 7,
                 drawn.image.len() as u64,
                 drawn.rom.len() as u64,
                 drawn.schedule.len() as u64,
@@ -117,6 +131,7 @@ fn write_calls(count: u64, seed: u64, out: &mut impl Write) -> io::Result<()> {
                 drawn.report as u64,
                 drawn.store.len() as u64,
                 drawn.name.len() as u64,
+                drawn.bank.len() as u64,
                 drawn.n,
                 drawn.runner,
                 u64::from(drawn.fill),
@@ -136,11 +151,13 @@ fn write_calls(count: u64, seed: u64, out: &mut impl Write) -> io::Result<()> {
         }
         out.write_all(&drawn.store)?;
         out.write_all(&drawn.name)?;
+        out.write_all(&drawn.bank)?;
         out.write_all(&due.image)?;
         out.write_all(&due.report)?;
         out.write_all(&due.log[..written])?;
         out.write_all(&due.store)?;
-        calls.answered(&drawn, due.number, due.image, due.store);
+        out.write_all(&due.bank)?;
+        calls.answered(&drawn, due.number, due.image, due.store, due.bank);
         (rom, schedule) = (drawn.rom, drawn.schedule);
     }
     out.flush()
@@ -158,7 +175,7 @@ fn told(seed: u64, place: u64) -> String {
     for _ in 0..place {
         let drawn = calls.next();
         let due = due(&drawn);
-        calls.answered(&drawn, due.number, due.image, due.store);
+        calls.answered(&drawn, due.number, due.image, due.store, due.bank);
     }
     let drawn = calls.next();
     let due = due(&drawn);
@@ -167,13 +184,15 @@ fn told(seed: u64, place: u64) -> String {
         Function::Convert => "wharfnettle_convert of the image to the report",
         Function::Store => "wharfnettle_store",
         Function::Recall => "wharfnettle_recall",
+        Function::Round => "wharfnettle_round, with n cycles for all",
         Function::Call => "wharfnettle_call",
     };
     let mut text = format!(
         "call {place} of seed {seed}: {name}, the number due is {}\n\
-         lengths: image {}, ROM {}, schedule {}, log {}, report {}, store {}; n {}, runner {}\n\
+         lengths: image {}, ROM {}, schedule {}, log {}, report {}, store {}, bank {}; n {}, runner {}\n\
          {:?}\n\
-         image given {}\nimage due   {}\nreport due  {}\nname {}\nstore given {}\nstore due   {}\n",
+         image given {}\nimage due   {}\nreport due  {}\nname {}\nstore given {}\nstore due   {}\n\
+         bank given {}\nbank due   {}\n",
         due.number,
         drawn.image.len(),
         drawn.rom.len(),
@@ -181,6 +200,7 @@ fn told(seed: u64, place: u64) -> String {
         drawn.log,
         drawn.report,
         drawn.store.len(),
+        drawn.bank.len(),
         drawn.n,
         drawn.runner,
         drawn.sheet,
@@ -190,6 +210,8 @@ fn told(seed: u64, place: u64) -> String {
         hex(&drawn.name),
         hex(&drawn.store),
         hex(&due.store),
+        hex(&drawn.bank),
+        hex(&due.bank),
     );
     let (number, state) = restore(&drawn.image, drawn.sheet);
     if drawn.function == Function::Call && number == 0 {
@@ -254,10 +276,10 @@ mod tests {
             let drawn = calls.next();
             let due = due(&drawn);
             ended[usize::from(due.number)] += 1;
-            calls.answered(&drawn, due.number, due.image, due.store);
+            calls.answered(&drawn, due.number, due.image, due.store, due.bank);
         }
         for number in [
-            0, 1, 2, 3, 11, 12, 13, 14, 21, 22, 23, 31, 32, 33, 34, 51, 52, 53, 54, 71,
+            0, 1, 2, 3, 11, 12, 13, 14, 21, 22, 23, 31, 32, 33, 34, 51, 52, 53, 54, 61, 62, 63, 71,
         ] {
             assert!(ended[number] >= 20, "{number}: {}", ended[number]);
         }
@@ -290,7 +312,7 @@ mod tests {
                 wrong[1] += usize::from(there > 31);
                 wrong[2] += usize::from(!(1..=3).contains(&levels));
             }
-            calls.answered(&drawn, due.number, due.image, due.store);
+            calls.answered(&drawn, due.number, due.image, due.store, due.bank);
         }
         assert!(
             finished[1..].iter().all(|&count| count > 300),
@@ -329,7 +351,7 @@ mod tests {
                 Function::Recall => recalled[number] += 1,
                 _ => {}
             }
-            calls.answered(&drawn, due.number, due.image, due.store);
+            calls.answered(&drawn, due.number, due.image, due.store, due.bank);
         }
         for number in [0, 51, 53, 71] {
             assert!(stored[number] >= 20, "{number}: {}", stored[number]);
@@ -338,6 +360,40 @@ mod tests {
             assert!(recalled[number] >= 20, "{number}: {}", recalled[number]);
         }
         assert!(replaced > 100 && deepest > 2, "{replaced} {deepest}");
+    }
+
+    /// Rounds are refused by each of their numbers; of those that aren't, panels end with every number, at every place of a row, and
+    /// banks have every length.
+    #[test]
+    fn every_kind_of_round_is_drawn() {
+        let mut calls = Calls::new(1);
+        let (mut rounds, mut panels, mut lengths) = ([0; 256], [0; 256], [0; 17]);
+        let (mut refused, mut again) = ([0; 16], 0);
+        for _ in 0..60_000 {
+            let drawn = calls.next();
+            let due = due(&drawn);
+            if drawn.function == Function::Round {
+                rounds[usize::from(due.number)] += 1;
+                if due.number == 0 {
+                    lengths[due.bank.len() / 147] += 1;
+                    again += usize::from(drawn.bank.chunks(147).any(|entry| entry[121] > 0));
+                    for (place, entry) in due.bank.chunks(147).enumerate() {
+                        panels[usize::from(entry[146])] += 1;
+                        refused[place] += usize::from(entry[146] > 23);
+                    }
+                }
+            }
+            calls.answered(&drawn, due.number, due.image, due.store, due.bank);
+        }
+        for number in [0, 61, 62, 63, 71] {
+            assert!(rounds[number] >= 20, "{number}: {}", rounds[number]);
+        }
+        for number in [0, 2, 3, 11, 13, 14, 21, 22, 23, 32, 33, 34] {
+            assert!(panels[number] >= 20, "{number}: {}", panels[number]);
+        }
+        assert!(lengths.iter().all(|&count| count > 0), "{lengths:?}");
+        assert!(refused.iter().all(|&count| count > 10), "{refused:?}");
+        assert!(again > 100, "{again}");
     }
 
     /// Images with each count are run and converted, and resets are written.
@@ -353,7 +409,7 @@ mod tests {
                 match drawn.function {
                     Function::Call => called[usize::from(state.count)] += 1,
                     Function::Convert => converted[usize::from(state.count)] += 1,
-                    Function::Fresh | Function::Store | Function::Recall => {}
+                    Function::Fresh | Function::Store | Function::Recall | Function::Round => {}
                 }
             }
             if drawn.function == Function::Call && due.number == 0 {
@@ -365,7 +421,7 @@ mod tests {
                     .filter(|record| record[6] == 0)
                     .count();
             }
-            calls.answered(&drawn, due.number, due.image, due.store);
+            calls.answered(&drawn, due.number, due.image, due.store, due.bank);
         }
         assert!(called.iter().all(|&count| count > 100), "{called:?}");
         assert!(converted.iter().all(|&count| count > 10), "{converted:?}");

@@ -1,12 +1,13 @@
-//! What crates test_calls, test_values and test_store are tried on: makes their streams of commands, and the text
-//! that they have to write. `stream.rs` tells both.
+//! What crates test_calls, test_values, test_store and test_bank are tried on: makes their streams of commands, and the
+//! text that they have to write. `stream.rs` tells both.
 //!
-//! PROGRAM is `calls`, `values` or `store`. `trials PROGRAM FOLDER` writes the stored files of its crate, FOLDER/stdin
+//! PROGRAM is `calls`, `values`, `store` or `bank`. `trials PROGRAM FOLDER` writes the stored files of its crate, FOLDER/stdin
 //! and FOLDER/stdout, of a few items. `trials PROGRAM whole FOLDER` writes FOLDER/stream and FOLDER/text, of
 //! all. `trials PROGRAM list` names the items, one for each line of the whole text; `trials PROGRAM show K`
-//! tells all of item K. `trials counts` says how many cases, groups, panels and stores there are of each
+//! tells all of item K. `trials counts` says how many cases, groups, panels, stores and banks there are of each
 //! kind.
 
+mod banks;
 mod cases;
 mod cuts;
 mod images;
@@ -139,8 +140,10 @@ impl Trials {
 
 /// All items of a program, and what is wrong with them.
 fn all(program: &str) -> (Items, Vec<String>) {
-    if program == "store" {
-        return (stores::all(), stores::faults());
+    match program {
+        "store" => return (stores::all(), stores::faults()),
+        "bank" => return (banks::all(), banks::faults()),
+        _ => {}
     }
     let trials = Trials::all();
     let faults = trials.faults();
@@ -150,6 +153,7 @@ fn all(program: &str) -> (Items, Vec<String>) {
 fn small(program: &str) -> Items {
     match program {
         "store" => stores::small(),
+        "bank" => banks::small(),
         _ => Trials::small().of(program),
     }
 }
@@ -190,18 +194,19 @@ fn done(words: &[String]) -> Result<String, String> {
                 cuts::counts(),
                 steps::counts(),
                 stores::counts(),
+                banks::counts(),
             ]
             .concat(),
         )),
-        [program @ ("calls" | "values" | "store"), "list"] => {
+        [program @ ("calls" | "values" | "store" | "bank"), "list"] => {
             let (items, _) = all(program);
             let names = items.iter().map(|item| item.name()).enumerate();
             Ok(names
                 .map(|(place, name)| format!("{place} {name}\n"))
                 .collect())
         }
-        [program @ ("calls" | "values" | "store"), "show", place] => told(&all(program).0, place),
-        [program @ ("calls" | "values" | "store"), "whole", folder] => {
+        [program @ ("calls" | "values" | "store" | "bank"), "show", place] => told(&all(program).0, place),
+        [program @ ("calls" | "values" | "store" | "bank"), "whole", folder] => {
             let (items, faults) = all(program);
             if !faults.is_empty() {
                 return Err(faults.join("\n"));
@@ -209,13 +214,13 @@ fn done(words: &[String]) -> Result<String, String> {
             write(folder, ["stream", "text"], &items).map_err(failed)?;
             Ok(String::new())
         }
-        [program @ ("calls" | "values" | "store"), folder] => {
+        [program @ ("calls" | "values" | "store" | "bank"), folder] => {
             let items = small(program);
             write(folder, ["stdin", "stdout"], &items).map_err(failed)?;
             Ok(String::new())
         }
         _ => Err(String::from(
-            "counts is wanted, or calls, values or store and FOLDER, whole FOLDER, list or show K",
+            "counts is wanted, or calls, values, store or bank and FOLDER, whole FOLDER, list or show K",
         )),
     }
 }

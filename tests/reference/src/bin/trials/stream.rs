@@ -1,4 +1,5 @@
-//! The commands of a stream, and the texts that crates test_calls, test_values and test_store write of it.
+//! The commands of a stream, and the texts that crates test_calls, test_values, test_store and test_bank write
+//! of it.
 //!
 //! A command is 24 bytes: a letter (1), a value (1), a place (2), a length (4), n (8) and a runner (8),
 //! numbers big-endian; what a letter doesn't name is 0. Some have bytes behind them, as many as n says. A
@@ -85,6 +86,22 @@
 //! A line of W has its number and the digest of the whole store; one of O its number, the place of the entry, and
 //! the length and the digest of the part handed back, all 0 but the number where it is refused. In a group they leave
 //! the same, with all bytes in place of their digest.
+//!
+//! # test_bank: rounds of a bank
+//!
+//! H, G and . are as above, and the values 0 and 1 of a call; R and S are the ROMs and the schedules of all panels, up to
+//! 65,536 bytes each.
+//!
+//! | letter | what |
+//! |---|---|
+//! | M | the bank, likewise, up to 4,096 bytes |
+//! | X | its byte at the place has the value |
+//! | K, B | the bank is kept; the kept one is brought back. Its length stays |
+//! | C | `wharfnettle_round` of the bank with n cycles for all, on logs of this length, in which the pattern stands |
+//! | V | the same by `bank::round_row`: a panel of the bank is then 198 bytes, the value of its state in place of its image |
+//!
+//! A line has the number and the digests of the whole bank and of the logs. In a group they leave the same, with all bytes in place
+//! of their digests. A bank of values has at most sixteen panels that are looked at; more are counted.
 
 use reference::case::{digest_from, state_bytes};
 use reference::{Runner, Sheet, State, Version};
@@ -325,6 +342,36 @@ impl Stream {
 
     pub fn name(&mut self, name: &[u8]) {
         self.put_bytes(b'N', name);
+    }
+
+    pub fn bank(&mut self, bank: &[u8]) {
+        self.put_bytes(b'M', bank);
+    }
+
+    pub fn bank_length(&mut self, length: usize) {
+        self.put_length(b'M', length);
+    }
+
+    pub fn bank_byte(&mut self, place: usize, value: u8) {
+        self.put_byte(b'X', place, value);
+    }
+
+    fn put_round(&mut self, letter: u8, of: Of, t: u64, logs: usize) {
+        self.put(Command {
+            letter,
+            value: of.value(),
+            length: u32::try_from(logs).expect("a length has four bytes"),
+            n: t,
+            ..Command::default()
+        });
+    }
+
+    pub fn round(&mut self, of: Of, t: u64, logs: usize) {
+        self.put_round(b'C', of, t, logs);
+    }
+
+    pub fn round_of_values(&mut self, of: Of, t: u64, logs: usize) {
+        self.put_round(b'V', of, t, logs);
     }
 
     fn put_call(&mut self, letter: u8, of: Of) {

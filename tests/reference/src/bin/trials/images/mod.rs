@@ -16,6 +16,7 @@ use reference::{restore, save, Sheet, State, Version};
 
 use crate::stream::{pattern, Chain, Of, Stream};
 use crate::Item;
+pub use bases::state_of;
 use bases::{Shape, CYCLE, IMAGE, RAM, UNCOUNTED, VALUE};
 pub use group::Group;
 use group::{Tally, Trial, Variant};

@@ -1,5 +1,6 @@
-// The value of a state: the bytes of its fields, each as it stands there. PC, stack, Acc, C, C', DPH, DPL, INT, INTE, TM, level, mark,
-// owed, register, counter, ports, RAM, cycle number, count of cycles with RES high. And the bytes of a sheet.
+// What the programs of the tests share that give states as values. The value of a state: the bytes of its fields, each as it stands there.
+// PC, stack, Acc, C, C', DPH, DPL, INT, INTE, TM, level, mark, owed, register, counter, ports, RAM, cycle number, count of cycles with RES
+// high. And the bytes of a sheet. It may not know how a run, a save or a restore goes.
 use runs::MachineCycles;
 use test_stream::byte;
 use test_stream::copy;
@@ -26,12 +27,12 @@ const CYCLE_AT: usize = RAM_AT + RAM_WORDS;
 
 const COUNT_AT: usize = CYCLE_AT + 8;
 
-pub(crate) const LENGTH: usize = COUNT_AT + 1;
+pub const LENGTH: usize = COUNT_AT + 1;
 
 // The bytes of a sheet: ROM bytes, rows and levels, 8 each.
-pub(crate) const SHEET: usize = 24;
+pub const SHEET: usize = 24;
 
-pub(crate) fn sheet_of(bytes: &[u8]) -> Sheet {
+pub fn sheet_of(bytes: &[u8]) -> Sheet {
     Sheet {
         rom: eight(bytes, 0),
         rows: eight(bytes, 8),
@@ -39,7 +40,7 @@ pub(crate) fn sheet_of(bytes: &[u8]) -> Sheet {
     }
 }
 
-pub(crate) fn state_of(value: &[u8]) -> State {
+pub fn state_of(value: &[u8]) -> State {
     let core = core_of(value);
     let mut ports = [0u8; LATCHES];
     copy(&mut ports, value, PORTS_AT);
@@ -83,7 +84,7 @@ fn core_of(value: &[u8]) -> Core {
 }
 
 // The value of a state.
-pub(crate) fn put(value: &mut [u8], s: State) {
+pub fn put(value: &mut [u8], s: State) {
     let core = s.core;
     let ports = s.ports;
     let ram = s.ram;
@@ -125,7 +126,7 @@ fn put_address(value: &mut [u8], at: usize, x: u16) {
 }
 
 // The digest of a state's value, behind bytes that have the digest h.
-pub(crate) fn digest_of(h: u64, s: State) -> u64 {
+pub fn digest_of(h: u64, s: State) -> u64 {
     let mut value = [0u8; LENGTH];
     put(&mut value, s);
     digest(h, &value)
