@@ -26,7 +26,14 @@ pub fn round(
 ) -> u8
     ensures { λ r. ⌜ (now (bank .exit) ≡ roundAnswer (chip sheet) (now (bank .entry)) (now (roms .entry)) (now (schedules .entry)) (now (logs .entry)) (t .0) .panels) × ((now (logs .exit) ≡ roundAnswer (chip sheet) (now (bank .entry)) (now (roms .entry)) (now (schedules .entry)) (now (logs .entry)) (t .0) .logs) × (r ≡ roundAnswer (chip sheet) (now (bank .entry)) (now (roms .entry)) (now (schedules .entry)) (now (logs .entry)) (t .0) .number)) ⌝ }
 {
-    let mut course = begin(bank.len(), roms.len(), schedules.len(), logs.len(), t, sheet);
+    let mut course = begin(
+        bank.len(),
+        roms.len(),
+        schedules.len(),
+        logs.len(),
+        t,
+        sheet,
+    );
     let mut n = course.count;
     let mut i: usize = 0;
     while i < n {

@@ -18,7 +18,7 @@ use Rattle.panels.specs.declared.Panel.{Panel}
 use Rattle.panels.specs.Grants.{grants}
 use Rattle.panels.specs.Places.{firstPlaces, nextPlaces, wishesOf, lotsFrom, lotsOf, together, endsOf, roundNumber}
 use Rattle.panels.specs.Round.{ownRun, panelAfter, needsOf, RoundAnswer, served, written, rounded, roundAnswer}
-use Rattle.panels.specs.Alone.{noLot, lotAt, runAt, EachAlone}
+use Rattle.panels.specs.Alone.{noLot, EachAlone}
 use Rattle.panels.proofs.Fairness.{grants-fair}
 use Rattle.panels.proofs.Courses.{wishes-length, fits-all}
 use Rattle.panels.proofs.Rounds.{needs-length, part-length}

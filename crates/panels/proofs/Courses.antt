@@ -3,12 +3,12 @@
 --     plan-is          and before the first turn it carries the shares of `grants`, and the first places
 --     plan-refused     where it is refused, it carries the number, and no panel is gone through
 --     plan-hands       from the plan on each panel has its lot: what `grants` says, behind the parts before it
-use mathlib.Core.Path.{_≡_, refl, sym, _∙_, ap, ap₂, subst}
+use mathlib.Core.Path.{_≡_, refl, sym, _∙_, ap, subst}
 use Prim.Native.Nat.{ℕ, zero, suc, _+_, _-_, _≤_}
 use native.Mathlib.Omega.{arith}
 use mathlib.Core.Bool.{Bool, true, false, cond, _||_, _&&_}
 use mathlib.Core.List.{List, [], _∷_}
-use lib.Dec.{T as Holds, ltb, leb, eqb}
+use lib.Dec.{T as Holds, leb, eqb}
 use lib.ListN.{length, take}
 use lib.Seq.{take-length}
 use borrow.Author.Tests.{ltb-false, leb-true, le-leb, le-ltb, ne-eqb}

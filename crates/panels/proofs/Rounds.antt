@@ -20,10 +20,10 @@ use Rattle.panels.specs.declared.Places.{Places}
 use Rattle.panels.specs.declared.Lot.{Lot}
 use Rattle.panels.specs.declared.Panel.{Panel}
 use Rattle.panels.specs.declared.Course.{Course}
-use Rattle.panels.specs.Places.{firstPlaces, together, lotsOf, endsOf, roundNumber}
+use Rattle.panels.specs.Places.{together, endsOf, roundNumber}
 use Rattle.panels.specs.Courses.{pastOf, lotOf, afterOf, handed, plannedOf}
-use Rattle.panels.specs.Round.{ownRun, withPart, panelAfter, needsOf, RoundAnswer, turnRun, turnLogs, served, written, rounded, roundAnswer}
-use Rattle.panels.proofs.Courses.{Fit, fit-on, fits-all, planFor, plan-is, plan-refused, plan-hands}
+use Rattle.panels.specs.Round.{ownRun, panelAfter, needsOf, RoundAnswer, turnRun, turnLogs, served, written, rounded, roundAnswer}
+use Rattle.panels.proofs.Courses.{fits-all, planFor, plan-is, plan-refused, plan-hands}
 
 pub needs-length : (ps : List Panel) → length (needsOf ps) ≡ length ps
 unfolding needsOf

@@ -2,7 +2,7 @@
 -- machine. Assumes nothing: these are definitions.
 use Prim.Native.Nat.{ℕ, zero, suc, _+_}
 use mathlib.Core.List.{List, [], _∷_, _++_}
-use lib.ListN.{length, take, drop}
+use lib.ListN.{take, drop}
 use Rattle.runs.specs.Machine.{Machine}
 use Rattle.runs.specs.TwoRunners.{RunAnswer, numberOfEnd, skipping}
 use Rattle.upd546.specs.declared.State.{State}

@@ -304,7 +304,14 @@ pub fn run_lot(
     let l0 = past(lot.at.log, 0, logs.len());
     let l1 = past(lot.at.log, n.log, logs.len());
     let grant = lot.grant;
-    run_skipping(&roms[r0..r1], &schedules[s0..s1], s, &mut logs[l0..l1], grant, sheet)
+    run_skipping(
+        &roms[r0..r1],
+        &schedules[s0..s1],
+        s,
+        &mut logs[l0..l1],
+        grant,
+        sheet,
+    )
 }
 
 // The counts and the number of a run.

@@ -1,15 +1,12 @@
+-- With a number nothing is counted. Assumes nothing.
 use mathlib.Core.Path.{refl}
 use borrow.Author.Tests.{eq-eqb, ne-eqb}
 use Rattle.panels.proofs.counted.Statement.{statement}
 use Rattle.panels.proofs.counted.Tie as tie
-use Rattle.panels.proofs.counted.Reads as reads
-use Rattle.panels.proofs.counted.Lts as lts
 
--- src/lib.rt:115:1
 returns : tie.Need-returns
 returns c = rw (eq-eqb _ _ (c .if1 .taken)) refl
 
--- src/lib.rt:115:1
 returns-2 : tie.Need-returns-2
 returns-2 c = rw (ne-eqb _ _ (c .if1 .left)) refl
 

@@ -1,29 +1,22 @@
-use mathlib.Core.Path.{_≡_, _∙_, sym}
+-- 71, then 61. Assumes nothing.
+use mathlib.Core.Path.{_∙_, sym}
 use Rattle.upd546.specs.TheSheet.{sheetNumber}
 use Rattle.panels.proofs.Cuts.{first-is, few-enough, too-many}
 use borrow.Author.Needs.{needs}
 use Rattle.panels.proofs.first_number.Statement.{statement}
 use Rattle.panels.proofs.first_number.Tie as tie
-use Rattle.panels.proofs.first_number.Reads as reads
-use Rattle.panels.proofs.first_number.Lts as lts
-use Rattle.fields.proofs.check_sheet.Reads as check-sheet-reads
-use Rattle.runs.proofs.outcome_number.Reads as outcome-number-reads
 
--- src/lib.rt:106:9
 check-sheet-requires : tie.Need-check-sheet-requires
 check-sheet-requires c κs = search needs
 
--- src/lib.rt:107:9
 outcome-number-requires : tie.Need-outcome-number-requires
 outcome-number-requires c κs = search needs
 
--- src/lib.rt:109:9
 returns : tie.Need-returns
 returns c =
     let same = c .before .outcome-number .ensures ∙ c .before .before .check-sheet .ensures in
     same ∙ first-is (sheetNumber (c .before .before .before .args .sheet)) _ (λ e. c .if1 .taken (same ∙ e))
 
--- src/lib.rt:103:1
 returns-2 : tie.Need-returns-2
 returns-2 c =
     let to = c .before .before in
@@ -31,7 +24,6 @@ returns-2 c =
     let legal = sym (to .before .check-sheet .ensures) ∙ sym (to .outcome-number .ensures) ∙ c .before .if1 .left in
     few-enough (sheetNumber (args .sheet)) (args .m) legal (c .if2 .taken)
 
--- src/lib.rt:103:1
 returns-3 : tie.Need-returns-3
 returns-3 c =
     let to = c .before .before in

@@ -1,3 +1,4 @@
+-- Whether fewer bytes are left. Assumes nothing.
 use mathlib.Core.Path.{_≡_, ap}
 use Prim.Native.Nat.{ℕ, _-_}
 use native.Mathlib.Omega.{arith}
@@ -5,20 +6,15 @@ use lib.Dec.{ltb}
 use borrow.Author.Needs.{needs}
 use Rattle.panels.proofs.is_short.Statement.{statement}
 use Rattle.panels.proofs.is_short.Tie as tie
-use Rattle.panels.proofs.is_short.Reads as reads
-use Rattle.panels.proofs.is_short.Lts as lts
 
--- src/lib.rt:181:9
 returns : tie.Need-returns
 returns c = let a = c .before .args in
     let none : 0 ≡ a .end - a .at = omega (arith, c .if1 .taken) in
     ap (λ (k : ℕ). ltb k (a .length)) none
 
--- src/lib.rt:183:5
 sub-result : tie.Need-sub-result
 sub-result c = search needs
 
--- src/lib.rt:177:1
 returns-2 : tie.Need-returns-2
 returns-2 c = search needs
 

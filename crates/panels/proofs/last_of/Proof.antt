@@ -1,18 +1,14 @@
+-- The counts and the number of a run. Assumes nothing.
 use mathlib.Core.Path.{refl}
 use Rattle.panels.specs.Round.{lastOf}
 use Rattle.panels.proofs.Cuts.{end-number}
 use borrow.Author.Needs.{needs}
 use Rattle.panels.proofs.last_of.Statement.{statement}
 use Rattle.panels.proofs.last_of.Tie as tie
-use Rattle.panels.proofs.last_of.Reads as reads
-use Rattle.panels.proofs.last_of.Lts as lts
-use Rattle.runs.proofs.end_number.Reads as end-number-reads
 
--- src/lib.rt:313:17
 end-number-requires : tie.Need-end-number-requires
 end-number-requires c κs = search needs
 
--- src/lib.rt:303:1
 returns : tie.Need-returns
 unfolding lastOf
 returns c = λ log. rw (c .end-number .ensures, end-number (c .before .before .args .a .end)) refl

@@ -1,28 +1,21 @@
+-- 62 where one of the three buffers is short. Assumes nothing.
 use mathlib.Core.Path.{refl}
 use borrow.Author.Needs.{needs}
 use Rattle.panels.proofs.number_after.Statement.{statement}
 use Rattle.panels.proofs.number_after.Tie as tie
-use Rattle.panels.proofs.number_after.Reads as reads
-use Rattle.panels.proofs.number_after.Lts as lts
-use Rattle.panels.proofs.is_short.Reads as is-short-reads
 
--- src/lib.rt:190:9
 is-short-requires : tie.Need-is-short-requires
 is-short-requires c κs = search needs
 
--- src/lib.rt:191:9
 is-short-requires-2 : tie.Need-is-short-requires-2
 is-short-requires-2 c κs = search needs
 
--- src/lib.rt:192:9
 is-short-requires-3 : tie.Need-is-short-requires-3
 is-short-requires-3 c κs = search needs
 
--- src/lib.rt:187:1
 returns : tie.Need-returns
 returns c = let t = c .before .before .before in rw (← c .before .is-short3 .ensures, ← c .before .before .is-short2 .ensures, ← t .is-short .ensures, c .if1 .taken) refl
 
--- src/lib.rt:187:1
 returns-2 : tie.Need-returns-2
 returns-2 c = let t = c .before .before .before in rw (← c .before .is-short3 .ensures, ← c .before .before .is-short2 .ensures, ← t .is-short .ensures, c .if1 .left) refl
 

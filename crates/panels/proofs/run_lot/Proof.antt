@@ -1,84 +1,63 @@
+-- The run on parts that are cut where their buffers end is the panel's own. Assumes nothing.
 use denote.Ref.{now}
 use Rattle.panels.proofs.Cuts.{own-run}
 use borrow.Author.Needs.{needs}
 use Rattle.panels.proofs.run_lot.Statement.{statement}
 use Rattle.panels.proofs.run_lot.Tie as tie
-use Rattle.panels.proofs.run_lot.Reads as reads
-use Rattle.panels.proofs.run_lot.Lts as lts
-use Rattle.panels.proofs.past.Reads as past-reads
-use Rattle.runner.proofs.run_skipping.Reads as run-skipping-reads
 
--- src/lib.rt:292:9
 past-requires : tie.Need-past-requires
 past-requires c κs = search needs
 
--- src/lib.rt:293:9
 past-requires-2 : tie.Need-past-requires-2
 past-requires-2 c κs = search needs
 
--- src/lib.rt:294:9
 past-requires-3 : tie.Need-past-requires-3
 past-requires-3 c κs = search needs
 
--- src/lib.rt:295:9
 past-requires-4 : tie.Need-past-requires-4
 past-requires-4 c κs = search needs
 
--- src/lib.rt:296:9
 past-requires-5 : tie.Need-past-requires-5
 past-requires-5 c κs = search needs
 
--- src/lib.rt:297:9
 past-requires-6 : tie.Need-past-requires-6
 past-requires-6 c κs = search needs
 
--- src/lib.rt:299:18
 sub-run-skipping : tie.Need-sub-run-skipping
 sub-run-skipping c = search needs
 
--- src/lib.rt:299:18
 part-run-skipping-start : tie.Need-part-run-skipping-start
 part-run-skipping-start c = search needs
 
--- src/lib.rt:299:18
 part-run-skipping-end : tie.Need-part-run-skipping-end
 part-run-skipping-end c = search needs
 
--- src/lib.rt:299:33
 sub-run-skipping-2 : tie.Need-sub-run-skipping-2
 sub-run-skipping-2 c = search needs
 
--- src/lib.rt:299:33
 part-run-skipping-start-2 : tie.Need-part-run-skipping-start-2
 part-run-skipping-start-2 c = search needs
 
--- src/lib.rt:299:33
 part-run-skipping-end-2 : tie.Need-part-run-skipping-end-2
 part-run-skipping-end-2 c = search needs
 
--- src/lib.rt:299:56
 sub-run-skipping-3 : tie.Need-sub-run-skipping-3
 sub-run-skipping-3 c = search needs
 
--- src/lib.rt:299:56
 part-run-skipping-start-3 : tie.Need-part-run-skipping-start-3
 part-run-skipping-start-3 c = search needs
 
--- src/lib.rt:299:56
 part-run-skipping-end-3 : tie.Need-part-run-skipping-end-3
 part-run-skipping-end-3 c = search needs
 
--- src/lib.rt:299:5
 run-skipping-requires : tie.Need-run-skipping-requires
 run-skipping-requires c κs = search needs
 
--- src/lib.rt:281:1
 same-length : tie.Need-same-length
 same-length c = search needs
 
--- src/lib.rt:281:1
 returns : tie.Need-returns
-returns c = 
+returns c =
     let at-run = c .before .before in
     let at-6 = at-run .before .before .before .before .before in
     let at-5 = at-6 .before in

@@ -1,19 +1,15 @@
+-- With no panel nothing is divided. Assumes nothing.
 use Rattle.panels.proofs.Cuts.{share-none}
 use borrow.Author.Needs.{needs}
 use Rattle.panels.proofs.share_of.Statement.{statement}
 use Rattle.panels.proofs.share_of.Tie as tie
-use Rattle.panels.proofs.share_of.Reads as reads
-use Rattle.panels.proofs.share_of.Lts as lts
 
--- src/lib.rt:97:9
 returns : tie.Need-returns
 returns c = share-none (c .before .args .t) (c .before .args .m) (c .if1 .taken)
 
--- src/lib.rt:99:5
 div-result : tie.Need-div-result
 div-result c = search needs
 
--- src/lib.rt:93:1
 returns-2 : tie.Need-returns-2
 returns-2 c = search needs
 
