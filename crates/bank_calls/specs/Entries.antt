@@ -1,5 +1,6 @@
--- Request R-9 on a bank of bytes, over any machine: "one entry of 147 bytes a panel: image (82), wish, ROM length, schedule length, log
--- length (8 each), cycles, instructions, log bytes, steps (8 each), number (1), big-endian". Assumes nothing: these are definitions.
+-- Request R-9 on a bank of bytes, over any machine: an entry of 147 bytes for each panel, its image (82), wish, ROM length, schedule length
+-- and log length (8 each), cycles, instructions, log bytes and steps (8 each) and number (1), big-endian. Assumes nothing: these are
+-- definitions.
 use Prim.Native.Nat.{ℕ, zero, suc, _+_, _/_}
 use mathlib.Core.List.{List, [], _∷_, _++_}
 use lib.ListN.{length, take, drop, replicate}
@@ -9,23 +10,23 @@ use Rattle.upd546.specs.Bytes.{part, numberAt}
 use Rattle.panels.specs.declared.Needs.{Needs}
 use Rattle.calls.specs.Call.{BoardCall, BoardAnswer, reportLength, boardAnswer}
 
--- "image (82)"
+-- the image
 abbrev pub imageBytes : ℕ
 imageBytes = 82
 
--- "wish, ROM length, schedule length, log length (8 each)"
+-- wish, ROM length, schedule length and log length
 abbrev pub needsBytes : ℕ
 needsBytes = 32
 
--- "cycles, instructions, log bytes, steps (8 each)": the report of the board's call
+-- cycles, instructions, log bytes and steps: the report of the board's call
 abbrev pub reportAt : ℕ
 reportAt = imageBytes + needsBytes
 
--- "number (1)"
+-- the number
 abbrev pub numberPlace : ℕ
 numberPlace = reportAt + reportLength
 
--- "one entry of 147 bytes a panel"
+-- an entry
 abbrev pub entryLength : ℕ
 entryLength = numberPlace + 1
 
@@ -38,7 +39,7 @@ entriesOf (suc n) bytes = take entryLength bytes ∷ entriesOf n (drop entryLeng
 abbrev pub entriesIn : List ℕ → List (List ℕ)
 entriesIn bank = entriesOf (length bank / entryLength) bank
 
--- "wish, ROM length, schedule length, log length (8 each), .. big-endian"
+-- what an entry needs
 unfoldable pub entryNeeds : List ℕ → Needs
 entryNeeds entry = record {
   wish = record { 0 = numberAt entry imageBytes 8 };
@@ -70,7 +71,7 @@ module _ {S : Type 0} (M : Sheet → Machine S) (sheet : Sheet) where
   unfoldable pub ownAnswer : (entry rom sched log : List ℕ) → ℕ → BoardAnswer
   ownAnswer entry rom sched log grant = boardAnswer M (ownCall entry rom sched log grant)
 
--- "A panel's state, .. counts and number after a round are those of its own .. run .., and its wish and lengths stay". "A panel whose image
--- is refused has that number and counts 0 and keeps its image": so the board's call leaves them.
+-- "A panel's state, .. counts and number after a round are those of its own .. run .., and its wish and lengths stay". A panel whose image is
+-- refused has that number and counts 0 and keeps its image: so the board's call leaves them.
 unfoldable pub entryAfter : List ℕ → BoardAnswer → List ℕ
 entryAfter entry a = a .image ++ part entry imageBytes needsBytes ++ a .report ++ a .number ∷ []

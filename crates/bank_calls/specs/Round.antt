@@ -30,7 +30,7 @@ module _ {S : Type 0} (M : Sheet → Machine S) (sheet : Sheet) where
       (part logs (lot .at .log) (entryNeeds entry .log))
       (lot .grant .0)
 
-  -- The entries end to end, each after its own call on the logs as they were lent. "A panel whose image is refused .. holds nobody up."
+  -- The entries end to end, each after its own call on the logs as they were lent. A panel whose image is refused holds nobody up.
   -- There are as many lots as entries.
   unfoldable pub served : (roms schedules logs : List ℕ) → List Lot → List (List ℕ) → List ℕ
   served roms schedules logs lots [] = []
@@ -43,7 +43,7 @@ module _ {S : Type 0} (M : Sheet → Machine S) (sheet : Sheet) where
   written roms schedules logs [] (e ∷ es) = []
   written roms schedules logs (lot ∷ lots) (e ∷ es) = lotAnswer roms schedules logs e lot .log ++ written roms schedules logs lots es
 
-  -- 71, 61 (more than sixteen whole entries), 62; "A bank whose length is no multiple of 147": 63, last. The number 63 is this project's.
+  -- 71, 61 (more than sixteen whole entries), 62; a bank whose length is no multiple of 147: 63, last. The number 63 is this project's.
   unfoldable pub bankNumber : (bank roms schedules logs : List ℕ) → ℕ
   bankNumber bank roms schedules logs =
       firstOf
