@@ -3,3 +3,4 @@ pub mod Span
 pub mod Turning
 pub mod Lots
 pub mod Rounds
+pub mod OwnRuns

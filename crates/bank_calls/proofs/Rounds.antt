@@ -25,6 +25,7 @@ use Rattle.panels.specs.declared.Course.{Course}
 use Rattle.panels.specs.Places.{mostPanels, firstPlaces, together, lotsOf, endsOf, roundNumber}
 use Rattle.panels.specs.Courses.{beginOf, planOf, lotOf, afterOf, noteAll, handed, plannedOf}
 use Rattle.panels.specs.Round.{withPart}
+use Rattle.panels.proofs.Rounds.{run-length}
 use Rattle.panels.proofs.Courses.{Fit, planFor, fits-all, plan-is, plan-refused, plan-hands}
 use Rattle.calls.specs.Call.{BoardCall, BoardAnswer, longEnough, onRestored, imageRun, runOf, onReport, callAnswer}
 use Rattle.bank_calls.specs.Entries.{imageBytes, entryLength, entriesOf, entriesIn, entryNeeds, needsIn, ownCall, ownAnswer, entryAfter}
@@ -34,21 +35,9 @@ use Rattle.bank_calls.proofs.Span.{length-entries, length-needs, first-
 
 -- A CALL KEEPS THE LENGTH OF ITS LOG
 
-told-length : (sheet : Sheet) (k : ℕ) (q : Stepped State) (s : State) (log : List ℕ) → told (chip sheet) k q s log .written ≤ length log
-    → length (told (chip sheet) k q s log .log) ≡ length log
-told-length sheet zero q s log h =
-    omega (arith, length-append (q .ran .bytes) (drop (length (q .ran .bytes)) log), length-drop (length (q .ran .bytes)) log, h)
-told-length sheet (suc k) q s log h = refl
-
-run-length : (sheet : Sheet) (rom sched : List ℕ) (s : State) (log : List ℕ) (n : ℕ) → length (skipping (chip sheet) rom sched s log n .log) ≡ length log
-unfolding skipping
-run-length sheet rom sched s log n =
-    told-length sheet (runNumber (chip sheet) rom sched s n) (strides (chip sheet) rom sched n (length log) n s) s log
-    (every-run-counts-within sheet skippingOne rom sched s log n .written)
-
 restored-length : (sheet : Sheet) (k : ℕ) (s : State) (rom sched log : List ℕ) (n : ℕ)
     → length (onRestored (chip sheet) k s skippingOne rom sched log n .log) ≡ length log
-restored-length sheet zero s rom sched log n = run-length sheet rom sched s log n
+restored-length sheet zero s rom sched log n = run-length (chip sheet) (every-run-counts-within sheet) rom sched s log n
 restored-length sheet (suc k) s rom sched log n = refl
 
 reported-length : (sheet : Sheet) (c : BoardCall) (b : Bool) (e : End) (a : RunAnswer State) → length (a .log) ≡ length (c .log)

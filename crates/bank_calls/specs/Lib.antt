@@ -1,3 +1,4 @@
 pub mod Entries
 pub mod Round
 pub mod InTurn
+pub mod OwnRuns
