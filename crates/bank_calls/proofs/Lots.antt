@@ -1,7 +1,7 @@
 -- The parts of the buffers that an entry's turn is lent. Assumes nothing.
 use mathlib.Core.Path.{_≡_, _∙_, sym, ap}
 use mathlib.Core.List.{List}
-use Prim.Native.Nat.{ℕ, _+_, _-_, _≤_}
+use Prim.Native.Nat.{ℕ, _-_, _≤_}
 use native.Mathlib.Omega.{arith}
 use lib.ListN.{length}
 use borrow.Rule.Slice.PartMut.{midOf, putMid}
@@ -12,7 +12,6 @@ use Rattle.panels.specs.declared.Needs.{Needs}
 use Rattle.panels.specs.declared.Places.{Places}
 use Rattle.panels.specs.declared.Lot.{Lot}
 use Rattle.panels.specs.declared.Course.{Course}
-use Rattle.panels.specs.Places.{endsOf}
 use Rattle.panels.specs.Courses.{pastOf, lotOf, afterOf}
 use Rattle.panels.specs.Round.{withPart}
 use Rattle.panels.proofs.Cuts.{cut-part, cut-put}

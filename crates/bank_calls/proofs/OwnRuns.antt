@@ -1,5 +1,5 @@
 -- The call of an entry is the run of the panel that its image restores. Assumes nothing.
-use mathlib.Core.Path.{_≡_, _∙_, refl, sym, ap, subst}
+use mathlib.Core.Path.{_≡_, _∙_, refl, ap, subst}
 use mathlib.Core.List.{List}
 use Prim.Native.Nat.{ℕ, suc, _<_, _^_}
 use native.Mathlib.Nat.{le-of-eq}
@@ -18,7 +18,7 @@ use Rattle.calls.specs.EveryCall.{callRefusal, TellsItsRun, CallChangesNothing,
 use Rattle.calls.proofs.Chip.{every-call-tells-its-run, every-finish-or-stop-rewrites, every-refusal-changes-nothing}
 use Rattle.bank_calls.specs.Entries.{imageBytes, entryNeeds, ownCall, ownAnswer}
 use Rattle.bank_calls.specs.Round.{lotAnswer}
-use Rattle.bank_calls.specs.OwnRuns.{panelRun, RunsItsPanel, EveryEntryRunsItsPanel}
+use Rattle.bank_calls.specs.OwnRuns.{panelRun, EveryEntryRunsItsPanel}
 
 module _ (sheet : Sheet) (roms schedules logs entry : List ℕ) (lot : Lot) where
   -- the call of the entry

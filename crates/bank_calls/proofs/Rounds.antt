@@ -2,15 +2,14 @@
 use mathlib.Core.Path.{_≡_, _∙_, refl, sym, ap, ap₂}
 use mathlib.Core.Bool.{Bool, true, false, cond}
 use mathlib.Core.List.{List, [], _∷_, _++_, append-assoc}
-use Prim.Native.Nat.{ℕ, zero, suc, _+_, _-_, _*_, _/_, _%_, _<_, _≤_}
+use Prim.Native.Nat.{ℕ, zero, suc, _+_, _-_, _*_, _/_, _%_, _≤_}
 use native.Mathlib.Omega.{arith}
 use lib.Dec.{leb, eqb}
-use lib.ListN.{length, take, drop, length-append, length-drop}
+use lib.ListN.{length, take, drop, length-append}
 use lib.Seq.{drop-drop, drop-at, take-at}
 use borrow.Author.Tests.{eq-eqb, ne-eqb}
-use Rattle.runs.specs.Machine.{Machine}
 use Rattle.runs.specs.Refusals.{firstOf, unless}
-use Rattle.runs.specs.TwoRunners.{End, finished, stopped, refused, RunAnswer, Stepped, told, strides, runNumber, skipping, currentAnswer}
+use Rattle.runs.specs.TwoRunners.{End, finished, stopped, refused, RunAnswer, currentAnswer}
 use Rattle.runs.specs.Lists.{skippingOne}
 use Rattle.upd546.specs.declared.State.{State}
 use Rattle.upd546.specs.declared.Sheet.{Sheet}
@@ -22,9 +21,8 @@ use Rattle.panels.specs.declared.Needs.{Needs}
 use Rattle.panels.specs.declared.Places.{Places}
 use Rattle.panels.specs.declared.Lot.{Lot}
 use Rattle.panels.specs.declared.Course.{Course}
-use Rattle.panels.specs.Places.{mostPanels, firstPlaces, together, lotsOf, endsOf, roundNumber}
+use Rattle.panels.specs.Places.{mostPanels, firstPlaces, together, endsOf, roundNumber}
 use Rattle.panels.specs.Courses.{beginOf, planOf, lotOf, afterOf, noteAll, handed, plannedOf}
-use Rattle.panels.specs.Round.{withPart}
 use Rattle.panels.proofs.Rounds.{run-length}
 use Rattle.panels.proofs.Courses.{Fit, planFor, fits-all, plan-is, plan-refused, plan-hands}
 use Rattle.calls.specs.Call.{BoardCall, BoardAnswer, longEnough, onRestored, imageRun, runOf, onReport, callAnswer}

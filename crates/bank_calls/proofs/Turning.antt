@@ -1,15 +1,13 @@
 -- Entries that are noted, and entries that have their turns, one after another. Assumes nothing.
-use mathlib.Core.Path.{_≡_, _∙_, refl, sym, ap, ap₂}
-use mathlib.Core.List.{List, [], _∷_, _++_, append-assoc, append-nil}
-use Prim.Native.Nat.{ℕ, zero, suc, _+_, _-_, _*_, _<_, _≤_}
+use mathlib.Core.Path.{_≡_, _∙_, sym, ap, ap₂}
+use mathlib.Core.List.{List, _++_, append-assoc, append-nil}
+use Prim.Native.Nat.{ℕ, _+_, _-_, _*_, _<_, _≤_}
 use native.Mathlib.Omega.{arith}
-use lib.ListN.{length, take, drop, length-append, length-drop, length-take}
+use lib.ListN.{length, take, drop, length-append}
 use lib.Seq.{drop-drop, drop-at, take-at, take-all, length-take-le}
-use borrow.Rule.Slice.PartMut.{midOf, putMid}
 use Rattle.runs.specs.Machine.{Machine}
 use Rattle.upd546.specs.declared.Sheet.{Sheet}
 use Rattle.upd546.specs.Bytes.{part}
-use Rattle.panels.specs.declared.Needs.{Needs}
 use Rattle.panels.specs.declared.Course.{Course}
 use Rattle.panels.specs.Courses.{noteOf, noteAll, afterOf}
 use Rattle.bank_calls.specs.Entries.{entryLength, entriesOf, entryNeeds, needsIn, entryAfter}

@@ -8,7 +8,6 @@ use Rattle.runs.specs.Machine.{Machine}
 use Rattle.runs.specs.Refusals.{firstOf, unless}
 use Rattle.upd546.specs.declared.Sheet.{Sheet}
 use Rattle.upd546.specs.Bytes.{part}
-use Rattle.panels.specs.declared.Needs.{Needs}
 use Rattle.panels.specs.declared.Lot.{Lot}
 use Rattle.panels.specs.Places.{together, lotsOf, endsOf, roundNumber}
 use Rattle.calls.specs.Call.{BoardAnswer}

@@ -1,7 +1,5 @@
 -- The entry's needs, its lot, and the board's call on its parts of the buffers. Assumes nothing.
 use mathlib.Core.Path.{_≡_, _∙_, ap}
-use mathlib.Core.List.{List}
-use Prim.Native.Nat.{ℕ}
 use native.Mathlib.Omega.{arith}
 use denote.Ref.{now}
 use Rattle.upd546.specs.TwoRunners.{chip}
