@@ -177,7 +177,8 @@ fn restored(c: Command, s: Session, answer: RestoreAnswer, value: &mut [u8]) -> 
     let outcome = answer.outcome;
     let state = answer.state;
     let number = runs::outcome_number(outcome);
-    let fresh = test_states::digest_of(0, state) == test_states::digest_of(0, upd546::fresh_state());
+    let fresh = test_states::digest_of(0, state)
+        == test_states::digest_of(0, upd546::fresh_state());
     let h = test_states::digest_of(test_stream::mixed(s.digest, number as u64), state);
     keep(value, state, (c.value != LIST) | (number == 0));
     answers::restore_answered(c, s, number, h, fresh)
