@@ -1,0 +1,12 @@
+pub mod FirstRecords
+pub mod Ends
+pub mod Smallest
+pub mod Order
+pub mod EveryAnswer
+pub mod NoStop
+pub mod Finding
+pub mod Shared
+pub mod Returns
+pub mod Watching
+pub mod Searching
+pub mod Figures
