@@ -1,7 +1,7 @@
 /* What a call costs.
 
        cost          prints the time of a call, in nanoseconds
-       cost stack    prints the stack that a call takes, and fails above the 3 KiB that the header names
+       cost stack    prints the stack that a call takes, and a search, and fails above the 3 and 4 KiB that the header names
        cost calls COUNT RECORDS N
                      makes so many calls of n cycles with so many records ahead, and prints nothing: for counting instructions
        cost store    prints the time of storing and recalling, in nanoseconds
@@ -13,6 +13,12 @@
                      calls, by wharfnettle_call on each panel for its sixteenth. Even panels are loads of request R-4 with all their records,
                      odd ones wait on their timer. tests/reference/examples/bank.rs does the same
        cost bank     prints the time of a round, in nanoseconds
+       cost shortest COUNT RECORDS N HOW
+                     makes so many searches with so many records, all of which matter, and trials of n cycles, and prints nothing; it ends
+                     with 0 where each finds them all. HOW is round, of a panel that comes back to its state after a few cycles, or count,
+                     of one that counts through five words of its RAM, and doesn't come back for 6,000,000 cycles
+       cost searches FILE
+                     makes the search of a panel's file as program `trace` reads it, and prints number and k
 
    board/build DIR && gcc -std=c11 -O2 board/cost.c -I DIR -L DIR -lwharfnettle -o DIR/cost && DIR/cost */
 #define _DEFAULT_SOURCE
@@ -24,7 +30,7 @@
 #include <ucontext.h>
 #include "wharfnettle.h"
 
-enum { RECORDS = 4096, SLICE = 100, STACK = 64 * 1024, ALLOWED = 3072, UNUSED = 0xA5, ENTRIES = 200, LARGEST = 1600000 };
+enum { RECORDS = 4096, SLICE = 100, STACK = 64 * 1024, ALLOWED = 3072, ALLOWED_SEARCH = 4096, UNUSED = 0xA5, ENTRIES = 200, LARGEST = 1600000 };
 
 /* The first two landings of samples/lobby.panel, in a loop. And a timer of STM 63 that turns port F over when it has run out. */
 static const uint8_t lobby[] = {0x54, 0xC4, 0x85, 0x70, 0x81, 0x50, 0xC9, 0x85, 0x60, 0x55, 0xCD, 0x85, 0x71, 0x81, 0x51, 0xD2, 0x85, 0x61, 0xC0};
@@ -204,6 +210,36 @@ static int make_rounds(unsigned long count, uint64_t cycles, void (*function)(vo
     return number;
 }
 
+/* The log of a search, for n cycles. */
+static uint8_t *search_log;
+static uint8_t found[WHARFNETTLE_FOUND];
+
+static void search(void)
+{
+    number = wharfnettle_shortest(image, sizeof image, rom, rom_bytes, schedule, schedule_length, n, search_log, WHARFNETTLE_LOG(n), found,
+                                  sizeof found, rom_bytes, rows, levels);
+}
+
+/* Panels that go on as long as bit 0 of port A is 0, and then stop: so many records in the first cycles, the last of which sets the bit.
+   Each trial with fewer goes on to its end. The first one looks at the bit and nothing else. The other one counts up in RAM in between:
+   LDZ, INM, and JCP to the look unless the word became 0, for each of five words. */
+static const uint8_t rounds[] = {0x54, 0xC0, 0x45};
+static const uint8_t counter[] = {0x80, 0x1D, 0xCF, 0x81, 0x1D, 0xCF, 0x82, 0x1D, 0xCF, 0x83, 0x1D, 0xCF, 0x84, 0x1D, 0xCF, 0x54, 0xC0, 0x45};
+
+static void begin_search(const uint8_t *code, size_t length, size_t records, uint64_t cycles)
+{
+    begin(code, length, records, 0);
+    for (size_t k = 0; k < records; k++)
+        schedule[10 * k + 6] = k + 1 == records ? 0x10 : 0;
+    n = cycles;
+    free(search_log);
+    search_log = malloc(WHARFNETTLE_LOG(n) + 1);
+    if (!search_log) {
+        perror("cost");
+        exit(1);
+    }
+}
+
 /* The least time of a call over many rounds of about a millisecond, so that other work on the machine counts little. */
 static double nanoseconds(void (*function)(void))
 {
@@ -307,9 +343,16 @@ static int print_stack(void)
         size_t depth = depth_of(run_round);
         deepest = depth > deepest ? depth : deepest;
     }
-    size_t taken = deepest > base ? deepest - base : 0;
-    printf("stack: a call takes %zu bytes, %d are allowed\n", taken, ALLOWED);
-    return taken > ALLOWED;
+    size_t searched = 0;
+    for (size_t records = 0; records <= 40; records++)
+        for (int counting = 0; counting < 2; counting++) {
+            begin_search(counting ? counter : rounds, counting ? sizeof counter : sizeof rounds, records, 30 * SLICE);
+            size_t depth = depth_of(search);
+            searched = depth > searched ? depth : searched;
+        }
+    size_t taken = deepest > base ? deepest - base : 0, taken_searching = searched > base ? searched - base : 0;
+    printf("stack: a call takes %zu bytes and a search %zu, %d and %d are allowed\n", taken, taken_searching, ALLOWED, ALLOWED_SEARCH);
+    return taken > ALLOWED || taken_searching > ALLOWED_SEARCH;
 }
 
 /* So many calls of the first panel on the plain runner. */
@@ -345,6 +388,42 @@ static void print_bank(void)
     }
 }
 
+/* So many searches for the last of so many records. */
+static int make_searches(unsigned long count, size_t records, uint64_t cycles, int counting)
+{
+    begin_search(counting ? counter : rounds, counting ? sizeof counter : sizeof rounds, records < RECORDS ? records : RECORDS, cycles);
+    int wrong = 0;
+    while (count--) {
+        search();
+        wrong |= number != 23 || wharfnettle_records(found) != schedule_length / 10;
+    }
+    return wrong;
+}
+
+/* The search of a panel's file: n in 4 bytes, 2,000 bytes of ROM, and the schedule. */
+static int search_file(const char *path)
+{
+    uint8_t head[4];
+    FILE *file = fopen(path, "rb");
+    begin_search(rounds, sizeof rounds, 0, 0);
+    if (!file || fread(head, 1, sizeof head, file) != sizeof head || fread(rom, 1, sizeof rom, file) != sizeof rom) {
+        fprintf(stderr, "cost: %s is no panel\n", path);
+        return 1;
+    }
+    schedule_length = fread(schedule, 1, sizeof schedule, file);
+    fclose(file);
+    n = (uint64_t)head[0] << 24 | (uint64_t)head[1] << 16 | (uint64_t)head[2] << 8 | head[3];
+    free(search_log);
+    search_log = malloc(WHARFNETTLE_LOG(n) + 1);
+    if (!search_log) {
+        perror("cost");
+        return 1;
+    }
+    search();
+    printf("%d %llu\n", number, (unsigned long long)wharfnettle_records(found));
+    return 0;
+}
+
 static void print_stores(void)
 {
     static const size_t sizes[] = {1, 16, ENTRIES};
@@ -368,6 +447,11 @@ int main(int count, char **words)
         print_bank();
         return 0;
     }
+    if (count == 6 && !strcmp(words[1], "shortest"))
+        return make_searches(strtoul(words[2], NULL, 10), strtoul(words[3], NULL, 10), strtoull(words[4], NULL, 10),
+                             !strcmp(words[5], "count"));
+    if (count == 3 && !strcmp(words[1], "searches"))
+        return search_file(words[2]);
     if (count == 2 && !strcmp(words[1], "store")) {
         print_stores();
         return 0;

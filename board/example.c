@@ -1,6 +1,6 @@
 /* A board's program in small: the call lamp of samples/lamp.panel in slices of 50 machine cycles, with the building switched off after each
    of them; the same lamp, reset from the machine room; a panel that stops; what a damaged image answers; and an image from before there was
-   a reset, taken forward and back; a panel with a smaller chip; and states to come back to. example.out has what it prints. */
+   a reset, taken forward and back; a panel with a smaller chip; states to come back to; and the line changes that matter to a panel that halts. example.out has what it prints. */
 #include <inttypes.h>
 #include <stdio.h>
 #include <string.h>
@@ -220,6 +220,35 @@ static void returns(void)
     printf("a store with a name twice: %d\n", recall("fresh   ", image));
 }
 
+/* TPA 0, JCP 000, TPA 1, JCP 002, and code 1C: the panel waits for the button, then for the car, and halts. */
+static const uint8_t halting_rom[WHARFNETTLE_ROM] = {0x54, 0xC0, 0x55, 0xC2, 0x1C};
+
+/* How many of the first records of the lamp's schedule halt it. */
+static void find(const char *words, const uint8_t *image, uint64_t n, size_t log_length)
+{
+    uint8_t log[WHARFNETTLE_LOG(CYCLES)], found[WHARFNETTLE_FOUND];
+    uint8_t number = wharfnettle_shortest(image, WHARFNETTLE_IMAGE, halting_rom, sizeof halting_rom, lamp_schedule, sizeof lamp_schedule, n,
+                                          log, log_length, found, sizeof found, WHARFNETTLE_UPD546);
+    printf("%s: number %d, records %" PRIu64 "\n", words, number, wharfnettle_records(found));
+}
+
+/* The car leaves at cycle 106: that line change doesn't matter. The three before it do. */
+static void matters(void)
+{
+    uint8_t image[WHARFNETTLE_IMAGE], kept[WHARFNETTLE_IMAGE], found[WHARFNETTLE_FOUND - 1];
+    wharfnettle_fresh(image, sizeof image);
+    memcpy(kept, image, sizeof kept);
+    find("a panel that halts", image, CYCLES, WHARFNETTLE_LOG(CYCLES));
+    find("up to the car", image, 100, WHARFNETTLE_LOG(CYCLES));
+    find("with a log a byte short", image, CYCLES, WHARFNETTLE_LOG(CYCLES) - 1);
+    printf("the image is %s\n", memcmp(image, kept, sizeof image) ? "NOT the same" : "the same");
+    image[0] = 'u';
+    find("an image that begins with u43", image, CYCLES, WHARFNETTLE_LOG(CYCLES));
+    printf("seven bytes for the records: %d\n",
+           wharfnettle_shortest(kept, sizeof kept, halting_rom, sizeof halting_rom, lamp_schedule, sizeof lamp_schedule, 0, NULL, 0, found,
+                                sizeof found, WHARFNETTLE_UPD546));
+}
+
 int main(void)
 {
     slices();
@@ -238,5 +267,6 @@ int main(void)
     converted();
     smaller();
     returns();
+    matters();
     return 0;
 }

@@ -12,11 +12,11 @@
 #include "wharfnettle.h"
 
 enum { PAGE = 4096, GUARD = 64, GUARDS = 0xA5, LONGEST = 1 << 16 };
-enum { FRESH = 1, NEW_ROM = 2, NEW_SCHEDULE = 4, NULLS = 8, CONVERT = 16, KEEP = 32, RECALL = 64, ROUND = 128 };
+enum { FRESH = 1, NEW_ROM = 2, NEW_SCHEDULE = 4, NULLS = 8, CONVERT = 16, KEEP = 32, RECALL = 64, ROUND = 128, SHORTEST = 256 };
 enum { IMAGE, ROM, SCHEDULE, LOG, REPORT, STORE, NAME, BANK, PARTS };
 
 static const char *const names[PARTS] = {"image", "ROM", "schedule", "log", "report", "store", "name", "bank"};
-static const uint8_t numbers[] = {0, 1, 2, 3, 11, 12, 13, 14, 21, 22, 23, 31, 32, 33, 34, 51, 52, 53, 54, 61, 62, 63, 71};
+static const uint8_t numbers[] = {0, 1, 2, 3, 11, 12, 13, 14, 21, 22, 23, 31, 32, 33, 34, 51, 52, 53, 54, 61, 62, 63, 71, 81, 82};
 
 /* A part of a call. */
 struct part {
@@ -122,7 +122,9 @@ static unsigned one_call(void)
     for (size_t i = 0; i < log->length; i++)
         log->before[i] = (uint8_t)(7 * i + fill);
     memcpy(log->due, log->before, log->length);
-    get(log->due, written);
+    /* The bytes that trials were lent are free afterwards. */
+    if (!(flags & SHORTEST))
+        get(log->due, written);
     get(store->due, store->length);
     get(bank->due, bank->length);
     memcpy(key->due, key->before, key->length);
@@ -149,6 +151,12 @@ static unsigned one_call(void)
         name = "wharfnettle_round";
         number = wharfnettle_round(bank->bytes, bank->length, rom->bytes, rom->length, schedule->bytes, schedule->length, log->bytes,
                                    log->length, n, rom_bytes, rows, levels);
+    } else if (flags & SHORTEST) {
+        name = "wharfnettle_shortest";
+        number = wharfnettle_shortest(image->bytes, image->length, rom->bytes, rom->length, schedule->bytes, schedule->length, n,
+                                      log->bytes, log->length, report->bytes, report->length, rom_bytes, rows, levels);
+        if (written)
+            memcpy(log->due, log->bytes, written);
     } else {
         number = wharfnettle_call(image->bytes, image->length, rom->bytes, rom->length, schedule->bytes, schedule->length, log->bytes,
                                   log->length, n, runner, report->bytes, report->length, rom_bytes, rows, levels);

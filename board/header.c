@@ -15,6 +15,7 @@
 static uint8_t image[WHARFNETTLE_IMAGE], again[WHARFNETTLE_IMAGE], old[WHARFNETTLE_OLD_IMAGE];
 static uint8_t records[WHARFNETTLE_LOG(1000)], report[WHARFNETTLE_REPORT], store[2 * WHARFNETTLE_ENTRY];
 static uint8_t bank[2 * WHARFNETTLE_PANEL], roms[2 * WHARFNETTLE_ROM];
+static uint8_t found[WHARFNETTLE_FOUND];
 MUST(sizeof records == 16000);
 MUST(WHARFNETTLE_LOG(0) == 0);
 MUST(2 * WHARFNETTLE_LOG(1 + 2) == 96);
@@ -123,5 +124,11 @@ int main(void)
          "ROMs that aren't all there");
     hold(wharfnettle_round(bank, sizeof bank - 1, roms, sizeof roms, NULL, 0, records, sizeof records, 20, WHARFNETTLE_UPD546) == 63,
          "a torn bank");
+    wharfnettle_fresh(image, sizeof image);
+    hold(wharfnettle_shortest(image, sizeof image, rom, sizeof rom, NULL, 0, 10, records, sizeof records, found, sizeof found,
+                              WHARFNETTLE_UPD546) == 23 && wharfnettle_records(found) == 0 && cycle() == 0,
+         "a panel that stops without a record is found, and left");
+    hold(wharfnettle_shortest(image, sizeof image, rom, sizeof rom, NULL, 0, 10, records, WHARFNETTLE_LOG(10) - 1, found, sizeof found,
+                              WHARFNETTLE_UPD546) == 81, "a search is lent a log of 16n bytes");
     return wrong;
 }

@@ -35,6 +35,7 @@ extern "C" {
 #define WHARFNETTLE_ENTRY 90          /* an entry of a store, a name and an image; a store has some of them, else 51 */
 #define WHARFNETTLE_PANEL 147         /* an entry of a bank, a panel with what it needs and what it did; a bank has some of them, else 63 */
 #define WHARFNETTLE_PANELS 16         /* at most, else 61 */
+#define WHARFNETTLE_FOUND 8           /* at least, else 1 */
 
 /*
  * The sheet of a chip, three numbers that are given last. It isn't kept in the image: the board knows its chip, and gives the same sheet
@@ -60,7 +61,7 @@ extern "C" {
  *
  *   number   whose hand                  what it says
  *   0                                    all n cycles are done
- *   1        the caller                  the report of the board's call has under 32 bytes; a buffer is shorter than its image
+ *   1        the caller                  the report of the board's call has under 32 bytes; a buffer is shorter than its image, or than the 8 bytes of k
  *   2        the caller                  the panel's cycle number and n together pass 2^48 - 1
  *   3        the caller                  a stop: the log lacks the 8 or 16 bytes of the next instruction, or the 8 of a reset
  *   11       whoever wrote the schedule  the schedule's length is no multiple of 10
@@ -82,6 +83,8 @@ extern "C" {
  *   62       the caller                  the lengths of a bank's ROMs, schedules or logs together exceed their buffer
  *   63       the caller                  the bank's length is no multiple of 147
  *   71       whoever wrote the sheet     the sheet is outside its limits: ROM bytes 1 to 2,000, rows 0 to 31, levels 1 to 3
+ *   81       the caller                  the log for the trials has under 16 bytes for each machine cycle
+ *   82       the caller                  the panel doesn't stop: with the whole schedule it finishes its n cycles
  *
  * A stop (3, 22, 23) leaves the panel before the instruction that wasn't begun. Image, log and report are those of the cycles up to
  * there, and a call may go on: after 3 with a new log, after 22 and 23 it stops at once again.
@@ -116,7 +119,7 @@ static inline int wharfnettle_is_refusal(int number)
  *   - each pointer leads to as many bytes as its length says; where the length is 0 it isn't used, and may be NULL;
  *   - image, log and report overlap neither each other nor rom or schedule;
  *   - while the call runs nobody else writes any of them, or reads image, log or report;
- *   - there are 3 KiB of stack.
+ *   - there are 3 KiB of stack, and 4 for wharfnettle_shortest.
  *
  * The call allocates nothing, calls nothing and keeps nothing, so calls with different buffers may run at the same time. The time that
  * it takes grows with n and with the schedule, which is checked whole at each call.
@@ -238,6 +241,39 @@ uint8_t wharfnettle_round(uint8_t *bank, size_t bank_length,
                           uint64_t t,
                           uint64_t rom_bytes, uint64_t rows, uint64_t levels);
 
+/*
+ * The shortest schedule that still stops. Of a panel that stops with 22 or 23 it finds the beginning of the schedule that matters: the
+ * smallest k such that the run with only the first k records stops with the same number as with all of them. With every smaller k the run
+ * finishes or stops otherwise. A k above it may finish too.
+ *
+ *     uint8_t found[WHARFNETTLE_FOUND];
+ *     uint8_t number = wharfnettle_shortest(image, sizeof image, rom, WHARFNETTLE_ROM, schedule, schedule_length, 1000,
+ *                                           log, sizeof log, found, sizeof found, WHARFNETTLE_UPD546);
+ *     uint64_t k = wharfnettle_records(found);
+ *
+ * image      read: the panel from which each run goes
+ * rom        read
+ * schedule   read
+ * n          the machine cycles of each run
+ * log        lent to each run, with its first WHARFNETTLE_LOG(n) bytes, which hold nothing of use afterwards; bytes past them stay
+ * found      written: k, 8 bytes, big-endian; zeros where the number is neither 22 nor 23; bytes past the 8 stay
+ * rom_bytes, rows, levels   the sheet
+ *
+ * Answers 22 or 23, the number of the stop; or, in this order, 1 where `found` has under 8 bytes, which is then not written; 71; 31, 32, 33
+ * and 34 of the image; 21, 12, 11, 13 and 14, 2; 81 where the log is shorter than WHARFNETTLE_LOG(n) bytes; 82 where the run with the whole
+ * schedule finishes, so that there is nothing to find. Up to 81 the log stays as it was. The parts that are written must not overlap the
+ * others, and what holds of wharfnettle_call's pointers holds of these.
+ *
+ * It makes a run of up to n cycles for each number of records up to k: docs/MEASUREMENTS.md has what that costs.
+ */
+uint8_t wharfnettle_shortest(const uint8_t *image, size_t image_length,
+                             const uint8_t *rom, size_t rom_length,
+                             const uint8_t *schedule, size_t schedule_length,
+                             uint64_t n,
+                             uint8_t *log, size_t log_length,
+                             uint8_t *found, size_t found_length,
+                             uint64_t rom_bytes, uint64_t rows, uint64_t levels);
+
 /* The counts of a report. */
 enum wharfnettle_count {
     WHARFNETTLE_CYCLES,
@@ -280,6 +316,12 @@ static inline void wharfnettle_set(uint8_t *panel, uint64_t wish, uint64_t rom, 
     for (int k = 0; k < 64; k++)
         panel[82 + k] = (uint8_t)(numbers[k / 8] >> (56 - 8 * (k % 8)));
     panel[146] = 0;
+}
+
+/* k of wharfnettle_shortest. */
+static inline uint64_t wharfnettle_records(const uint8_t *found)
+{
+    return wharfnettle_count(found, WHARFNETTLE_CYCLES);
 }
 
 #ifdef __cplusplus

@@ -197,6 +197,22 @@ mod c {
             rows: u64,
             levels: u64,
         ) -> u8;
+        pub fn wharfnettle_shortest(
+            image: *const u8,
+            image_length: usize,
+            rom: *const u8,
+            rom_length: usize,
+            schedule: *const u8,
+            schedule_length: usize,
+            n: u64,
+            log: *mut u8,
+            log_length: usize,
+            found: *mut u8,
+            found_length: usize,
+            rom_bytes: u64,
+            rows: u64,
+            levels: u64,
+        ) -> u8;
     }
 }
 
@@ -386,6 +402,56 @@ pub fn round(
         )
     };
     done(number)
+}
+
+/// What is found of a panel that stops.
+#[derive(Clone, Copy, PartialEq, Eq, Debug)]
+pub struct Found {
+    /// The number of the stop, 22 or 23.
+    pub number: u8,
+    /// The smallest number of records, from the first one on, with which it still stops so.
+    pub records: u64,
+}
+
+/// The shortest schedule with which the panel of an image still stops as it does with all of it, within n cycles. Each run is lent the
+/// first [`log_bytes`] of n of the log, which hold nothing of use afterwards. Slices of any length and content may be given; what is wrong
+/// is answered: 71, the image's refusals and the run's, 81 where the log is shorter than that, and 82 where the panel doesn't stop.
+pub fn shortest(
+    image: &[u8],
+    rom: &[u8],
+    schedule: &[u8],
+    n: u64,
+    log: &mut [u8],
+    sheet: Sheet,
+) -> Result<Found, u8> {
+    let mut found = [0; 8];
+    // SAFETY: each pointer leads to as many bytes as the length behind it says. `log` and `found` are borrowed
+    // to be written, so they overlap nothing and nobody else uses them.
+    let number = unsafe {
+        c::wharfnettle_shortest(
+            image.as_ptr(),
+            image.len(),
+            rom.as_ptr(),
+            rom.len(),
+            schedule.as_ptr(),
+            schedule.len(),
+            n,
+            log.as_mut_ptr(),
+            log.len(),
+            found.as_mut_ptr(),
+            found.len(),
+            sheet.rom_bytes,
+            sheet.rows,
+            sheet.levels,
+        )
+    };
+    match number {
+        22 | 23 => Ok(Found {
+            number,
+            records: u64::from_be_bytes(found),
+        }),
+        _ => Err(number),
+    }
 }
 
 fn done(number: u8) -> Result<(), u8> {

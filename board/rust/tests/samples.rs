@@ -5,8 +5,8 @@ use std::fs;
 use std::path::{Path, PathBuf};
 
 use wharfnettle::{
-    back, call, forward, fresh_image, last_round, log_bytes, recall, round, store, Answer, Counts,
-    End, Image, Needs, Runner, Sheet, ENTRY, NAME, PANEL, ROM,
+    back, call, forward, fresh_image, last_round, log_bytes, recall, round, shortest, store,
+    Answer, Counts, End, Found, Image, Needs, Runner, Sheet, ENTRY, NAME, PANEL, ROM,
 };
 
 const UPD546: Sheet = Sheet::UPD546;
@@ -491,4 +491,42 @@ fn a_bank_that_is_refused_is_left() {
         .map(|entry| last_round(entry.try_into().unwrap()).end)
         .collect();
     assert_eq!(ends, [End::Finished, End::Refused(32), End::Finished]);
+}
+
+/// A panel that waits for bit 0 of port A, then for bit 1, and halts: of many line changes those up to the second matter.
+#[test]
+fn the_line_changes_that_matter() {
+    const N: u64 = 2_000;
+    let mut rom = vec![0; ROM];
+    rom[..5].copy_from_slice(&[0x54, 0xC0, 0x55, 0xC2, 0x1C]);
+    let values = [0, 4, 0, 1, 5, 0, 8, 2, 0, 3, 1, 0];
+    let record = |(cycle, value): (u8, &u8)| [0, 0, 0, 0, 0, cycle, value << 4, 0, 1, 0];
+    let schedule: Vec<u8> = (10..).step_by(9).zip(&values).flat_map(record).collect();
+    let image = fresh_image();
+    let mut log = vec![7; log_bytes(N as usize) + 5];
+    let found =
+        |schedule: &[u8], n: u64, log: &mut [u8]| shortest(&image, &rom, schedule, n, log, UPD546);
+    let due = Found {
+        number: 23,
+        records: 8,
+    };
+    assert_eq!(found(&schedule, N, &mut log), Ok(due));
+    assert_eq!(log[log_bytes(N as usize)..], [7; 5]);
+    assert_eq!(found(&schedule[..80], N, &mut log), Ok(due));
+    // Without the eighth it goes on waiting.
+    assert_eq!(found(&schedule[..70], N, &mut log), Err(82));
+    let mut short = vec![7; log_bytes(N as usize) - 1];
+    assert_eq!(found(&schedule, N, &mut short), Err(81));
+    assert_eq!(found(&schedule[..75], N, &mut short), Err(11));
+    assert!(short.iter().all(|&byte| byte == 7));
+    assert_eq!(
+        shortest(&image, &rom, &schedule, N, &mut log, HALF),
+        Err(21)
+    );
+    assert_eq!(shortest(&[], &rom, &schedule, N, &mut log, UPD546), Err(31));
+    let bad = Sheet {
+        levels: 4,
+        ..UPD546
+    };
+    assert_eq!(shortest(&[], &[], &[0], u64::MAX, &mut [], bad), Err(71));
 }
