@@ -31,16 +31,10 @@ pub fn call(
     };
     // "zeros on a refusal"
     report.fill(0);
-    if !sheet.is_legal() {
-        return SHEET;
-    }
-    if image.len() != Version::Two.length() {
-        return IMAGE_LENGTH;
-    }
-    let (number, state) = restore(image, sheet);
-    if number != FINISHED {
-        return number;
-    }
+    let state = match panel(image, sheet) {
+        Ok(state) => state,
+        Err(number) => return number,
+    };
     let answer = run(runner_of(runner), rom, schedule, &state, log, n, sheet);
     if answer.refused {
         return answer.number;
@@ -53,6 +47,20 @@ pub fn call(
     let saved = save(Version::Two, &answer.state, image, sheet);
     assert_eq!(saved, FINISHED, "the state that a run answers is saved");
     answer.number
+}
+
+/// The state of a board's image, which is one of version 2.
+pub(crate) fn panel(image: &[u8], sheet: Sheet) -> Result<State, u8> {
+    if !sheet.is_legal() {
+        return Err(SHEET);
+    }
+    if image.len() != Version::Two.length() {
+        return Err(IMAGE_LENGTH);
+    }
+    match restore(image, sheet) {
+        (FINISHED, state) => Ok(state),
+        (number, _) => Err(number),
+    }
 }
 
 /// "a runner (0 plain, any other timer-skipping)".

@@ -1,8 +1,9 @@
 //! A reference interpreter of the uPD546 as document 01 defines it: one machine cycle after the
-//! other, on a state that is changed in place. `waiting`, `call`, `load`, `store` and `bank` are requests
-//! and R-9 of document 02; stand where they change document 01. `case`, `codes`, `draw`, `kinds`, `maker`,
-//! `mnemonics`, `sheets` and `show` are no part of either: what the programs that make trials share, and the tests.
+//! other, on a state that is changed in place. `waiting`, `call`, `load`, `store`, `bank` and `shortest` are requests,
+//! of document 02; stand where they change document 01. `asking`, `case`, `codes`, `draw`, `kinds`,
+//! `maker`, `mnemonics`, `sheets` and `show` are no part of either: what the programs that make trials share, and the tests.
 
+pub mod asking;
 pub mod bank;
 pub mod call;
 pub mod case;
@@ -23,6 +24,7 @@ mod runners;
 mod schedule;
 mod sheet;
 pub mod sheets;
+pub mod shortest;
 mod show;
 pub mod store;
 mod timer;

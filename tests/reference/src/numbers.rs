@@ -4,7 +4,7 @@
 pub const FINISHED: u8 = 0;
 
 // The caller.
-/// Refusal: image buffer under the version's length, 81 or 82 bytes; of request R-3's call, a report under 32 bytes.
+/// Refusal: image buffer under the version's length, 81 or 82 bytes; of request R-3's call, a report under 32; of R-12's, under 8 for k.
 pub const SHORT_BUFFER: u8 = 1;
 /// Refusal: cycle number + n above 2^48 - 1.
 pub const CYCLE_LIMIT: u8 = 2;
@@ -24,6 +24,10 @@ pub const MANY_PANELS: u8 = 61;
 pub const BUFFER_LENGTHS: u8 = 62;
 /// Refusal: the bytes of a bank are no multiple of an entry's.
 pub const BANK_LENGTH: u8 = 63;
+/// Refusal: the log is shorter than 16n bytes (request R-12).
+pub const LOG_SHORT: u8 = 81;
+/// Refusal: the full run finishes.
+pub const NOTHING_STOPS: u8 = 82;
 
 // Whoever wrote the schedule.
 /// Refusal: length no multiple of 10.

@@ -139,7 +139,13 @@ pub fn run_observed<O: Observer>(
 }
 
 /// "A run checks 21, 12, 11, 13/14, 34, 2"; R-11: 71 is "before all else".
-fn admit(rom: &[u8], schedule: &[u8], state: &State, n: u64, sheet: Sheet) -> Result<Chip, u8> {
+pub(crate) fn admit(
+    rom: &[u8],
+    schedule: &[u8],
+    state: &State,
+    n: u64,
+    sheet: Sheet,
+) -> Result<Chip, u8> {
     let chip = sheet.chip()?;
     if rom.len() != usize::from(chip.rom) {
         return Err(ROM_LENGTH);

@@ -1,12 +1,14 @@
 //! How the calls are drawn. A panel has a sheet, in one of two cases the uPD546's, and gets some dozens of calls, one after the other
-//! on its image; some keep the image in the panel's store, or recall one from it, and some run a bank. Most are sound, and some have a part that is damaged, or
+//! on its image; some keep the image in the panel's store, or recall one from it, some run a bank, and some search for the shortest schedule. Most are sound, and some have a part that is damaged, or
 //! another sheet.
 
+use reference::asking::questions;
 use reference::bank::{grants, ENTRY as PANEL, MOST};
 use reference::call::{convert, fresh};
 use reference::case::{reset_record, Case, FEW_JCP, FEW_JUMPS, INSIDE, NO_STOPS};
 use reference::draw::Draw;
 use reference::sheets::wrong;
+use reference::shortest::FOUND;
 use reference::store::{ENTRY, NAME};
 use reference::{restore, save, Sheet, Version};
 
@@ -23,10 +25,12 @@ pub enum Function {
     Store,
     Recall,
     Round,
+    Shortest,
 }
 
 /// All that a call is given. A conversion takes the image to the report's bytes, and n is its version. Store and name are empty where
-/// the function has none, and so is the bank. A round has the ROMs, schedules and logs of all its panels, and n is its T.
+/// the function has none, and so is the bank. A round has the ROMs, schedules and logs of all its panels, and n is its T. A search has
+/// the report's bytes for k.
 #[derive(Clone)]
 pub struct Drawn {
     pub function: Function,
@@ -88,12 +92,13 @@ impl Calls {
         self.left -= 1;
         let draw = &mut self.draw;
         let mut drawn = Drawn {
-            function: match draw.below(50) {
+            function: match draw.below(56) {
                 0 => Function::Fresh,
                 1..=4 => Function::Convert,
                 5..=10 => Function::Store,
                 11..=15 => Function::Recall,
                 16 => Function::Round,
+                17..=19 => Function::Shortest,
                 _ => Function::Call,
             },
             null: draw.one_in(2),
@@ -145,6 +150,9 @@ impl Calls {
         }
         drawn.n = cycles(draw, &drawn.image);
         drawn.log = log_length(draw, drawn.n);
+        if drawn.function == Function::Shortest {
+            search(draw, &mut drawn);
+        }
         drawn
     }
 
@@ -171,7 +179,8 @@ impl Calls {
             _ => {}
         }
         // A panel that stopped for good gets few calls more.
-        if matches!(number, 22 | 23) && self.draw.one_in(2) {
+        let stopped = drawn.function == Function::Call && matches!(number, 22 | 23);
+        if stopped && self.draw.one_in(2) {
             self.left = 0;
         }
     }
@@ -221,6 +230,29 @@ impl Calls {
             let entries = draw.of(&[0, 1, 2, 3, 3, 4, 5, 16]);
             self.store = vec![0; entries * ENTRY];
         }
+    }
+}
+
+/// A buffer for k, and mostly few records: each may be tried. One in two is of a new panel that asks its lines.
+fn search(draw: &mut Draw, drawn: &mut Drawn) {
+    drawn.report = match draw.below(8) {
+        0 => draw.below(FOUND as u64) as usize,
+        1 => FOUND + draw.below(9) as usize,
+        _ => FOUND,
+    };
+    if draw.one_in(2) {
+        for (byte, asks) in drawn.rom.iter_mut().zip(questions(draw)) {
+            *byte = asks;
+        }
+        drawn.image = vec![0; IMAGE];
+        fresh(&mut drawn.image);
+        drawn.schedule = schedule(draw, 0);
+        drawn.n = draw.below(300);
+        drawn.log = log_length(draw, drawn.n);
+    }
+    if !draw.one_in(16) {
+        let torn = drawn.schedule.len() % 10;
+        drawn.schedule.truncate(400 + torn);
     }
 }
 

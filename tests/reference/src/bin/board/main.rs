@@ -11,18 +11,19 @@
 //!
 //! | number | what |
 //! |---|---|
-//! | 0 | 1 for `wharfnettle_fresh`, 16 for `wharfnettle_convert`, 32 for `wharfnettle_store`, 64 for `wharfnettle_recall`, 128 for `wharfnettle_round`, else 0; plus 2 where a ROM follows, 4 where a schedule follows, 8 where a part of length 0 has a null pointer |
+//! | 0 | 1 for `wharfnettle_fresh`, 16 for `wharfnettle_convert`, 32 for `wharfnettle_store`, 64 for `wharfnettle_recall`, 128 for `wharfnettle_round`, 256 for `wharfnettle_shortest`, else 0; plus 2 where a ROM follows, 4 where a schedule follows, 8 where a part of length 0 has a null pointer |
 //! | 1 to 8 | lengths of image, ROM, schedule, log, report, store, name and bank |
 //! | 9, 10 | n, runner |
 //! | 11 | f: before the call, byte i of log and report is (7 i + f) modulo 256 |
 //! | 12 | the number due |
-//! | 13 | w: the log's bytes from w on are due as they were |
+//! | 13 | w: the log's bytes from w on are due as they were; of `wharfnettle_shortest` those before are any |
 //! | 14 to 16 | the sheet: ROM bytes, rows, levels |
 //!
 //! The bytes are the image given; the ROM and the schedule, where they follow, else they are those of
 //! the call before; the store, the name and the bank; then what is due: the image, the report, the first w bytes of
-//! the log, the store, the bank. A conversion takes the image to the bytes of the report, and n is the version. A round has
-//! n cycles for all, and ROM, schedule and log are those of all its panels.
+//! the log, but of `wharfnettle_shortest` none, the store, the bank. A conversion takes the image to the bytes of the report, and n is the version. A round has
+//! n cycles for all, and ROM, schedule and log are those of all its panels. The
+//! report of `wharfnettle_shortest` is the buffer for k.
 
 mod drawn;
 
@@ -34,6 +35,7 @@ use drawn::{Calls, Drawn, Function};
 use reference::bank::round_bytes;
 use reference::call::{call, convert, fresh};
 use reference::lent::Lent;
+use reference::shortest::{shortest_of_image, CYCLE_LOG};
 use reference::store::{recall_to, store};
 #[cfg(test)]
 use reference::Sheet;
@@ -75,6 +77,15 @@ fn due(drawn: &Drawn) -> Due {
             drawn.n,
             drawn.sheet,
         ),
+        Function::Shortest => shortest_of_image(
+            &image,
+            &drawn.rom,
+            &drawn.schedule,
+            drawn.n,
+            &mut log,
+            &mut report,
+            drawn.sheet,
+        ),
         Function::Call => call(
             &mut image,
             &drawn.rom,
@@ -105,14 +116,7 @@ fn write_calls(count: u64, seed: u64, out: &mut impl Write) -> io::Result<()> {
         let due = due(&drawn);
         let new_rom = drawn.rom != rom;
         let new_schedule = drawn.schedule != schedule;
-        let before = filled(drawn.log, drawn.fill);
-        let same = before
-            .iter()
-            .rev()
-            .zip(due.log.iter().rev())
-            .take_while(|(before, after)| before == after)
-            .count();
-        let written = drawn.log - same;
+        let written = written(&drawn, &due);
         put(
             out,
             &[
@@ -123,7 +127,8 @@ fn write_calls(count: u64, seed: u64, out: &mut impl Write) -> io::Result<()> {
                     | u64::from(drawn.function == Function::Convert) << 4
                     | u64::from(drawn.function == Function::Store) << 5
                     | u64::from(drawn.function == Function::Recall) << 6
-                    | u64::from(drawn.function == Function::Round) << 7,
+                    | u64::from(drawn.function == Function::Round) << 7
+                    | u64::from(drawn.function == Function::Shortest) << 8,
                 drawn.image.len() as u64,
                 drawn.rom.len() as u64,
                 drawn.schedule.len() as u64,
@@ -154,13 +159,26 @@ fn write_calls(count: u64, seed: u64, out: &mut impl Write) -> io::Result<()> {
         out.write_all(&drawn.bank)?;
         out.write_all(&due.image)?;
         out.write_all(&due.report)?;
-        out.write_all(&due.log[..written])?;
+        if drawn.function != Function::Shortest {
+            out.write_all(&due.log[..written])?;
+        }
         out.write_all(&due.store)?;
         out.write_all(&due.bank)?;
         calls.answered(&drawn, due.number, due.image, due.store, due.bank);
         (rom, schedule) = (drawn.rom, drawn.schedule);
     }
     out.flush()
+}
+
+/// Up to where the log is written, or may be: "whose bytes afterwards are free, also on 82".
+fn written(drawn: &Drawn, due: &Due) -> usize {
+    let before = filled(drawn.log, drawn.fill);
+    let pairs = before.iter().rev().zip(due.log.iter().rev());
+    let same = pairs.take_while(|(before, after)| before == after).count();
+    match (drawn.function, due.number) {
+        (Function::Shortest, 22 | 23 | 82) => (CYCLE_LOG * drawn.n) as usize,
+        _ => drawn.log - same,
+    }
 }
 
 fn put(out: &mut impl Write, numbers: &[u64]) -> io::Result<()> {
@@ -185,6 +203,7 @@ fn told(seed: u64, place: u64) -> String {
         Function::Store => "wharfnettle_store",
         Function::Recall => "wharfnettle_recall",
         Function::Round => "wharfnettle_round, with n cycles for all",
+        Function::Shortest => "wharfnettle_shortest, k to the report",
         Function::Call => "wharfnettle_call",
     };
     let mut text = format!(
@@ -272,7 +291,7 @@ mod tests {
     fn every_number_is_drawn() {
         let mut calls = Calls::new(1);
         let mut ended = [0; 256];
-        for _ in 0..20_000 {
+        for _ in 0..24_000 {
             let drawn = calls.next();
             let due = due(&drawn);
             ended[usize::from(due.number)] += 1;
@@ -280,6 +299,7 @@ mod tests {
         }
         for number in [
             0, 1, 2, 3, 11, 12, 13, 14, 21, 22, 23, 31, 32, 33, 34, 51, 52, 53, 54, 61, 62, 63, 71,
+            81, 82,
         ] {
             assert!(ended[number] >= 20, "{number}: {}", ended[number]);
         }
@@ -396,12 +416,45 @@ mod tests {
         assert!(again > 100, "{again}");
     }
 
+    /// Searches are refused by each of their numbers; of those that aren't, k is 0, some of the records and all of them, with either stop, and a
+    /// larger k may end otherwise.
+    #[test]
+    fn every_kind_of_search_is_drawn() {
+        let mut calls = Calls::new(1);
+        let (mut ended, mut none, mut some, mut whole, mut past) = ([0; 256], 0, 0, 0, 0);
+        for _ in 0..60_000 {
+            let drawn = calls.next();
+            let due = due(&drawn);
+            if drawn.function == Function::Shortest {
+                ended[usize::from(due.number)] += 1;
+                let room = written(&drawn, &due);
+                assert_eq!(due.log[room..], filled(drawn.log, drawn.fill)[room..]);
+                if matches!(due.number, 22 | 23) {
+                    let k = due.report[..8]
+                        .iter()
+                        .fold(0, |k, &b| k << 8 | usize::from(b));
+                    let records = drawn.schedule.len() / 10;
+                    none += usize::from(k == 0);
+                    some += usize::from(0 < k && k < records);
+                    whole += usize::from(0 < k && k == records);
+                    past += usize::from(drawn.log > room);
+                }
+            }
+            calls.answered(&drawn, due.number, due.image, due.store, due.bank);
+        }
+        for number in [1, 2, 11, 13, 14, 21, 22, 23, 31, 32, 33, 34, 71, 81, 82] {
+            assert!(ended[number] >= 8, "{number}: {}", ended[number]);
+        }
+        assert!(none > 50 && some > 20 && whole > 5, "{none} {some} {whole}");
+        assert!(past > 20, "{past}");
+    }
+
     /// Images with each count are run and converted, and resets are written.
     #[test]
     fn every_count_is_drawn() {
         let mut calls = Calls::new(1);
         let (mut called, mut converted, mut resets) = ([0; 5], [0; 5], 0);
-        for _ in 0..20_000 {
+        for _ in 0..24_000 {
             let drawn = calls.next();
             let due = due(&drawn);
             let (number, state) = restore(&drawn.image, drawn.sheet);
@@ -409,7 +462,7 @@ mod tests {
                 match drawn.function {
                     Function::Call => called[usize::from(state.count)] += 1,
                     Function::Convert => converted[usize::from(state.count)] += 1,
-                    Function::Fresh | Function::Store | Function::Recall | Function::Round => {}
+                    _ => {}
                 }
             }
             if drawn.function == Function::Call && due.number == 0 {

@@ -1,9 +1,10 @@
-//! What the three programs write of an input.
+//! What the four programs write of an input.
 
 use reference::call::{call, fresh, REPORT};
-use reference::numbers::{FINISHED, IMAGE_LENGTH};
+use reference::numbers::{FINISHED, IMAGE_LENGTH, ROM_LENGTH};
+use reference::shortest::{shortest, CYCLE_LOG};
 use reference::store::{recall, store};
-use reference::Sheet;
+use reference::{run as run_state, Runner, Sheet, State};
 
 const NAME: usize = 8;
 const COUNT: usize = 4;
@@ -17,6 +18,13 @@ const MOST_BYTES: usize = 63_000;
 
 /// The log of a run that is no refusal has at most so many bytes here.
 const LOG: usize = 1 << 22;
+
+/// The most cycles that `shortening` has a log for.
+const MOST_CYCLES: u64 = 400_000;
+
+/// The bytes of a record, and how many records `shortening` shows.
+const RECORD: usize = 10;
+const SHOWN: usize = 8;
 
 /// How a program ends.
 #[derive(Clone, Copy, PartialEq, Eq, Debug)]
@@ -138,4 +146,44 @@ fn run(mut image: Vec<u8>, panel: &[u8], n: u64) -> Answer {
     }
     log.truncate(usize::try_from(number(&report[16..24])).expect("it fits the log"));
     whole([log, image, vec![end]].concat())
+}
+
+/// A byte that says what is wanted, and a panel: the shortest schedule from the fresh state, as a text, or where the byte isn't 0 as a panel.
+pub fn shortening(input: &[u8]) -> Answer {
+    let Some((head, schedule)) = input.split_at_checked(1 + COUNT + ROM) else {
+        return refused(ROM_LENGTH);
+    };
+    let (count, rom) = head[1..].split_at(COUNT);
+    let (n, state) = (number(count), State::fresh());
+    let mut log = vec![0; (CYCLE_LOG * MOST_CYCLES) as usize];
+    let (stop, k) = shortest(rom, schedule, &state, n, &mut log, Sheet::UPD546);
+    if ![22, 23].contains(&stop) {
+        return refused(stop);
+    }
+    let kept = &schedule[..RECORD * k];
+    if head[0] != 0 {
+        return whole([count, rom, kept].concat());
+    }
+    let runner = Runner::Plain;
+    let stopped = run_state(runner, rom, kept, &state, &mut log, n, Sheet::UPD546).state;
+    let mut text = format!(
+        "stop {stop} cycle {} address {:03X}\n",
+        stopped.cycle, stopped.pc
+    );
+    text += &format!("records {k} of {}\n", schedule.len() / RECORD);
+    text += "record cycle A B C D INT RES\n";
+    let records = kept.chunks(RECORD).enumerate();
+    for (place, record) in records.skip(k.saturating_sub(SHOWN)) {
+        let (cycle, lines) = record.split_at(6);
+        let [ab, cd, int, res] = [0, 1, 2, 3].map(|line| lines[line]);
+        text += &format!("{} {} ", place + 1, number(cycle));
+        text += &format!(
+            "{:X} {:X} {:X} {:X} {int} {res}\n",
+            ab >> 4,
+            ab & 15,
+            cd >> 4,
+            cd & 15
+        );
+    }
+    whole(text.into_bytes())
 }

@@ -1,7 +1,9 @@
 //! The inputs: each refusal, in stores and images that are sound and damaged, and inputs that are cut.
 
 use crate::answers::End::{self, Mistaken, Refused, Whole};
-use reference::case::{panel as panel_of, record};
+use reference::asking::{asking, questions, values_from};
+use reference::case::{lines, panel as panel_of, record};
+use reference::draw::Draw;
 use reference::kinds::Kind;
 use reference::maker::sample;
 
@@ -36,6 +38,13 @@ pub const FORWARD: [Kind<Input>; 4] = [
     ("stops", stops),
     ("refused", not_run),
     ("cut", cut),
+];
+
+pub const SHORTENING: [Kind<Input>; 4] = [
+    ("stops", halts),
+    ("panels", shortened),
+    ("finishes", finishes),
+    ("refused", not_shortened),
 ];
 
 const ENTRY: usize = 90;
@@ -461,4 +470,206 @@ fn cut() -> Vec<Input> {
         )
     };
     vec![cut(0), cut(1), cut(8), cut(12), cut(13), cut(94)]
+}
+
+/// A panel whose shortest schedule is wanted, as a text or as a panel.
+pub fn wanted(panel: &[u8], shortened: u8) -> Vec<u8> {
+    [&[shortened], panel].concat()
+}
+
+/// A panel that asks port A in cycle 16: 0 goes round, 1 and 3 stop with 23, 2 with 22.
+fn asks(values: &[u8]) -> Vec<u8> {
+    panel_of(
+        60,
+        &[(0, &asking([0, 23, 22, 23]))],
+        &values_from(0, values),
+    )
+}
+
+/// TPB 0, JCP 000 and 1C: it halts when bit 0 of A is 1.
+const POLL: [u8; 3] = [0x50, 0xC0, 0x1C];
+
+/// Panels that halt.
+fn halting() -> Vec<(String, Vec<u8>)> {
+    let mut panels = vec![
+        (String::from("halt.panel"), sample("halt.panel")),
+        (String::from("again.panel"), sample("again.panel")),
+    ];
+    let mut add = |name: &str, panel: Vec<u8>| panels.push((String::from(name), panel));
+    add("no record", panel_of(1, &[(0, &[0x1C])], &[]));
+    add(
+        "no record, a byte above 7CF",
+        panel_of(9_000, &[(0, &[0xA7, 0xCF])], &[]),
+    );
+    add(
+        "no instruction at 7CF",
+        panel_of(9, &[(0, &[0xA7, 0xCF]), (0x7CF, &[0x45])], &[]),
+    );
+    for records in [1, 7, 8, 9, 10, 100] {
+        let values: Vec<u8> = (1..=records)
+            .map(|k| if k == records { 3 } else { 4 * (k % 4) as u8 })
+            .collect();
+        let panel = panel_of(300, &[(0, &POLL)], &values_from(0, &values));
+        add(&format!("all of {records} records"), panel);
+    }
+    add("some records", asks(&[0, 2, 1, 0, 3]));
+    add("all of some", asks(&[1, 0, 1, 2]));
+    add(
+        "4,096 records",
+        panel_of(
+            4_100,
+            &[(0, &POLL)],
+            &values_from(
+                0,
+                &[0; 4_095]
+                    .map(|_| 4)
+                    .iter()
+                    .chain(&[1])
+                    .copied()
+                    .collect::<Vec<u8>>(),
+            ),
+        ),
+    );
+    add(
+        "400,000 cycles",
+        panel_of(400_000, &[(0, &POLL)], &values_from(399_990, &[8, 0, 9])),
+    );
+    add(
+        "a late cycle",
+        panel_of(
+            70_000,
+            &[(0, &POLL)],
+            &lines(&[(65_535, 0x25, 0xAF, 0, 0), (65_536, 0x1E, 0x9B, 1, 0)]),
+        ),
+    );
+    add(
+        "a last cycle",
+        panel_of(
+            90,
+            &[(0, &POLL)],
+            &[record(5, 0xFE, 0xDC, 0), record((1 << 48) - 1, 0, 0, 1)].concat(),
+        ),
+    );
+    add(
+        "a reset",
+        panel_of(
+            90,
+            &[(0, &POLL)],
+            &lines(&[(5, 0, 0, 1, 1), (20, 0x10, 0, 1, 1), (40, 0x10, 0, 1, 0)]),
+        ),
+    );
+    let mut draw = Draw::new(1_212);
+    for k in 0..6 {
+        let (mut panel, mut number) = (Vec::new(), 0);
+        while number == 0 {
+            let records: Vec<u8> = (0..12).map(|_| draw.upto(15)).collect();
+            panel = panel_of(
+                200,
+                &[(0, &questions(&mut draw))],
+                &values_from(draw.below(20), &records),
+            );
+            let answer = crate::answers::shortening(&wanted(&panel, 0));
+            number = u8::from(
+                answer.end == Whole && !answer.text.windows(9).any(|word| word == b"records 0"),
+            );
+        }
+        panels.push((format!("drawn panel {k}"), panel));
+    }
+    panels
+}
+
+fn halts() -> Vec<Input> {
+    let text = |(name, panel): (String, Vec<u8>)| input(&name, wanted(&panel, 0), Whole);
+    halting().into_iter().map(text).collect()
+}
+
+/// The same, each as a panel, by any byte but 0.
+fn shortened() -> Vec<Input> {
+    let bytes = [1, 255, 2, 128].into_iter().cycle();
+    let panel = |((name, panel), byte): ((String, Vec<u8>), u8)| {
+        input(&format!("{name}, shortened"), wanted(&panel, byte), Whole)
+    };
+    halting().into_iter().zip(bytes).map(panel).collect()
+}
+
+fn finishes() -> Vec<Input> {
+    let halt = sample("halt.panel");
+    vec![
+        input("lamp.panel", wanted(&sample("lamp.panel"), 0), Refused(82)),
+        input(
+            "lamp.panel, shortened",
+            wanted(&sample("lamp.panel"), 1),
+            Refused(82),
+        ),
+        input(
+            "no cycles",
+            wanted(&panel_of(0, &[(0, &[0x1C])], &[]), 0),
+            Refused(82),
+        ),
+        input(
+            "the cycle of the stop",
+            wanted(&[&4_449_u32.to_be_bytes(), &halt[4..]].concat(), 0),
+            Refused(82),
+        ),
+        input(
+            "six of the records of halt.panel",
+            wanted(&halt[..2_064], 0),
+            Refused(82),
+        ),
+        input(
+            "a beginning that stops",
+            wanted(&asks(&[1, 0]), 0),
+            Refused(82),
+        ),
+        input(
+            "400,000 cycles that go round",
+            wanted(&panel_of(400_000, &[(0, &POLL)], &[]), 1),
+            Refused(82),
+        ),
+    ]
+}
+
+fn not_shortened() -> Vec<Input> {
+    let halt = sample("halt.panel");
+    let mut inputs = Vec::new();
+    for (words, byte) in [("", 0), (", shortened", 1)] {
+        for (name, panel, number) in [
+            ("short.panel", sample("short.panel"), 21),
+            ("torn.panel", sample("torn.panel"), 11),
+            ("long.panel", sample("long.panel"), 12),
+            ("level.panel", sample("level.panel"), 13),
+            ("order.panel", sample("order.panel"), 14),
+            (
+                "400,001 cycles",
+                panel_of(400_001, &[(0, &[0x1C])], &[]),
+                81,
+            ),
+            (
+                "the most cycles",
+                panel_of(u32::MAX, &[(0, &POLL)], &values_from(0, &[1])),
+                81,
+            ),
+            (
+                "the most cycles of a torn schedule",
+                [&panel_of(u32::MAX, &[], &[])[..], &[0; 9]].concat(),
+                11,
+            ),
+            (
+                "a schedule that fills the buffer",
+                [&halt[..2_004], &[0; 70_000]].concat(),
+                12,
+            ),
+        ] {
+            inputs.push(input(
+                &format!("{name}{words}"),
+                wanted(&panel, byte),
+                Refused(number),
+            ));
+        }
+    }
+    for length in [0, 1, 4, 5] {
+        let cut = wanted(&halt, 1)[..length].to_vec();
+        inputs.push(input(&format!("{length} bytes"), cut, Refused(21)));
+    }
+    inputs
 }

@@ -1,10 +1,10 @@
-//! Programs `storing`, `recalling` and `forward`, which the front door runs on parts of files: what they write of an
+//! Programs `storing`, `recalling`, `forward` and `shortening`, which the front door runs on parts of files: what they write of an
 //! input, and the inputs on which they are tried.
 //!
 //! `states PROGRAM` reads an input from standard input and writes what the program has to write. `states PROGRAM files
 //! FOLDER` writes three files for each input K, `K NAME.input`, `K NAME.text` and `K NAME.said`: what the built program
 //! is given, and has to write and to say on standard error. `states PROGRAM list` names the inputs, `states PROGRAM show
-//! K` tells input K, `states counts` says how many there are of each kind, of all three.
+//! K` tells input K, `states counts` says how many there are of each kind, of all four.
 //!
 //! # The inputs
 //!
@@ -19,6 +19,8 @@
 //! | | 4 | the length of the image |
 //! | | | the image |
 //! | | all others | the panel, whose own n isn't looked at |
+//! | `shortening` | 1 | 0 a text, else the shortened panel is wanted |
+//! | | all others | the panel |
 
 mod answers;
 mod inputs;
@@ -40,7 +42,7 @@ struct Program {
     numbers: &'static [u8],
 }
 
-const PROGRAMS: [Program; 3] = [
+const PROGRAMS: [Program; 4] = [
     Program {
         name: "storing",
         answer: answers::storing,
@@ -58,6 +60,12 @@ const PROGRAMS: [Program; 3] = [
         answer: answers::forward,
         kinds: &inputs::FORWARD,
         numbers: &[2, 11, 12, 13, 14, 21, 31, 32, 33, 34],
+    },
+    Program {
+        name: "shortening",
+        answer: answers::shortening,
+        kinds: &inputs::SHORTENING,
+        numbers: &[11, 12, 13, 14, 21, 81, 82],
     },
 ];
 
@@ -160,7 +168,7 @@ fn main() -> ExitCode {
     match PROGRAMS.iter().find(named) {
         Some(program) => run(program, words[1..].to_vec()),
         None => {
-            eprintln!("states: counts, or storing, recalling or forward is wanted");
+            eprintln!("states: counts, or storing, recalling, forward or shortening is wanted");
             ExitCode::FAILURE
         }
     }
@@ -207,6 +215,38 @@ mod tests {
         assert_eq!(image, reference::maker::sample("full.image"));
         let (second, _) = split(answers::forward(&inputs::image(600, &image, &panel)).text);
         assert_eq!([first, second].concat(), reference::ports(&panel));
+    }
+
+    /// A shortened panel stops as the text says, and is its own shortest.
+    #[test]
+    fn a_shortened_panel_is_its_own() {
+        let halt = reference::maker::sample("halt.panel");
+        let short = answers::shortening(&inputs::wanted(&halt, 1)).text;
+        assert_eq!(short, halt[..2_074]);
+        assert_eq!(answers::shortening(&inputs::wanted(&short, 1)).text, short);
+        let text = |panel: &[u8]| answers::shortening(&inputs::wanted(panel, 0)).text;
+        let [long, short] =
+            [text(&halt), text(&short)].map(|text| String::from_utf8(text).expect("a text"));
+        assert_eq!(long.replace("records 7 of 87", "records 7 of 7"), short);
+        assert!(long.starts_with("stop 23 cycle 4449 address 044\nrecords 7 of 87\nrecord cycle A B C D INT RES\n1 100 1 0 0 0 1 0\n"));
+        assert!(long.ends_with("\n7 400 0 8 0 0 1 0\n"));
+    }
+
+    /// The last eight of the records are shown.
+    #[test]
+    fn eight_records_are_shown() {
+        for (records, shown) in [(1, 1), (8, 8), (9, 8), (100, 8)] {
+            let inputs = all_of(&inputs::SHORTENING);
+            let name = format!("all of {records} records");
+            let input = inputs
+                .iter()
+                .find(|input| input.name == name)
+                .expect("there is one");
+            let text = String::from_utf8(answers::shortening(&input.bytes).text).expect("a text");
+            assert_eq!(text.lines().count(), 3 + shown);
+            let last = text.lines().last().expect("a record");
+            assert!(last.starts_with(&format!("{records} ")), "{last}");
+        }
     }
 
     fn split(mut text: Vec<u8>) -> (Vec<u8>, Vec<u8>) {

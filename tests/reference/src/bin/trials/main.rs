@@ -1,16 +1,17 @@
-//! What crates test_calls, test_values, test_store and test_bank are tried on: makes their streams of commands, and the
-//! text that they have to write. `stream.rs` tells both.
+//! What crates test_calls, test_values, test_store, test_bank and test_shortest are tried on: makes their streams of commands,
+//! and the text that they have to write. `stream.rs` tells both.
 //!
-//! PROGRAM is `calls`, `values`, `store` or `bank`. `trials PROGRAM FOLDER` writes the stored files of its crate, FOLDER/stdin
+//! PROGRAM is `calls`, `values`, `store`, `bank` or `shortest`. `trials PROGRAM FOLDER` writes the stored files of its crate, FOLDER/stdin
 //! and FOLDER/stdout, of a few items. `trials PROGRAM whole FOLDER` writes FOLDER/stream and FOLDER/text, of
 //! all. `trials PROGRAM list` names the items, one for each line of the whole text; `trials PROGRAM show K`
-//! tells all of item K. `trials counts` says how many cases, groups, panels, stores and banks there are of each
-//! kind.
+//! tells all of item K. `trials counts` says how many cases, groups, panels, stores, banks and shortest schedules
+//! there are of each kind.
 
 mod banks;
 mod cases;
 mod cuts;
 mod images;
+mod shortest;
 mod steps;
 mod stores;
 mod stream;
@@ -37,6 +38,8 @@ pub trait Item {
 }
 
 type Items = Vec<Box<dyn Item>>;
+
+const PROGRAMS: [&str; 5] = ["calls", "values", "store", "bank", "shortest"];
 
 /// What the items are made of: all there is, or a few.
 struct Trials {
@@ -143,6 +146,7 @@ fn all(program: &str) -> (Items, Vec<String>) {
     match program {
         "store" => return (stores::all(), stores::faults()),
         "bank" => return (banks::all(), banks::faults()),
+        "shortest" => return (shortest::all(), shortest::faults()),
         _ => {}
     }
     let trials = Trials::all();
@@ -154,6 +158,7 @@ fn small(program: &str) -> Items {
     match program {
         "store" => stores::small(),
         "bank" => banks::small(),
+        "shortest" => shortest::small(),
         _ => Trials::small().of(program),
     }
 }
@@ -195,18 +200,19 @@ fn done(words: &[String]) -> Result<String, String> {
                 steps::counts(),
                 stores::counts(),
                 banks::counts(),
+                shortest::counts(),
             ]
             .concat(),
         )),
-        [program @ ("calls" | "values" | "store" | "bank"), "list"] => {
+        [program, "list"] if PROGRAMS.contains(program) => {
             let (items, _) = all(program);
             let names = items.iter().map(|item| item.name()).enumerate();
             Ok(names
                 .map(|(place, name)| format!("{place} {name}\n"))
                 .collect())
         }
-        [program @ ("calls" | "values" | "store" | "bank"), "show", place] => told(&all(program).0, place),
-        [program @ ("calls" | "values" | "store" | "bank"), "whole", folder] => {
+        [program, "show", place] if PROGRAMS.contains(program) => told(&all(program).0, place),
+        [program, "whole", folder] if PROGRAMS.contains(program) => {
             let (items, faults) = all(program);
             if !faults.is_empty() {
                 return Err(faults.join("\n"));
@@ -214,13 +220,13 @@ fn done(words: &[String]) -> Result<String, String> {
             write(folder, ["stream", "text"], &items).map_err(failed)?;
             Ok(String::new())
         }
-        [program @ ("calls" | "values" | "store" | "bank"), folder] => {
+        [program, folder] if PROGRAMS.contains(program) => {
             let items = small(program);
             write(folder, ["stdin", "stdout"], &items).map_err(failed)?;
             Ok(String::new())
         }
         _ => Err(String::from(
-            "counts is wanted, or calls, values, store or bank and FOLDER, whole FOLDER, list or show K",
+            "counts is wanted, or calls, values, store, bank or shortest and FOLDER, whole FOLDER, list or show K",
         )),
     }
 }

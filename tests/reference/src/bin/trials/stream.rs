@@ -1,5 +1,5 @@
-//! The commands of a stream, and the texts that crates test_calls, test_values, test_store and test_bank write
-//! of it.
+//! The commands of a stream, and the texts that crates test_calls, test_values, test_store, test_bank and test_shortest
+//! write of it.
 //!
 //! A command is 24 bytes: a letter (1), a value (1), a place (2), a length (4), n (8) and a runner (8),
 //! numbers big-endian; what a letter doesn't name is 0. Some have bytes behind them, as many as n says. A
@@ -102,6 +102,17 @@
 //!
 //! A line has the number and the digests of the whole bank and of the logs. In a group they leave the same, with all bytes in place
 //! of their digests. A bank of values has at most sixteen panels that are looked at; more are counted.
+//!
+//! # test_shortest: shortest schedules that still stop
+//!
+//! R, S, I, H, G and . are as above, and the values 0 and 1 of a call.
+//!
+//! | letter | what |
+//! |---|---|
+//! | F | `shortest::find` for n cycles, on a log of this length, up to 65,536 bytes, from the state of the image on the uPD546 |
+//!
+//! A line has the number, k, and 1 where the log is as it was, but for the first 16n bytes after 22, 23 and 82; else 0. In a group
+//! a call leaves the same.
 
 use reference::case::{digest_from, state_bytes};
 use reference::{Runner, Sheet, State, Version};
@@ -356,22 +367,22 @@ impl Stream {
         self.put_byte(b'X', place, value);
     }
 
-    fn put_round(&mut self, letter: u8, of: Of, t: u64, logs: usize) {
+    fn put_cycles(&mut self, letter: u8, of: Of, n: u64, log: usize) {
         self.put(Command {
             letter,
             value: of.value(),
-            length: u32::try_from(logs).expect("a length has four bytes"),
-            n: t,
+            length: u32::try_from(log).expect("a length has four bytes"),
+            n,
             ..Command::default()
         });
     }
 
     pub fn round(&mut self, of: Of, t: u64, logs: usize) {
-        self.put_round(b'C', of, t, logs);
+        self.put_cycles(b'C', of, t, logs);
     }
 
     pub fn round_of_values(&mut self, of: Of, t: u64, logs: usize) {
-        self.put_round(b'V', of, t, logs);
+        self.put_cycles(b'V', of, t, logs);
     }
 
     fn put_call(&mut self, letter: u8, of: Of) {
@@ -388,6 +399,10 @@ impl Stream {
 
     pub fn recall(&mut self, of: Of) {
         self.put_call(b'O', of);
+    }
+
+    pub fn find(&mut self, of: Of, n: u64, log: usize) {
+        self.put_cycles(b'F', of, n, log);
     }
 
     pub fn begin_runs(&mut self, log: usize) {
