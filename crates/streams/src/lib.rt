@@ -239,9 +239,15 @@ pub fn end_text(name: &[u8], text: &[u8]) {
 
 // The end of a program that refuses: "A refusal prints only `refused` and the number."
 pub fn end_refused(name: &[u8], number: u8) {
+    end_refused_behind(name, Output::Whole(0), number);
+}
+
+// The end of a program that refuses, whose line stands behind what was written: a page for people, which tells of the refusal too.
+pub fn end_refused_behind(name: &[u8], before: Output, number: u8) {
     let mut line = [0u8; REFUSED_SPACE];
     let size = text::put_refused(&mut line, number);
-    end_text(name, &line[..size]);
+    let out = write_first(before, &line, size);
+    end(name, out, &line[..size]);
 }
 
 // The end of a program whose input could not be read: nothing was written, and there is no last word.
