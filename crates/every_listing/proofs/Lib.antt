@@ -1,0 +1,10 @@
+pub mod Examples
+pub mod Parts
+pub mod Digits
+pub mod Codes
+pub mod Shapes
+pub mod Reading
+pub mod Places
+pub mod Cells
+pub mod Coding
+pub mod ComesBack
