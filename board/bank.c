@@ -10,7 +10,7 @@
 enum { LANDINGS = 16, LAMPS = 12, WORN = 15, ROUNDS = 20, T = 3200, SWITCHED_OFF = 4 };
 enum { RECORD = 10, TRIP = 4 * RECORD, LONGEST = 20000 };
 
-/* samples/make tells this ROM: bit 0 of port A is the button, bit 1 says that the car is here, bit 0 of port E is the lamp. */
+/* samples/lamp.asm tells this ROM: bit 0 of port A is the button, bit 1 says that the car is here, bit 0 of port E is the lamp. */
 static const uint8_t lamp[] = {0x54, 0xC3, 0x74, 0x55, 0xC0, 0x64, 0xC0};
 /* LDZ 5; STM 9; TTM, and JCP back to it while the timer runs; CMA; OP: port F turns over; JCP 001. */
 static const uint8_t display[] = {0x85, 0x14, 0x89, 0x05, 0xC3, 0x10, 0x0E, 0xC1};

@@ -8,7 +8,7 @@
 
 enum { CYCLES = 200, SLICE = 50 };
 
-/* samples/make tells this ROM and its schedule: bit 0 of port A is the button, bit 1 says that the car is here, bit 0 of port E is the
+/* samples/lamp.asm tells this ROM, samples/make its schedule: bit 0 of port A is the button, bit 1 says that the car is here, bit 0 of port E is the
    lamp. The rest of the ROM is NOPs. */
 static const uint8_t lamp_rom[WHARFNETTLE_ROM] = {0x54, 0xC3, 0x74, 0x55, 0xC0, 0x64, 0xC0};
 

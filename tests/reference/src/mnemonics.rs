@@ -7,7 +7,7 @@ use crate::instructions::{far, in_page};
 pub(crate) fn instruction(at: u16, code: u8, second: Option<u8>) -> String {
     let name = mnemonic(code);
     match operand(at, code, second) {
-        Some(operand) => format!("{name} {operand}"),
+        Some(operand) => format!("{name:<3} {operand}"),
         None => String::from(name),
     }
 }
@@ -22,13 +22,13 @@ fn mnemonic(code: u8) -> &'static str {
         ][column],
         1 => [
             "CMA", "CIA", "TLA", "DED", "STM", "LDI", "CLI", "CI", "EXL", "ADC", "XC", "STC",
-            "none", "INM", "OCD", "DEM",
+            "byte", "INM", "OCD", "DEM",
         ][column],
         2 => ["FBF", "TAB", "XM", "XMD"][quarter],
         3 if quarter == 0 => ["RAR", "EI", "IP", "IND"][column],
         3 => ["", "CMB", "LM", "XMI"][quarter],
         4 => [
-            "IA", "JPA", "TAZ", "TAW", "OE", "none", "TLY", "THX", "RT", "RTS", "XAZ", "XAW",
+            "IA", "JPA", "TAZ", "TAW", "OE", "byte", "TLY", "THX", "RT", "RTS", "XAZ", "XAW",
             "XLS", "XHR", "XLY", "XHX",
         ][column],
         5 => ["TPB", "TPA", "TMB", "FBT"][quarter],
@@ -42,16 +42,15 @@ fn mnemonic(code: u8) -> &'static str {
     }
 }
 
-/// Addresses and whole bytes are hexadecimal; bit numbers, m, k and the timer's 6 bits decimal. For a
-/// jump or a call it is where that leads.
+/// Hexadecimal and whole, so that no two codes have the same text: one digit for a bit number, m or k, two for a second
+/// byte, also where the chip looks at some of its bits only, three for an address. For a jump or a call it is where that
+/// leads; of a code that is no instruction, the code.
 fn operand(at: u16, code: u8, second: Option<u8>) -> Option<String> {
     let text = match code {
-        0x14 => (second? & 63).to_string(),
-        0x15 => format!("{:02X}", second? & 127),
-        0x16 | 0x17 => (second? & 15).to_string(),
-        0x1E => format!("{:02X}", second?),
+        0x14..=0x17 | 0x1E => format!("{:02X}", second?),
+        0x1C | 0x45 => format!("{code:02X}"),
         0x20..=0x2F | 0x34..=0x3F | 0x50..=0x7F => (code & 3).to_string(),
-        0x80..=0x9F => (code & 15).to_string(),
+        0x80..=0x9F => format!("{:X}", code & 15),
         0xA0..=0xAF => format!("{:03X}", far(code, second?)),
         0xB0..=0xBF => format!("{:03X}", u16::from(code & 15) << 2),
         0xC0..=0xFF => format!("{:03X}", in_page(at, code & 63)),
@@ -155,12 +154,12 @@ mod tests {
         }
         for code in [0x1C, 0x45] {
             assert_eq!(names[code], "");
-            names[code] = "none";
+            names[code] = "byte";
         }
         for code in 0..=255 {
             assert_eq!(mnemonic(code), names[usize::from(code)]);
             let form = format!("{:?}", FORMS[usize::from(code)].mnemonic);
-            assert_eq!(form.replace("None", "none"), names[usize::from(code)]);
+            assert_eq!(form.replace("None", "byte"), names[usize::from(code)]);
         }
     }
 
@@ -168,12 +167,14 @@ mod tests {
     fn operands_are_told_as_the_document_names_them() {
         for (at, bytes, text) in [
             (0x000, [0x00, 0xFF], "NOP"),
-            (0x000, [0x14, 0x83], "STM 3"),
-            (0x000, [0x14, 0xBF], "STM 63"),
-            (0x000, [0x15, 0xF9], "LDI 79"),
-            (0x000, [0x16, 0xF7], "CLI 7"),
-            (0x000, [0x17, 0x3C], "CI 12"),
+            (0x000, [0x14, 0x83], "STM 83"),
+            (0x000, [0x14, 0xBF], "STM BF"),
+            (0x000, [0x15, 0xF9], "LDI F9"),
+            (0x000, [0x16, 0xF7], "CLI F7"),
+            (0x000, [0x17, 0x3C], "CI  3C"),
             (0x000, [0x1E, 0xA5], "OCD A5"),
+            (0x000, [0x1C, 0xFF], "byte 1C"),
+            (0x000, [0x45, 0xFF], "byte 45"),
             (0x000, [0x23, 0xFF], "FBF 3"),
             (0x000, [0x2E, 0xFF], "XMD 2"),
             (0x000, [0x35, 0xFF], "CMB 1"),
@@ -181,7 +182,7 @@ mod tests {
             (0x000, [0x44, 0xFF], "OE"),
             (0x000, [0x76, 0xFF], "SEB 2"),
             (0x000, [0x85, 0xFF], "LDZ 5"),
-            (0x000, [0x9F, 0xFF], "LI 15"),
+            (0x000, [0x9F, 0xFF], "LI  F"),
             (0x000, [0xA7, 0xD0], "JMP 7D0"),
             (0x000, [0xAB, 0x20], "CAL 320"),
             (0x234, [0xBF, 0xFF], "CZP 03C"),

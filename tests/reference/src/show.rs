@@ -401,12 +401,12 @@ mod tests {
         let lines = [
             "ROM of 2000 bytes",
             "  address   bytes  instruction  begun  skips",
-            "  000       93     LI 3             1         starts here",
-            "  001       17 03  CI 3             1      1",
+            "  000       93     LI  3            1         starts here",
+            "  001       17 03  CI  03           1      1",
             "  003       1E A5  OCD A5",
             "  005       42     TAZ              1",
             "  006       44     OE               1",
-            "  007       1C     none                       ends here",
+            "  007       1C     byte 1C                    ends here",
             "  100       C5     JCP 105",
         ];
         assert_eq!(part(case(), "ROM"), lines);
@@ -452,7 +452,7 @@ mod tests {
         let lines = [
             "ROM of 2000 bytes",
             "  address   bytes  instruction  begun  skips",
-            "  000       14 80  STM 0            1         starts here",
+            "  000       14 80  STM 80           1         starts here",
             "  002..03D  00     NOP             60",
             "  03E       05     TTM              2         ends here",
             "  03F       FE     JCP 03E          2",
