@@ -63,7 +63,7 @@ loop-again c =
     let a = c .before .before .before .before .before in
     let less = c .before .loop-test .taken in (
       ap (λ (v : ℕ). set (l .rom) (l .i) (v % 256)) (c .cell .ensures)
-      ∙ one-more (now (a .args .rom)) (now (a .args .cells)) (a .args .size) (l .i) (l .rom) (a .pre .0) (a .pre .1) (l .inv .0) less,
+          ∙ one-more (now (a .args .rom)) (now (a .args .cells)) (a .args .size) (l .i) (l .rom) (a .pre .0) (a .pre .1) (l .inv .0) less,
       omega arith,
     )
 
