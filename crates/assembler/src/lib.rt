@@ -1,5 +1,7 @@
 // The assembler: a text to the bytes of a ROM, or its first mistake. The text is gone over once for its bytes, and again for each label
 // that is asked for. It may not know where the text comes from, nor where the bytes go.
+#![tactic(auto)]
+
 ghost use Rattle.std.specs.Prelude.{◌≡◌, [], ◌∷◌, ◌++◌, true, false, cond, ◌&&◌, ◌+◌, ◌<◌, ◌≤◌, ◌%◌, min, eqb, ltb, length, get_or, take, drop, set};
 ghost use Rattle.upd546.specs.TheMachine.{page_of, rom_length};
 ghost use Rattle.mnemonics.specs.Mnemonics.{kind_for, long_for, word_table};
@@ -13,7 +15,7 @@ use mnemonics::WordTable;
 use upd546::ROM_LENGTH;
 
 // The ROM so far: where the next byte goes, its length, whether a statement was there.
-#[derive(Drop)]
+#[derive(Clone, Copy)]
 pub struct Place {
     pub at: usize,
     pub size: usize,
@@ -21,14 +23,14 @@ pub struct Place {
 }
 
 // What a line leaves, or its mistake; 0 is none.
-#[derive(Drop)]
+#[derive(Clone, Copy)]
 pub struct Stepped {
     pub mistake: u8,
     pub place: Place,
 }
 
 // The bytes of a statement, one or two, or its mistake.
-#[derive(Drop)]
+#[derive(Clone, Copy)]
 pub struct Bytes {
     pub mistake: u8,
     pub two: bool,
@@ -37,7 +39,7 @@ pub struct Bytes {
 }
 
 // The answer: the number of bytes, or a mistake and the number of its line, the first being 1.
-#[derive(Drop)]
+#[derive(Clone, Copy)]
 pub struct Answer {
     pub mistake: u8,
     pub line: usize,

@@ -1,5 +1,7 @@
 // Assembler text and its lines: what stands in a line, the number of an operand, and what a word asks for. Parts of a line are parts of
 // the lent text. It may not know where the text comes from, nor what bytes are made of it.
+#![tactic(auto)]
+
 ghost use Rattle.std.specs.Prelude.{◌≡◌, ◌≤◌, ◌++◌, length, get_or, take};
 ghost use Rattle.upd546.specs.Sequences.{same_numbers};
 ghost use Rattle.mnemonics.specs.Texts.{ascii};
@@ -11,7 +13,7 @@ ghost use Rattle.assembly.specs.Places.{sought_by, front_of, statement_of, has_m
 use mnemonics::WordTable;
 
 // What is looked for in a text.
-#[derive(Drop)]
+#[derive(Clone, Copy)]
 pub enum Sought {
     Letter(u8),
     // A space, a tab, a carriage return.
@@ -21,14 +23,14 @@ pub enum Sought {
 }
 
 // A number, or why there is none: 0 is no mistake.
-#[derive(Drop)]
+#[derive(Clone, Copy)]
 pub struct Number {
     pub mistake: u8,
     pub value: usize,
 }
 
 // What a word asks for.
-#[derive(Drop)]
+#[derive(Clone, Copy)]
 pub enum Asked {
     // There is no word.
     Nothing,

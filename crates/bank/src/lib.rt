@@ -1,4 +1,6 @@
 // The bank: a row of panels that is lent for a round, over the turns of single panels: request R-9. It may not know what a turn does.
+#![tactic(auto)]
+
 ghost use Rattle.std.specs.Prelude.{◌≡◌, ◌≤◌, ◌++◌, take, drop};
 ghost use Rattle.upd546.specs.TwoRunners.{chip};
 ghost use Rattle.panels.specs.Round.{round_answer};
@@ -48,7 +50,7 @@ pub fn round(
 }
 
 // A row of panels after a round, and the round's number.
-#[derive(Drop)]
+#[derive(Clone, Copy)]
 pub struct Rounded {
     pub row: [Panel; 16],
     pub number: u8,

@@ -1,6 +1,8 @@
 // A round of a bank of panels, for the board's C program: request R-9 on a bank of bytes. It stands apart from the other calls, so that a
 // run has one place in each object of the archive and is compiled into it.
 // It may not know how grants and places are made, how the board's call goes, nor the image's layout.
+#![tactic(auto)]
+
 ghost use Rattle.std.specs.Prelude.{◌≡◌, [], ◌∷◌, ◌++◌, ◌*◌, ◌≤◌, length, take};
 ghost use Rattle.upd546.specs.TwoRunners.{chip};
 ghost use Rattle.panels.specs.Courses.{note_all, after_of};
@@ -32,7 +34,7 @@ fn put_told(entry: &mut [u8], report: &[u8], number: u8)
     requires { (length entry.old ≡ entry_length) × (length report.now ≡ report_length) }
     ensures { entry.new ≡ take report_at entry.old ++ report.now ++ number ∷ [] }
 {
-    bytes::copy(report, &mut entry[REPORT_AT..]);
+    copying::copy(report, &mut entry[REPORT_AT..]);
     entry[NUMBER_AT] = number;
 }
 
@@ -152,8 +154,7 @@ fn serve(
 }
 
 // A ROUND of t cycles for all panels of a bank of some entries of 147 bytes, under a sheet: 71, 61, 62, 63.
-#[unsafe(no_mangle)]
-pub extern "C" fn wharfnettle_round(
+pub fn wharfnettle_round(
     bank: &mut [u8],
     roms: &[u8],
     schedules: &[u8],

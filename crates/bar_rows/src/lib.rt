@@ -2,6 +2,8 @@
 // step, and the step doubles until half of the row is free; so a log of any number of waits keeps within the rows, and none is lost.
 // It may not know what a wait is, nor how a bar is drawn.
 // Every place is taken within the rows, so that no function asks anything of its caller.
+#![tactic(auto)]
+
 ghost use Rattle.std.specs.Prelude.{◌+◌, ◌≤◌};
 
 use bars::Bar;
@@ -28,14 +30,14 @@ const DOUBLINGS: usize = 62;
 const NUMBER_MOST: u64 = 0xffff_ffff_ffff_ffff;
 
 // A row: how many bars it has, and within how many cycles waits are joined; 0 where none were.
-#[derive(Drop)]
+#[derive(Clone, Copy)]
 pub struct Row {
     pub count: usize,
     pub step: MachineCycles,
 }
 
 // Waits that are drawn as one bar.
-#[derive(Drop)]
+#[derive(Clone, Copy)]
 pub struct Joined {
     pub start: MachineCycles,
     pub waits: u64,

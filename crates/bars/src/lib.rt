@@ -1,5 +1,7 @@
 // The bars of a day's picture, one for each wait: told from what the waiting-time report carries before and after a record. It may not
 // know how a log is read, nor how a bar is drawn.
+#![tactic(auto)]
+
 ghost use Rattle.std.specs.Prelude.{◌≡◌, ◌-◌};
 ghost use Rattle.bars.specs.Bars.{closed_bar, open_bar, bars_of};
 
@@ -7,14 +9,14 @@ use runs::MachineCycles;
 use waiting::Landing;
 
 // A wait: where it began, and how long it was.
-#[derive(Drop)]
+#[derive(Clone, Copy)]
 pub struct Bar {
     pub start: MachineCycles,
     pub length: MachineCycles,
 }
 
 // What is drawn of a landing.
-#[derive(Drop)]
+#[derive(Clone, Copy)]
 pub enum Drawn {
     Nothing,
     Wait(Bar),

@@ -1,4 +1,6 @@
 // Numbers as bytes, big-endian, as schedules, images, logs and inputs have them. It may not know what the bytes are for.
+#![tactic(auto)]
+
 ghost use Rattle.std.specs.Prelude.{◌≡◌, ◌++◌, ◌+◌, ◌^◌, ◌<◌, ◌≤◌, length, drop};
 ghost use Rattle.upd546.specs.Bytes.{number_at, bytes_of};
 

@@ -1,5 +1,7 @@
 // The calls of the board's C program: restore, run and save in one, and the image of a fresh state; for programs in Rattle, what a
 // call's number tells. It may not know how a restore, a run or a save goes, nor the image's layout.
+#![tactic(auto)]
+
 ghost use Rattle.std.specs.Prelude.{◌≡◌, ◌++◌, ◌+◌, ◌≤◌, length, take, drop};
 ghost use Rattle.runs.specs.declared.Version.TheVariants.{Two};
 ghost use Rattle.runs.specs.TwoRunners.{save_answer};
@@ -59,8 +61,7 @@ fn run_image(
 }
 
 // THE BOARD'S CALL: 1 of a short report, 71, the image's refusals, the run's; then the image is saved over.
-#[unsafe(no_mangle)]
-pub extern "C" fn wharfnettle_call(
+pub fn wharfnettle_call(
     image: &mut [u8],
     rom: &[u8],
     schedule: &[u8],
@@ -95,8 +96,7 @@ pub extern "C" fn wharfnettle_call(
 }
 
 // The image of the fresh state, saved into a buffer as version 2. It is the same under every sheet.
-#[unsafe(no_mangle)]
-pub extern "C" fn wharfnettle_fresh(image: &mut [u8]) -> u8
+pub fn wharfnettle_fresh(image: &mut [u8]) -> u8
     ensures { record { number = result; buffer = image.new } ≡ save_answer upd546 Two fresh image.old }
 {
     let sheet = upd546::upd546_sheet();

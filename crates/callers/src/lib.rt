@@ -1,6 +1,8 @@
 // A caller for each function that is for callers and of which no other proof needs the whole contract: what it promises, of every argument
 // of its own, follows only from that whole contract, so one that says less is refused here. `tests/callers` has the list.
 // It may not know how any of these functions goes, only definitions and contracts.
+#![tactic(auto)]
+
 ghost use Rattle.std.specs.Prelude.{◌≡◌, ◌∷◌, [], ◌++◌, ◌+◌, length};
 ghost use Rattle.runs.specs.TwoRunners.{number_of_end, plain, save_answer, restore_answer};
 ghost use Rattle.runs.specs.Versions.{convert_answer};
@@ -22,7 +24,7 @@ use waiting::Reading;
 use waits_text::TEXT_LENGTH as WAITS_TEXT;
 
 // The numbers of two calls, conversions or calls on a store, one after the other.
-#[derive(Drop)]
+#[derive(Clone, Copy)]
 pub struct Numbers {
     pub first: u8,
     pub second: u8,
@@ -91,7 +93,7 @@ pub fn run_number(
 }
 
 // The number of a save; the number of a restore of what it leaves, and the state.
-#[derive(Drop)]
+#[derive(Clone, Copy)]
 pub struct SwitchedOff {
     pub saved: u8,
     pub restored: u8,
@@ -185,8 +187,15 @@ pub fn last_part(before: Reading, part: &[u8], out: &mut [u8; WAITS_TEXT]) -> us
 }
 
 // The first bytes, so many, and a number with one byte behind it.
-pub fn bytes_and_number(before: Output, bytes: &[u8], count: usize, n: u64, after: u8) -> Output
+pub fn bytes_and_number(
+    rt: &impl Print,
+    before: Output,
+    bytes: &[u8],
+    count: usize,
+    n: u64,
+    after: u8,
+) -> Output
     ensures { Wrote before (count + length (decimal n ++ (after ∷ []))) result }
 {
-    streams::write_number(streams::write_first(before, bytes, count), n, after)
+    streams::write_number(rt, streams::write_first(rt, before, bytes, count), n, after)
 }

@@ -1,6 +1,8 @@
 // A call of the board's C program: an image taken from one version to the other. It stands apart from the other calls, so that a
 // restore has one place in each object of the archive and is compiled into it.
 // It may not know how a restore or a save goes, nor the image's layout.
+#![tactic(auto)]
+
 ghost use Rattle.std.specs.Prelude.{◌≡◌};
 ghost use Rattle.runs.specs.Versions.{convert_answer};
 ghost use Rattle.upd546.specs.TwoRunners.{chip};
@@ -10,8 +12,7 @@ use upd546::Sheet;
 
 // A CONVERSION: the image `from` written into `to` as version 1 or 2, under a sheet. A restore's numbers come first, 71 before the
 // others; then 33 of another version, 54 and 1.
-#[unsafe(no_mangle)]
-pub extern "C" fn wharfnettle_convert(
+pub fn wharfnettle_convert(
     from: &[u8],
     to: &mut [u8],
     version: u64,

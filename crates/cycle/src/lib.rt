@@ -1,6 +1,8 @@
 // An instruction in code, up to the step of the timer, on a core by value and RAM, latches and log as they are lent.
 // Every stop is decided before anything lent is changed. It may not know of schedules, interrupts and the timer's steps, nor how
 // a run goes.
+#![tactic(auto)]
+
 ghost use Rattle.std.specs.Prelude.{◌≡◌, ◌+◌, ◌≤◌, length};
 ghost use Rattle.upd546.specs.declared.Sheet.{Sheet};
 ghost use Rattle.laws.specs.Burst.{unticked};

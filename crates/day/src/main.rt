@@ -1,11 +1,16 @@
 // Program `day`: reads a port log from standard input, of any length, and writes the page of its waits. Every record is read by the
 // proved report; what it carries before and after the record tells the bars. It may not know how a log is read, how long a wait is, nor
 // how the page is laid out.
+#![tactic(auto)]
+
 use bar_rows::{NUMBERS, Row};
 use bars::Drawn;
 use day_page::Day;
 use log_form::{LOG_RECORD, PORT_RESET};
 use runs::MachineCycles;
+use std::env::FillError;
+use std::io::{Error, ErrorKind};
+use std::rt::{Env, Runtime};
 use streams::{Input, Output};
 use waiting::{Landing, Reading};
 
@@ -19,37 +24,38 @@ const PORT_AT: usize = 6;
 const RESETS: usize = 4;
 
 // What was read so far, and the rows of its bars.
-#[derive(Drop)]
+#[derive(Clone, Copy)]
 struct Going {
     reading: Reading,
     rows: [Row; 5],
 }
 
-fn main() {
-    let clock = given_clock();
+fn main(rt: HostRuntime) {
+    let clock = given_clock(&rt);
     if clock == 0 {
-        streams::end_mistake(b"day: a clock is given in hertz, 1000 to 100000000\n");
+        streams::end_mistake(&rt, b"day: a clock is given in hertz, 1000 to 100000000\n");
         return;
     }
     let mut numbers = [0u64; NUMBERS];
+    let mut from = rt.reader();
     let mut part = io::large_buffer();
     let mut going = begun();
     let mut k = 0;
     while k < PARTS {
-        let read = streams::fill(&mut part);
-        if let Input::Unread = read {
-            streams::end_unread(b"day");
+        let read = streams::fill(&mut from, &mut part);
+        if let Input::Unread(e) = read {
+            streams::end_unread(&rt, b"day", e);
             return;
         }
         if let Input::Ended(got) = read {
             let all = records(going, &part[..got], &mut numbers);
-            tell(all, &numbers, clock);
+            tell(&rt, all, &numbers, clock);
             return;
         }
         going = records(going, &part, &mut numbers);
         k += 1;
     }
-    streams::end_unread(b"day");
+    streams::end_unread(&rt, b"day", Error::from(ErrorKind::FileTooLarge));
 }
 
 fn begun() -> Going {
@@ -124,12 +130,13 @@ fn reset(numbers: &mut [u64; NUMBERS], row: Row, port: u8, at: MachineCycles) ->
 }
 
 // The clock that is given as the second argument, in hertz; NEC's where none is given, and 0 where it is no clock.
-fn given_clock() -> u64 {
+fn given_clock(rt: &impl Env) -> u64 {
     let mut word = [0u8; 16];
-    if os::arg_count() < 3 {
-        return seconds::NEC_CLOCK;
-    }
-    let length = os::arg(2, &mut word);
+    let length = match rt.arg(2, &mut word) {
+        Ok(length) => length,
+        Err(FillError::NotPresent) => return seconds::NEC_CLOCK,
+        Err(FillError::TooLong) => return 0,
+    };
     let mut clock = 0;
     let mut k = 0;
     while k < length {
@@ -147,7 +154,7 @@ fn given_clock() -> u64 {
 }
 
 // A refused log's page ends with the program's line of the refusal.
-fn tell(going: Going, numbers: &[u64; NUMBERS], clock: u64) {
+fn tell(rt: &impl Runtime, going: Going, numbers: &[u64; NUMBERS], clock: u64) {
     let number = going.reading.number;
     let carried = going.reading.carried;
     let rows = going.rows;
@@ -157,12 +164,17 @@ fn tell(going: Going, numbers: &[u64; NUMBERS], clock: u64) {
             rows: rows,
             clock: clock,
         };
-        streams::end_whole(b"day", day_page::page(Output::Whole(0), day, numbers));
+        streams::end_whole(
+            rt,
+            b"day",
+            day_page::page(rt, Output::Whole(0), day, numbers),
+        );
         return;
     }
     streams::end_refused_behind(
+        rt,
         b"day",
-        day_page::no_answer(Output::Whole(0), number),
+        day_page::no_answer(rt, Output::Whole(0), number),
         number,
     );
 }

@@ -3,7 +3,7 @@ use seconds::{larger, over, plus};
 use waiting::{Carried, Landing};
 
 // Closed waits, their cycles together, their mean in whole cycles, the longest; how many are open, and since when the first of them.
-#[derive(Drop)]
+#[derive(Clone, Copy)]
 pub struct Sums {
     pub closed: u64,
     pub cycles: u64,

@@ -1,11 +1,13 @@
 // Which instruction a code is: the instructions by NEC's mnemonics, in groups by what they work on.
 // It may not know what an instruction does.
+#![tactic(auto)]
+
 ghost use Rattle.std.specs.Prelude.{◌≡◌, ◌<◌};
 ghost use Rattle.upd546.specs.Instructions.{instruction};
 ghost use Rattle.decode.specs.Named.{named, in_row};
 
 // What only skips, or does nothing. None stands for a code that is no instruction.
-#[derive(Drop)]
+#[derive(Clone, Copy)]
 pub enum Test {
     Nop,
     None,
@@ -14,7 +16,7 @@ pub enum Test {
 }
 
 // Acc and C alone.
-#[derive(Drop)]
+#[derive(Clone, Copy)]
 pub enum Acc {
     Daa,
     Das,
@@ -30,7 +32,7 @@ pub enum Acc {
 }
 
 // M, with Acc and C.
-#[derive(Drop)]
+#[derive(Clone, Copy)]
 pub enum Sum {
     S,
     Ad,
@@ -47,7 +49,7 @@ pub enum Sum {
 }
 
 // DP and Acc, without M. LDI and LI are here: each looks at the mark and leaves one.
-#[derive(Drop)]
+#[derive(Clone, Copy)]
 pub enum Move {
     Tal,
     Tla,
@@ -60,7 +62,7 @@ pub enum Move {
 }
 
 // DP, and M with it.
-#[derive(Drop)]
+#[derive(Clone, Copy)]
 pub enum Pointer {
     Xm,
     Xmd,
@@ -69,7 +71,7 @@ pub enum Pointer {
 }
 
 // The words Z, W, S, R, Y and X.
-#[derive(Drop)]
+#[derive(Clone, Copy)]
 pub enum Working {
     Taz,
     Taw,
@@ -84,7 +86,7 @@ pub enum Working {
 }
 
 // Bits of the flag word.
-#[derive(Drop)]
+#[derive(Clone, Copy)]
 pub enum Flag {
     Fbf,
     Fbt,
@@ -93,7 +95,7 @@ pub enum Flag {
 }
 
 // PC and the stack.
-#[derive(Drop)]
+#[derive(Clone, Copy)]
 pub enum Jump {
     Jpa,
     Rt,
@@ -105,7 +107,7 @@ pub enum Jump {
 }
 
 // Flip-flops, carries and the timer.
-#[derive(Drop)]
+#[derive(Clone, Copy)]
 pub enum Control {
     Di,
     Ei,
@@ -115,7 +117,7 @@ pub enum Control {
 }
 
 // Ports.
-#[derive(Drop)]
+#[derive(Clone, Copy)]
 pub enum Port {
     Op,
     Ocd,
@@ -130,7 +132,7 @@ pub enum Port {
     Tpa,
 }
 
-#[derive(Drop)]
+#[derive(Clone, Copy)]
 pub enum Decoded {
     Tests(Test),
     Accs(Acc),

@@ -1,5 +1,7 @@
 // The board's driver: the board keeps one machine, and lends it for a run, which brings it forward; and a day's log in one buffer.
 // It may not know how a run goes, only what its runner answers.
+#![tactic(auto)]
+
 ghost use Rattle.std.specs.Prelude.{◌≡◌, List, ℕ, drop};
 ghost use Rattle.runs.specs.Lists.{run_answer};
 ghost use Rattle.upd546.specs.TwoRunners.{chip, answer_of};
@@ -10,20 +12,20 @@ use runs::{ClockCycles, MachineCycles, RunEnd};
 use upd546::{RunAnswer, Sheet, State};
 
 // The machine that the board keeps.
-#[derive(Drop)]
+#[derive(Clone, Copy)]
 pub struct KeptMachine {
     pub state: State,
 }
 
 // Which of the two runners a run goes by.
-#[derive(Drop)]
+#[derive(Clone, Copy)]
 pub enum Runner {
     Plain,
     Skipping,
 }
 
 // What a run answers besides the state. The log that it was lent holds `written` bytes of records.
-#[derive(Drop)]
+#[derive(Clone, Copy)]
 pub struct Report {
     pub end: RunEnd,
     pub cycles: MachineCycles,
@@ -34,7 +36,7 @@ pub struct Report {
 }
 
 // The machine after a run, and the run's report.
-#[derive(Drop)]
+#[derive(Clone, Copy)]
 pub struct DriveAnswer {
     pub machine: KeptMachine,
     pub report: Report,
@@ -62,7 +64,7 @@ fn told(a: RunAnswer) -> DriveAnswer
 }
 
 // A run of n cycles by this runner brings the machine forward; a refused one leaves it as it was. The machine goes in by value and
-// comes back by value, so whoever calls it needs no walk.
+// comes back by value.
 pub fn advance(
     machine: KeptMachine,
     kind: Runner,

@@ -2,6 +2,8 @@
 // as an image of version 1, as old boards keep it. After a switch-off it goes on from that, by the other runner, on the part of the log
 // that is still empty, and is kept as an image of version 2; then that is damaged.
 // The ROM is document 01's example: OCD A5, LI 3, OE, and then a code that is none.
+#![tactic(auto)]
+
 ghost use Rattle.std.specs.Prelude.{◌≡◌};
 ghost use Rattle.runs.specs.Lists.{run_answer};
 ghost use Rattle.upd546.specs.TwoRunners.{chip};
@@ -17,13 +19,13 @@ use upd546::{CYCLE_BYTES, LOG_RECORD, ROM_LENGTH, Sheet};
 const LOG_LENGTH: usize = 16 * 10;
 
 // What standard output has so far, and the place where the log is empty.
-#[derive(Drop)]
+#[derive(Clone, Copy)]
 struct Told {
     out: Output,
     at: usize,
 }
 
-fn main() {
+fn main(rt: HostRuntime) {
     let mut rom = [0u8; ROM_LENGTH];
     rom[0] = 0x1E;
     rom[1] = 0xA5;
@@ -33,15 +35,15 @@ fn main() {
     let mut log = [0u8; LOG_LENGTH];
     let mut old = [0u8; IMAGE_LENGTH_ONE];
     let mut image = [0u8; IMAGE_LENGTH];
-    let told = evening(&rom, &mut log, &mut old);
-    let out = morning(told, &rom, &mut log, &old, &mut image);
+    let told = evening(&rt, &rom, &mut log, &mut old);
+    let out = morning(&rt, told, &rom, &mut log, &old, &mut image);
     image[COUNT_AT] = 5;
-    streams::end_whole(b"example", damaged(out, &image));
+    streams::end_whole(&rt, b"example", damaged(&rt, out, &image));
 }
 
 // Three cycles from the fresh state by the plain runner, and a save of version 1. Where RES was high in the last cycle, that would be
 // refused with 54: version 1 has no place for the count.
-fn evening(rom: &[u8], log: &mut [u8], old: &mut [u8]) -> Told {
+fn evening(rt: &impl Print, rom: &[u8], log: &mut [u8], old: &mut [u8]) -> Told {
     let schedule = [0u8; 0];
     let state = upd546::fresh_state();
     let answer = lend(
@@ -53,18 +55,17 @@ fn evening(rom: &[u8], log: &mut [u8], old: &mut [u8]) -> Told {
         MachineCycles(3),
         upd546::upd546_sheet(),
     );
-    let shown = show(Output::Whole(0), answer, log, 0);
+    let shown = show(rt, Output::Whole(0), answer, log, 0);
     let machine = answer.machine;
     let outcome = save::save(machine.state, Version::One, old, upd546::upd546_sheet());
-    let out = tell(shown, b"saved as version 1", outcome);
+    let out = tell(rt, shown, b"saved as version 1", outcome);
     Told {
         out,
         at: answer.report.written,
     }
 }
 
-// The machine stands in a local, and is lent for the run. A function that lends a struct is proved by hand, in proofs/lend; whoever calls
-// this one, or `driver::advance`, which says the same, needs no such proof.
+// The machine stands in a local, and is lent for the run. `driver::advance` says the same with the machine by value.
 fn lend(
     start: KeptMachine,
     kind: Runner,
@@ -83,11 +84,18 @@ fn lend(
 
 // An image of either version is restored; of version 1 the count is 0. The panel goes on by the timer-skipping runner, stops at the code
 // that is none, with number 23, and is saved as version 2.
-fn morning(told: Told, rom: &[u8], log: &mut [u8], old: &[u8], image: &mut [u8]) -> Output {
+fn morning(
+    rt: &impl Print,
+    told: Told,
+    rom: &[u8],
+    log: &mut [u8],
+    old: &[u8],
+    image: &mut [u8],
+) -> Output {
     let kept = restore::restore(old, upd546::upd546_sheet());
     let outcome = kept.outcome;
     let before = told.out;
-    let out = tell(before, b"restored", outcome);
+    let out = tell(rt, before, b"restored", outcome);
     let schedule = [0u8; 0];
     let state = kept.state;
     let answer = driver::advance_from(
@@ -100,9 +108,10 @@ fn morning(told: Told, rom: &[u8], log: &mut [u8], old: &[u8], image: &mut [u8])
         MachineCycles(7),
         upd546::upd546_sheet(),
     );
-    let shown = show(out, answer, log, told.at);
+    let shown = show(rt, out, answer, log, told.at);
     let machine = answer.machine;
     tell(
+        rt,
         shown,
         b"saved as version 2",
         save::save(machine.state, Version::Two, image, upd546::upd546_sheet()),
@@ -110,25 +119,25 @@ fn morning(told: Told, rom: &[u8], log: &mut [u8], old: &[u8], image: &mut [u8])
 }
 
 // No count is above 4, so the image is refused with 34. The answer's state is the fresh one.
-fn damaged(before: Output, image: &[u8]) -> Output {
+fn damaged(rt: &impl Print, before: Output, image: &[u8]) -> Output {
     let kept = restore::restore(image, upd546::upd546_sheet());
     let outcome = kept.outcome;
-    tell(before, b"damaged", outcome)
+    tell(rt, before, b"damaged", outcome)
 }
 
 // The records that a run wrote from a place of the log on, its cycles and instructions, and its number.
-fn show(before: Output, answer: DriveAnswer, log: &[u8], at: usize) -> Output {
+fn show(rt: &impl Print, before: Output, answer: DriveAnswer, log: &[u8], at: usize) -> Output {
     let report = answer.report;
-    let listed = records(before, log, at, report.written);
+    let listed = records(rt, before, log, at, report.written);
     let end = report.end;
-    let mut out = streams::write(listed, b"end ");
-    out = streams::write_number(out, report.cycles.0, b' ');
-    out = streams::write_number(out, report.begun, b' ');
-    streams::write_number(out, runs::end_number(end) as u64, b'\n')
+    let mut out = streams::write(rt, listed, b"end ");
+    out = streams::write_number(rt, out, report.cycles.0, b' ');
+    out = streams::write_number(rt, out, report.begun, b' ');
+    streams::write_number(rt, out, runs::end_number(end) as u64, b'\n')
 }
 
 // Each record: the cycle, the port and its latch after the write.
-fn records(before: Output, log: &[u8], from: usize, written: usize) -> Output {
+fn records(rt: &impl Print, before: Output, log: &[u8], from: usize, written: usize) -> Output {
     let mut out = before;
     let mut at = from;
     let mut left = written;
@@ -139,22 +148,22 @@ fn records(before: Output, log: &[u8], from: usize, written: usize) -> Output {
         if log.len() - LOG_RECORD < at {
             return out;
         }
-        out = streams::write(out, b"record ");
-        out = streams::write_number(out, big_endian::number_at(log, at, CYCLE_BYTES), b' ');
-        out = byte(out, log[at + 6], b' ');
-        out = byte(out, log[at + 7], b'\n');
+        out = streams::write(rt, out, b"record ");
+        out = streams::write_number(rt, out, big_endian::number_at(log, at, CYCLE_BYTES), b' ');
+        out = byte(rt, out, log[at + 6], b' ');
+        out = byte(rt, out, log[at + 7], b'\n');
         at += LOG_RECORD;
         left -= LOG_RECORD;
     }
     out
 }
 
-fn tell(before: Output, what: &[u8], outcome: Outcome) -> Output {
-    let named = streams::write(before, what);
-    let out = streams::write(named, b" ");
-    streams::write_number(out, runs::outcome_number(outcome) as u64, b'\n')
+fn tell(rt: &impl Print, before: Output, what: &[u8], outcome: Outcome) -> Output {
+    let named = streams::write(rt, before, what);
+    let out = streams::write(rt, named, b" ");
+    streams::write_number(rt, out, runs::outcome_number(outcome) as u64, b'\n')
 }
 
-fn byte(before: Output, b: u8, after: u8) -> Output {
-    streams::write_number(before, b as u64, after)
+fn byte(rt: &impl Print, before: Output, b: u8, after: u8) -> Output {
+    streams::write_number(rt, before, b as u64, after)
 }

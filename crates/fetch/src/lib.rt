@@ -1,6 +1,8 @@
 // What is read of the ROM: the instruction at PC, and what a skip passes over. Nothing of it changes the machine. The ROM ends where
 // the lent bytes end; of a sheet with that length this is its last address.
 // It may not know what an instruction does, nor how a run goes.
+#![tactic(auto)]
+
 ghost use Rattle.std.specs.Prelude.{◌≡◌, ◌<◌, ◌≤◌, length};
 ghost use Rattle.upd546.specs.declared.Sheet.{Sheet};
 ghost use Rattle.upd546.specs.TheMachine.{byte_at, past};
@@ -11,7 +13,7 @@ use tables::InstructionTable;
 
 // The instruction at an address: its code and second byte (0: it has none), the address after it, its base cycles; or `stop`,
 // the number why it can't be begun (22 or 23; 0: it can).
-#[derive(Drop)]
+#[derive(Clone, Copy)]
 pub struct Fetched {
     pub after: u16,
     pub stop: u8,
@@ -21,7 +23,7 @@ pub struct Fetched {
 }
 
 // Where a skip leads and how many bytes it passes over; or `stop`.
-#[derive(Drop)]
+#[derive(Clone, Copy)]
 pub struct Passed {
     pub stop: u8,
     pub pc: u16,

@@ -2,6 +2,8 @@
 // It may not know how a byte is fetched, what a skip passes over, nor how a run goes.
 //
 // Where a group builds its answers as struct literals, and not by a small function, that runs faster (docs/MEASUREMENTS.md).
+#![tactic(auto)]
+
 ghost use Rattle.std.specs.Prelude.{◌≡◌, false, List, ℕ, ◌+◌, ◌*◌, ◌^◌, ◌<◌};
 ghost use Rattle.upd546.specs.declared.Sheet.{Sheet};
 ghost use Rattle.upd546.specs.TheMachine.{place_in};
@@ -22,7 +24,7 @@ use upd546::{
 };
 
 // What an instruction is given besides the RAM and the latches.
-#[derive(Drop)]
+#[derive(Clone, Copy)]
 pub struct Inputs {
     pub core: Core,
     pub after: u16,
@@ -32,14 +34,14 @@ pub struct Inputs {
 }
 
 // What a group of instructions leaves: the parts of the machine that its instructions change.
-#[derive(Drop)]
+#[derive(Clone, Copy)]
 pub struct Accumulated {
     pub acc: u8,
     pub carry: u8,
     pub skip: bool,
 }
 
-#[derive(Drop)]
+#[derive(Clone, Copy)]
 pub struct Summed {
     pub acc: u8,
     pub carry: u8,
@@ -47,7 +49,7 @@ pub struct Summed {
     pub skip: bool,
 }
 
-#[derive(Drop)]
+#[derive(Clone, Copy)]
 pub struct Moved {
     pub acc: u8,
     pub dph: u8,
@@ -56,7 +58,7 @@ pub struct Moved {
     pub skip: bool,
 }
 
-#[derive(Drop)]
+#[derive(Clone, Copy)]
 pub struct Pointed {
     pub acc: u8,
     pub dph: u8,
@@ -65,7 +67,7 @@ pub struct Pointed {
     pub skip: bool,
 }
 
-#[derive(Drop)]
+#[derive(Clone, Copy)]
 pub struct Worked {
     pub acc: u8,
     pub dph: u8,
@@ -73,19 +75,19 @@ pub struct Worked {
     pub word: u8,
 }
 
-#[derive(Drop)]
+#[derive(Clone, Copy)]
 pub struct Flagged {
     pub word: u8,
     pub skip: bool,
 }
 
-#[derive(Drop)]
+#[derive(Clone, Copy)]
 pub struct Jumped {
     pub flow: Flow,
     pub skip: bool,
 }
 
-#[derive(Drop)]
+#[derive(Clone, Copy)]
 pub struct Controlled {
     pub carry: u8,
     pub saved: u8,
@@ -96,7 +98,7 @@ pub struct Controlled {
     pub skip: bool,
 }
 
-#[derive(Drop)]
+#[derive(Clone, Copy)]
 pub struct Ported {
     pub acc: u8,
     pub skip: bool,
@@ -105,7 +107,7 @@ pub struct Ported {
 }
 
 // The effective writes of an instruction, as `portlog` takes them.
-#[derive(Drop)]
+#[derive(Clone, Copy)]
 pub struct Output {
     pub port: u8,
     pub value: u8,

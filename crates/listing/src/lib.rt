@@ -1,5 +1,7 @@
 // The listing of a ROM: assembler text, a line for each instruction, with address, bytes and base cycles behind it. It may not know what an
 // instruction does, nor where the ROM comes from and the text goes to.
+#![tactic(auto)]
+
 ghost use Rattle.std.specs.Prelude.{◌≡◌, cond, ◌&&◌, ◌++◌, ◌+◌, ◌*◌, ◌<◌, ◌≤◌, eqb, length, get_or, drop};
 ghost use Rattle.upd546.specs.TheMachine.{rom_length};
 ghost use Rattle.upd546.specs.Instructions.{instruction};
@@ -18,7 +20,7 @@ use upd546::ROM_LENGTH;
 pub const TEXT_LENGTH: usize = 65536 * 2;
 
 // An item of the listing: its kind is a letter of the words' table.
-#[derive(Drop)]
+#[derive(Clone, Copy)]
 struct Shown {
     at: u16,
     code: u8,

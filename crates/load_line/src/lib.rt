@@ -1,9 +1,11 @@
 // A line of text as a command of program `load`: `rom SEED` or `schedule SEED M`. It may not know what is made of it.
+#![tactic(auto)]
+
 ghost use Rattle.std.specs.Prelude.{◌≡◌, ◌≤◌, length, get_or};
 ghost use Rattle.load_line.specs.Commands.{is_read, most_digits, numeral_at, begins_with, ends_at, rom_asked, schedule_asked, command_of};
 
 // What a line asks for.
-#[derive(Drop)]
+#[derive(Clone, Copy)]
 pub enum Command {
     // The ROM of a seed.
     Rom(u32),
@@ -13,7 +15,7 @@ pub enum Command {
 }
 
 // A number of a line: no digits where there is none.
-#[derive(Drop)]
+#[derive(Clone, Copy)]
 pub struct Numeral {
     pub value: u64,
     pub digits: usize,

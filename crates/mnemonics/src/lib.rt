@@ -1,5 +1,7 @@
 // NEC's mnemonics: one table beside the codes, of each code's word and the kind of its operand, and an instruction as people read it.
 // It may not know what an instruction does, nor where a text goes.
+#![tactic(auto)]
+
 ghost use Rattle.std.specs.Prelude.{◌≡◌, ◌/◌, ◌%◌, [], ◌∷◌};
 ghost use Rattle.upd546.specs.Reports.{hex_digit};
 ghost use Rattle.mnemonics.specs.Mnemonics.{entry_of, word_table, kind_for, leads_for, long_for, target_of, operand_text, byte_text, instruction_text};

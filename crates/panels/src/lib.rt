@@ -1,5 +1,7 @@
 // The panels of a bank, one by one and by value: request R-9. What a panel keeps, what a round carries from panel to panel, and one
 // panel's turn. It may not know how a run goes, only what the timer-skipping runner answers; nor how the row of panels is kept.
+#![tactic(auto)]
+
 ghost use Rattle.std.specs.Prelude.{◌≡◌, ℕ, ◌-◌, min, List, [], ◌∷◌, cond, eqb, leb, ltb};
 ghost use Rattle.runs.specs.Refusals.{first_of, unless};
 ghost use Rattle.upd546.specs.TheSheet.{sheet_number};
@@ -17,7 +19,7 @@ use upd546::{RunAnswer, Sheet, State};
 pub const MOST_PANELS: usize = 16;
 
 // What a panel wishes, and how long its parts of the three buffers are. A round leaves it as it is.
-#[derive(Drop)]
+#[derive(Clone, Copy)]
 pub struct Needs {
     pub wish: MachineCycles,
     pub rom: usize,
@@ -26,7 +28,7 @@ pub struct Needs {
 }
 
 // What a panel's run of the last round answered: its counts, and its number.
-#[derive(Drop)]
+#[derive(Clone, Copy)]
 pub struct Last {
     pub cycles: MachineCycles,
     pub begun: u64,
@@ -36,7 +38,7 @@ pub struct Last {
 }
 
 // A panel of the bank: its machine, what it needs, and what the last round left.
-#[derive(Drop)]
+#[derive(Clone, Copy)]
 pub struct Panel {
     pub state: State,
     pub needs: Needs,
@@ -44,7 +46,7 @@ pub struct Panel {
 }
 
 // A place in each of the three buffers.
-#[derive(Drop)]
+#[derive(Clone, Copy)]
 pub struct Places {
     pub rom: usize,
     pub schedule: usize,
@@ -53,7 +55,7 @@ pub struct Places {
 
 // What a round carries from panel to panel: how many are gone through, the share of each and what is left of T, where the next parts
 // begin, where the buffers end, and the round's number.
-#[derive(Drop)]
+#[derive(Clone, Copy)]
 pub struct Course {
     pub count: usize,
     pub share: u64,
@@ -64,14 +66,14 @@ pub struct Course {
 }
 
 // What a panel has for a round: its grant, and where its parts begin.
-#[derive(Drop)]
+#[derive(Clone, Copy)]
 pub struct Lot {
     pub grant: MachineCycles,
     pub at: Places,
 }
 
 // A panel after its turn, and what the round carries on.
-#[derive(Drop)]
+#[derive(Clone, Copy)]
 pub struct Turned {
     pub panel: Panel,
     pub course: Course,

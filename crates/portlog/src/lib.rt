@@ -1,6 +1,8 @@
 // The port log: what an effective write and a reset append to the part of the log that is still empty, and what a write leaves in
 // the latches.
 // It may not know which instruction writes, nor how a run goes.
+#![tactic(auto)]
+
 ghost use Rattle.std.specs.Prelude.{◌≡◌, ◌++◌, ℕ, ◌-◌, ◌*◌, ◌≤◌, length, drop, set};
 ghost use Rattle.upd546.specs.Ports.{port_c, port_i, reset_record, log_record, log_record_length, log_bytes};
 ghost use Rattle.laws.specs.Writes.{All, ValidWrite};

@@ -1,6 +1,9 @@
 // Program `recalling`: reads a name and a store from standard input, and writes the image that the store keeps under the name; a refusal as
 // its number. The input is that of `storing` without an image. It may not know how a store is judged, nor what an entry is.
+#![tactic(auto)]
+
 use runs::Outcome;
+use std::rt::Runtime;
 use store::NAME_LENGTH;
 use streams::{Input, Output};
 
@@ -12,46 +15,47 @@ const STORE_AT: usize = NAME_LENGTH + COUNT_LENGTH;
 // The longest store that is taken: 700 entries, as `storing` takes them. It doesn't fill the buffer.
 const MOST_BYTES: u64 = 63000;
 
-fn main() {
+fn main(rt: HostRuntime) {
     let mut input = io::large_buffer();
-    let read = streams::fill(&mut input);
+    let read = streams::fill(&mut rt.reader(), &mut input);
     match read {
-        Input::Full => expected(),
-        Input::Ended(got) => parts(&input[..got]),
-        Input::Unread => streams::end_unread(b"recalling"),
+        Input::Full => expected(&rt),
+        Input::Ended(got) => parts(&rt, &input[..got]),
+        Input::Unread(e) => streams::end_unread(&rt, b"recalling", e),
     }
 }
 
-fn parts(input: &[u8]) {
+fn parts(rt: &impl Runtime, input: &[u8]) {
     if input.len() < STORE_AT {
-        expected();
+        expected(rt);
         return;
     }
     let bytes = big_endian::number_at(input, NAME_LENGTH, COUNT_LENGTH);
     if MOST_BYTES < bytes {
-        expected();
+        expected(rt);
         return;
     }
     if input.len() != STORE_AT + bytes as usize {
-        expected();
+        expected(rt);
         return;
     }
-    answer(&input[0..NAME_LENGTH], &input[STORE_AT..]);
+    answer(rt, &input[0..NAME_LENGTH], &input[STORE_AT..]);
 }
 
-fn answer(name: &[u8], kept: &[u8]) {
+fn answer(rt: &impl Runtime, name: &[u8], kept: &[u8]) {
     let sheet = upd546::upd546_sheet();
     let judged = store::recall_check(kept, name, sheet);
     if let Outcome::Refused(why) = judged {
-        streams::end_refused(b"recalling", runs::refusal_number(why));
+        streams::end_refused(rt, b"recalling", runs::refusal_number(why));
         return;
     }
-    let out = streams::write(Output::Whole(0), store::recall(kept, name, sheet));
-    streams::end_whole(b"recalling", out);
+    let out = streams::write(rt, Output::Whole(0), store::recall(kept, name, sheet));
+    streams::end_whole(rt, b"recalling", out);
 }
 
-fn expected() {
+fn expected(rt: &impl Runtime) {
     streams::end_mistake(
+        rt,
         b"recalling: expected on standard input a name of 8 bytes, the length of a store in 4 bytes, 63000 at most, and the store\n",
     );
 }

@@ -1,5 +1,7 @@
 // The reset line, looked at before step a: whether the next cycle is a reset cycle, and what reset cycles leave.
 // It may not know what an instruction does, how a schedule is read, nor what a run answers.
+#![tactic(auto)]
+
 ghost use Rattle.std.specs.Prelude.{◌≡◌, ◌+◌, ◌<◌, ◌≤◌, length, replicate};
 ghost use Rattle.upd546.specs.TheMachine.{latches};
 ghost use Rattle.upd546.specs.OneMachineCycle.{counted as countedOf, cleared as clearedOf};
@@ -9,7 +11,7 @@ use upd546::{Core, LATCHES, LOG_RECORD, Lines, MARK_OTHER, RESET_COUNT, Timer};
 
 // Where a run stands once the line was looked at: the next cycle, the limit up to which lines and count stay, and the count after
 // the next cycle. `full`: the log lacks the bytes of a reset's record, and all is as it was.
-#[derive(Drop)]
+#[derive(Clone, Copy)]
 pub struct Looked {
     pub full: bool,
     pub core: Core,

@@ -1,4 +1,6 @@
 // RESTORE: the state that the bytes of an image are, or why not. It may not know how an image is written, nor how a run goes.
+#![tactic(auto)]
+
 ghost use Rattle.std.specs.Prelude.{◌≡◌, ◌+◌, ◌≤◌, length};
 ghost use Rattle.runs.specs.declared.Version.TheVariants.{One};
 ghost use Rattle.runs.specs.Numbers.{outcome_number};

@@ -1,4 +1,6 @@
 // The two runners: what refuses a run, and then the one loop that both go through. It may not know how the loop goes.
+#![tactic(auto)]
+
 ghost use Rattle.std.specs.Prelude.{◌≡◌, List, ℕ};
 ghost use Rattle.runs.specs.Numbers.{outcome_number, refusal_number};
 ghost use Rattle.runs.specs.TwoRunners.{refused_run, run_number, plain, skipping};

@@ -1,18 +1,20 @@
 // What a run, a save and a restore answer, for any machine: counts, ends and their numbers, and in specs/ the two runners.
 // It may not know the chip: instructions, timer, lines and the image's layout stand behind the record `Machine`.
+#![tactic(auto)]
+
 ghost use Rattle.std.specs.Prelude.{◌≡◌};
 ghost use Rattle.runs.specs.Numbers.{stop_number, refusal_number, end_number, outcome_number};
 
 // A count of machine cycles.
-#[derive(Drop)]
+#[derive(Clone, Copy)]
 pub struct MachineCycles(pub u64);
 
 // A count of clock cycles, four to a machine cycle.
-#[derive(Drop)]
+#[derive(Clone, Copy)]
 pub struct ClockCycles(pub u64);
 
 // Why a run stopped before its last cycle.
-#[derive(Drop)]
+#[derive(Clone, Copy)]
 pub enum Stop {
     LogFull,
     RomEnd,
@@ -20,14 +22,14 @@ pub enum Stop {
 }
 
 // The versions of an image. Version 1 is for old boards, and lacks the count of cycles with RES high.
-#[derive(Drop)]
+#[derive(Clone, Copy)]
 pub enum Version {
     One,
     Two,
 }
 
 // Why a call was refused.
-#[derive(Drop)]
+#[derive(Clone, Copy)]
 pub enum Refusal {
     BufferShort,
     CycleLimit,
@@ -48,7 +50,7 @@ pub enum Refusal {
 }
 
 // How a run ended.
-#[derive(Drop)]
+#[derive(Clone, Copy)]
 pub enum RunEnd {
     Finished,
     Stopped(Stop),
@@ -56,7 +58,7 @@ pub enum RunEnd {
 }
 
 // How a save or a restore ended.
-#[derive(Drop)]
+#[derive(Clone, Copy)]
 pub enum Outcome {
     Done,
     Refused(Refusal),

@@ -1,4 +1,6 @@
 // SAVE: a state written to a buffer as the bytes of its image. It may not know how an image is read, nor how a run goes.
+#![tactic(auto)]
+
 ghost use Rattle.std.specs.Prelude.{◌≡◌, ◌++◌, ◌+◌, ◌≤◌, length, take, drop};
 ghost use Rattle.runs.specs.declared.Version.TheVariants.{One};
 ghost use Rattle.runs.specs.TwoRunners.{save_answer};
@@ -30,7 +32,7 @@ fn put(buffer: &mut [u8], at: usize, bytes: &[u8])
     requires { at + length bytes.now ≤ length buffer.old }
     ensures { buffer.new ≡ take at buffer.old ++ bytes.now ++ drop (at + length bytes.now) buffer.old }
 {
-    bytes::copy(bytes, &mut buffer[at..]);
+    copying::copy(bytes, &mut buffer[at..]);
 }
 
 fn word_bytes(w: u16) -> [u8; 2]

@@ -1,5 +1,7 @@
 // The line schedule in code: which number refuses it, and a cursor that goes with a run and holds the lines of its cycle.
 // It may not know the chip's instructions, nor how a run goes.
+#![tactic(auto)]
+
 ghost use Rattle.std.specs.Prelude.{◌≡◌, ◌+◌, ◌*◌, ◌/◌, ◌<◌, ◌≤◌, ◌^◌, ◌&&◌, eqb, leb};
 ghost use Rattle.runs.specs.Numbers.{outcome_number};
 ghost use Rattle.runs.specs.Refusals.{cycle_limit};
@@ -20,7 +22,7 @@ const MAX_LENGTH: usize = 40960;
 const NO_CYCLE: u64 = 18446744073709551615;
 
 // Where a run stands in its schedule at a cycle.
-#[derive(Drop)]
+#[derive(Clone, Copy)]
 pub struct Cursor {
     // The number of records at or before the cycle.
     pub index: usize,

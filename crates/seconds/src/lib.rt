@@ -1,6 +1,8 @@
 // Machine cycles as time, at a clock that is given: microseconds, the words' numbers of a length, the steps of an axis. Whole numbers
 // only. It may not know what takes the time, nor how a time is written.
 // Sums and products stay at the largest number of 64 bits, so that no function asks anything of its caller. Times of a log don't reach it.
+#![tactic(auto)]
+
 ghost use Rattle.std.specs.Prelude.{◌≤◌, ◌*◌};
 
 use runs::MachineCycles;
@@ -117,7 +119,7 @@ pub fn cycles(micros: u64, clock: u64) -> MachineCycles {
 }
 
 // A length, rounded to the last figure that is told. The border between two forms is of the rounded value, so there is no `60.0 s`.
-#[derive(Drop)]
+#[derive(Clone, Copy)]
 pub enum Length {
     // Hundredths of a millisecond, under a second.
     Milliseconds(u64),

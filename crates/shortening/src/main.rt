@@ -1,10 +1,13 @@
 // Program `shortening`, of the front door's command shortest: reads a panel, finds how few of its first records still stop it as all of them
 // do, and writes that and where the stop is, or the panel with those records alone; a refusal as its number. It may not know how a run
 // goes, nor how the records are found.
+#![tactic(auto)]
+
 ghost use Rattle.std.specs.Prelude.{◌+◌, ◌*◌, ◌≤◌, length};
 
 use runs::MachineCycles;
 use shortest::Shortest;
+use std::rt::Runtime;
 use streams::{Input, Output};
 use upd546::{CYCLE_BYTES, ROM_LENGTH, State};
 
@@ -26,24 +29,25 @@ const RECORD_LENGTH: usize = 10;
 const SHOWN: usize = 8;
 
 // The buffer holds more than every input that isn't refused, so what is behind it need not be read.
-fn main() {
+fn main(rt: HostRuntime) {
     let mut input = io::large_buffer();
-    let read = streams::fill(&mut input);
+    let read = streams::fill(&mut rt.reader(), &mut input);
     match read {
-        Input::Full => parts(&input),
-        Input::Ended(got) => parts(&input[..got]),
-        Input::Unread => streams::end_unread(b"shortening"),
+        Input::Full => parts(&rt, &input),
+        Input::Ended(got) => parts(&rt, &input[..got]),
+        Input::Unread(e) => streams::end_unread(&rt, b"shortening", e),
     }
 }
 
 // "under 2,004 bytes being 21", as `trace` has it.
-fn parts(input: &[u8]) {
+fn parts(rt: &impl Runtime, input: &[u8]) {
     if input.len() < SCHEDULE_AT {
-        streams::end_refused(b"shortening", 21);
+        streams::end_refused(rt, b"shortening", 21);
         return;
     }
     let n = MachineCycles(big_endian::number_at(input, N_AT, N_LENGTH));
     lend(
+        rt,
         &input[N_AT..ROM_AT],
         &input[ROM_AT..SCHEDULE_AT],
         &input[SCHEDULE_AT..],
@@ -53,13 +57,21 @@ fn parts(input: &[u8]) {
 }
 
 // The log for the trials.
-fn lend(count: &[u8], rom: &[u8], sched: &[u8], n: MachineCycles, shortened: bool) {
+fn lend(
+    rt: &impl Runtime,
+    count: &[u8],
+    rom: &[u8],
+    sched: &[u8],
+    n: MachineCycles,
+    shortened: bool,
+) {
     let mut log = [0u8; LOG_LENGTH];
-    panel(count, rom, sched, n, shortened, &mut log);
+    panel(rt, count, rom, sched, n, shortened, &mut log);
 }
 
 // The panel from the fresh state: the bytes of its n, its ROM, its schedule.
 fn panel(
+    rt: &impl Runtime,
     count: &[u8],
     rom: &[u8],
     sched: &[u8],
@@ -72,17 +84,17 @@ fn panel(
     let found = shortest::find(rom, sched, state, n, log, sheet);
     let number = shortest::number_of(found);
     let Shortest::Stops(k, _) = found else {
-        streams::end_refused(b"shortening", number);
+        streams::end_refused(rt, b"shortening", number);
         return;
     };
     let kept = first_records(sched, k);
     if shortened {
-        end_panel(count, rom, kept);
+        end_panel(rt, count, rom, kept);
         return;
     }
     let ran = runner::run_skipping(rom, kept, state, log, n, sheet);
     let stopped = ran.state;
-    end_text(number, stopped, kept, sched.len());
+    end_text(rt, number, stopped, kept, sched.len());
 }
 
 // The first k records. What is found are at most those that there are.
@@ -94,59 +106,59 @@ fn first_records(sched: &[u8], k: usize) -> &[u8] {
 }
 
 // A panel that `trace` reads, with the records kept.
-fn end_panel(count: &[u8], rom: &[u8], kept: &[u8]) {
-    let counted = streams::write(Output::Whole(0), count);
-    let coded = streams::write(counted, rom);
-    let out = streams::write(coded, kept);
-    streams::end_whole(b"shortening", out);
+fn end_panel(rt: &impl Runtime, count: &[u8], rom: &[u8], kept: &[u8]) {
+    let counted = streams::write(rt, Output::Whole(0), count);
+    let coded = streams::write(rt, counted, rom);
+    let out = streams::write(rt, coded, kept);
+    streams::end_whole(rt, b"shortening", out);
 }
 
 // The stop of the shortened panel, how many records it has and all of them, and the last records of it.
-fn end_text(number: u8, stopped: State, kept: &[u8], length: usize) {
-    let stop = streams::write(Output::Whole(0), b"stop ");
-    let numbered = streams::write_number(stop, number as u64, b' ');
-    let at = streams::write(numbered, b"cycle ");
-    let timed = streams::write_number(at, stopped.cycle.0, b' ');
-    let placed = write_address(timed, stopped.core.flow.pc);
-    let enough = streams::write(placed, b"records ");
-    let counted = streams::write_number(enough, (kept.len() / RECORD_LENGTH) as u64, b' ');
-    let of = streams::write(counted, b"of ");
-    let headed = streams::write_number(of, (length / RECORD_LENGTH) as u64, b'\n');
-    let listed = streams::write(headed, b"record cycle A B C D INT RES\n");
-    let out = write_records(listed, kept);
-    streams::end_whole(b"shortening", out);
+fn end_text(rt: &impl Runtime, number: u8, stopped: State, kept: &[u8], length: usize) {
+    let stop = streams::write(rt, Output::Whole(0), b"stop ");
+    let numbered = streams::write_number(rt, stop, number as u64, b' ');
+    let at = streams::write(rt, numbered, b"cycle ");
+    let timed = streams::write_number(rt, at, stopped.cycle.0, b' ');
+    let placed = write_address(rt, timed, stopped.core.flow.pc);
+    let enough = streams::write(rt, placed, b"records ");
+    let counted = streams::write_number(rt, enough, (kept.len() / RECORD_LENGTH) as u64, b' ');
+    let of = streams::write(rt, counted, b"of ");
+    let headed = streams::write_number(rt, of, (length / RECORD_LENGTH) as u64, b'\n');
+    let listed = streams::write(rt, headed, b"record cycle A B C D INT RES\n");
+    let out = write_records(rt, listed, kept);
+    streams::end_whole(rt, b"shortening", out);
 }
 
 // Three digits, as an address has them.
-fn write_address(before: Output, address: u16) -> Output {
-    let word = streams::write(before, b"address ");
+fn write_address(rt: &impl Print, before: Output, address: u16) -> Output {
+    let word = streams::write(rt, before, b"address ");
     let high = hex_digit((address / 256 % 16) as u8);
     let middle = hex_digit((address / 16 % 16) as u8);
     let low = hex_digit((address % 16) as u8);
-    streams::write(word, &[high, middle, low, b'\n'])
+    streams::write(rt, word, &[high, middle, low, b'\n'])
 }
 
 // The last records, oldest first.
-fn write_records(before: Output, kept: &[u8]) -> Output {
+fn write_records(rt: &impl Print, before: Output, kept: &[u8]) -> Output {
     let count = kept.len() / RECORD_LENGTH;
     let mut out = before;
     let mut i = if count < SHOWN { 0 } else { count - SHOWN };
     while i < count {
         let so_far = out;
-        out = write_record(so_far, kept, i);
+        out = write_record(rt, so_far, kept, i);
         i += 1;
     }
     out
 }
 
 // A record: its place, counted from 1, its cycle, and the lines from there on.
-fn write_record(before: Output, kept: &[u8], i: usize) -> Output
+fn write_record(rt: &impl Print, before: Output, kept: &[u8], i: usize) -> Output
     requires { 10 * (i + 1) ≤ length kept.now }
 {
     let at = RECORD_LENGTH * i;
-    let placed = streams::write_number(before, i as u64 + 1, b' ');
+    let placed = streams::write_number(rt, before, i as u64 + 1, b' ');
     let cycle = big_endian::number_at(kept, at, CYCLE_BYTES);
-    let timed = streams::write_number(placed, cycle, b' ');
+    let timed = streams::write_number(rt, placed, cycle, b' ');
     let ab = kept[at + 6];
     let cd = kept[at + 7];
     let int = kept[at + 8];
@@ -161,8 +173,8 @@ fn write_record(before: Output, kept: &[u8], i: usize) -> Output
         hex_digit(cd),
         b' ',
     ];
-    let lined = streams::write(timed, &ports);
-    streams::write(lined, &[hex_digit(int), b' ', hex_digit(res), b'\n'])
+    let lined = streams::write(rt, timed, &ports);
+    streams::write(rt, lined, &[hex_digit(int), b' ', hex_digit(res), b'\n'])
 }
 
 // The digit of the low four bits.

@@ -1,5 +1,7 @@
 // The shortest beginning of a schedule with which a run still stops as it does with all of it: request R-12.
 // It may not know how a run goes, what an instruction does, nor what refuses a schedule.
+#![tactic(auto)]
+
 ghost use Rattle.std.specs.Prelude.{true, ◌⊎◌, ◌≡◌, ◌+◌, ◌<◌, ◌≤◌, length};
 ghost use Rattle.runs.specs.Numbers.{stop_number, outcome_number, end_of};
 ghost use Rattle.runs.specs.TwoRunners.{run_number};
@@ -23,7 +25,7 @@ const CYCLE_LOG: u64 = 16;
 const PIECE: u64 = 1000;
 
 // What is found: how many records, and the stop; or why nothing is: the run's own refusals, 81, 82.
-#[derive(Drop)]
+#[derive(Clone, Copy)]
 pub enum Shortest {
     Stops(usize, Stop),
     Refused(Refusal),
@@ -107,7 +109,7 @@ fn came_back(sched: &[u8], old: State, here: State, sheet: Sheet) -> bool
 }
 
 // A run brought forward: the state, and the cycles still to go.
-#[derive(Drop)]
+#[derive(Clone, Copy)]
 struct Kept {
     state: State,
     left: u64,

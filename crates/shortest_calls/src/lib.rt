@@ -1,6 +1,8 @@
 // The call of the board's C program that finds the shortest schedule that still stops: request R-12. It stands apart from the other
 // calls, so that a restore and a run have one place in each object of the archive and are compiled into it.
 // It may not know how a restore or a run goes, what a trial is, nor the image's layout.
+#![tactic(auto)]
+
 ghost use Rattle.std.specs.Prelude.{◌≡◌};
 ghost use Rattle.upd546.specs.TwoRunners.{chip};
 ghost use Rattle.shortest.specs.Search.{found_of};
@@ -34,8 +36,7 @@ fn find_in(
 }
 
 // THE CALL: 1 of a short buffer, 71, the image's refusals, the run's, 81, 82; k in the first 8 bytes of `found`.
-#[unsafe(no_mangle)]
-pub extern "C" fn wharfnettle_shortest(
+pub fn wharfnettle_shortest(
     image: &[u8],
     rom: &[u8],
     schedule: &[u8],

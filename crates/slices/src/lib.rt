@@ -1,6 +1,8 @@
 // A panel's cycles in slices, each a call of the board on a log that has room for all its records, which is written to standard output
 // before the next slice. The logs, one behind the other, are the log of one unbroken run (demand 3), so it is as long as it may be and no
 // buffer holds it whole. It may not know how a run goes, nor what an image holds.
+#![tactic(auto)]
+
 ghost use Rattle.std.specs.Prelude.{◌≡◌, ◌-◌, ◌≤◌, min};
 
 use board::REPORT_LENGTH;
@@ -18,7 +20,7 @@ const WRITTEN_AT: usize = 16;
 const COUNT_BYTES: usize = 8;
 
 // What is left of the cycles, what standard output has, and the number of the last call.
-#[derive(Drop)]
+#[derive(Clone, Copy)]
 pub struct Going {
     pub left: u64,
     pub out: Output,
@@ -27,11 +29,17 @@ pub struct Going {
 
 // ALL CYCLES, the image brought forward and the log written; one slice at least, so that a refusal is told for n = 0 too. A refusal of any
 // but 2 comes with the first, before anything is written.
-pub fn write_log(image: &mut [u8; IMAGE_LENGTH], rom: &[u8], sched: &[u8], n: u64) -> Going {
-    let mut going = slice(image, rom, sched, n, Output::Whole(0));
+pub fn write_log(
+    rt: &impl Print,
+    image: &mut [u8; IMAGE_LENGTH],
+    rom: &[u8],
+    sched: &[u8],
+    n: u64,
+) -> Going {
+    let mut going = slice(rt, image, rom, sched, n, Output::Whole(0));
     while 0 < going.left {
         let out = going.out;
-        going = slice(image, rom, sched, going.left, out);
+        going = slice(rt, image, rom, sched, going.left, out);
     }
     going
 }
@@ -39,6 +47,7 @@ pub fn write_log(image: &mut [u8; IMAGE_LENGTH], rom: &[u8], sched: &[u8], n: u6
 // One slice of the cycles that are left: a call of the board, its log bytes written to standard output. After a stop, a refusal or a write
 // that failed no cycles are left.
 fn slice(
+    rt: &impl Print,
     image: &mut [u8; IMAGE_LENGTH],
     rom: &[u8],
     sched: &[u8],
@@ -64,7 +73,7 @@ fn slice(
         sheet.levels,
     );
     let written = big_endian::number_at(&report, WRITTEN_AT, COUNT_BYTES) as usize;
-    let out = streams::write_first(before, &log, written);
+    let out = streams::write_first(rt, before, &log, written);
     if (number != 0) | is_cut(out) {
         return Going {
             left: 0,
@@ -82,7 +91,7 @@ fn slice(
 fn is_cut(out: Output) -> bool {
     match out {
         Output::Whole(_) => false,
-        Output::Cut(_) => true,
+        Output::Cut(_, _) => true,
     }
 }
 

@@ -1,6 +1,8 @@
 // Steps a, b and d of a machine cycle, on cores: acceptance of an interrupt, the lines, the timer. And how PC counts, and how the
 // stack moves.
 // It may not know what an instruction does, nor how a run goes.
+#![tactic(auto)]
+
 ghost use Rattle.std.specs.Prelude.{◌≡◌, ◌≤◌};
 ghost use Rattle.upd546.specs.declared.Sheet.{Sheet};
 ghost use Rattle.upd546.specs.TheMachine.{stack_depth, follows as followsOf, pushed as pushedOf, popped as poppedOf};

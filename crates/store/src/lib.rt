@@ -1,5 +1,7 @@
 // A store of images under names: request R-7. It judges a store whole, keeps an image under a name, and hands back the part of the
 // store that holds one. It may not know the image's layout, nor how a restore goes.
+#![tactic(auto)]
+
 ghost use Rattle.std.specs.Prelude.{◌≡◌, ◌&&◌, ◌+◌, ◌-◌, ◌*◌, ◌≤◌, length, drop};
 ghost use Rattle.runs.specs.Numbers.{outcome_number};
 ghost use Rattle.upd546.specs.Bytes.{number_at};
@@ -17,7 +19,7 @@ pub const NAME_LENGTH: usize = 8;
 pub const ENTRY_LENGTH: usize = NAME_LENGTH + IMAGE_LENGTH;
 
 // Which entry of a store a name has, counted from 0, or why none.
-#[derive(Drop)]
+#[derive(Clone, Copy)]
 pub enum Place {
     At(usize),
     Nowhere(Refusal),
@@ -188,8 +190,8 @@ fn put_entry(store: &mut [u8], i: usize, name: &[u8], image: &[u8])
     ensures { store.new ≡ with_entry chip_image i (record { name = name.entry.now; image = image.now }) store.old }
 {
     let at = ENTRY_LENGTH * i;
-    bytes::copy(name, &mut store[at..]);
-    bytes::copy(image, &mut store[at + NAME_LENGTH..]);
+    copying::copy(name, &mut store[at..]);
+    copying::copy(image, &mut store[at + NAME_LENGTH..]);
 }
 
 // STORING: 71, 51, 53; a known name's entry is replaced in its place, and a new name takes the first unused entry.

@@ -1,6 +1,8 @@
 // Calls of the board's C program on a store of images under names: request R-7. They stand apart from the other calls, so that a restore
 // has one place in each object of the archive and is compiled into it.
 // It may not know how a store is judged, nor the image's layout.
+#![tactic(auto)]
+
 ghost use Rattle.std.specs.Prelude.{◌≡◌};
 ghost use Rattle.upd546.specs.TwoRunners.{chip};
 ghost use Rattle.store.specs.Answers.{store_answer};
@@ -12,8 +14,7 @@ use upd546::Sheet;
 use upd546::layout::IMAGE_LENGTH;
 
 // STORING an image under a name of eight bytes, in a store of some entries of 90 bytes, under a sheet: 71, 51, 53.
-#[unsafe(no_mangle)]
-pub extern "C" fn wharfnettle_store(
+pub fn wharfnettle_store(
     store: &mut [u8],
     name: &[u8],
     image: &[u8],
@@ -32,8 +33,7 @@ pub extern "C" fn wharfnettle_store(
 }
 
 // RECALLING: the image kept under a name, copied into the first bytes of a buffer: 71, 51, 52, then 1 of a buffer that is too short.
-#[unsafe(no_mangle)]
-pub extern "C" fn wharfnettle_recall(
+pub fn wharfnettle_recall(
     store: &[u8],
     name: &[u8],
     image: &mut [u8],
@@ -56,7 +56,7 @@ pub extern "C" fn wharfnettle_recall(
                 return runs::refusal_number(Refusal::BufferShort);
             }
             let at = ENTRY_LENGTH * i + NAME_LENGTH;
-            bytes::copy(&store[at..at + IMAGE_LENGTH], image);
+            copying::copy(&store[at..at + IMAGE_LENGTH], image);
             0
         }
     }

@@ -1,34 +1,40 @@
-// Standard input and standard output, over `read` and `write` of the C library: a failed read is never taken for the end of the input,
-// and a failed write never for a write. And the last word of a program, by which its caller learns that nothing was lost.
+// Standard input and standard output, over `read` and `write` of std: a failed read is never taken for the end of the input, and a failed
+// write never for a write. And the last word of a program, by which its caller learns that nothing was lost.
 // It may not know what is read or written, but for the line of a refusal.
+#![tactic(auto)]
+
 ghost use Rattle.std.specs.Prelude.{◌≡◌, ◌+◌, ◌≤◌, ◌∷◌, [], ◌++◌, length};
 ghost use Rattle.upd546.specs.Reports.{decimal};
-ghost use Rattle.streams.specs.Streams.{turn_of, moved_by, Filled, Wrote, is_refusal};
+ghost use Rattle.streams.specs.Streams.{IsTurn, moved_by, Filled, IsPart, Wrote, is_refusal};
 
-use libc::{EINTR, STDERR_FILENO, STDIN_FILENO, STDOUT_FILENO};
+use std::fmt;
+use std::fmt::{Display, Formatter, InlineText};
+use std::fs::OpenOptions;
+use std::io::{Error, ErrorKind, Read, Write, writer};
+use std::rt::{Env, Runtime};
 
 // What filling a buffer came to.
-#[derive(Drop)]
+#[derive(Clone, Copy)]
 pub enum Input {
     // The buffer is full, and more may follow.
     Full,
     // The input ended: so many bytes of it stand at the front of the buffer.
     Ended(usize),
     // A read failed. What stands in the buffer isn't the input.
-    Unread,
+    Unread(Error),
 }
 
 // What standard output has so far, in bytes.
-#[derive(Drop)]
+#[derive(Clone, Copy)]
 pub enum Output {
     // All that was to be written.
     Whole(u64),
     // Not all: a write failed, and nothing was written after it.
-    Cut(u64),
+    Cut(u64, Error),
 }
 
 // What one call of `read` or `write` came to.
-#[derive(Drop)]
+#[derive(Clone, Copy)]
 enum Turn {
     // So many bytes were moved, one at least.
     Moved(usize),
@@ -36,11 +42,27 @@ enum Turn {
     Interrupted,
     // No byte was moved, and nothing failed: the end of the input.
     Ended,
-    Failed,
+    Failed(Error),
+}
+
+// What writing bytes came to.
+#[derive(Clone, Copy)]
+enum Sent {
+    All,
+    // So many of them, the first ones; then a write failed.
+    Part(usize, Error),
 }
 
 // The most calls for a buffer: each moves a byte at least, or was interrupted.
 const CALLS: usize = 1000000;
+
+// Linux's number of the error of a call that a signal interrupted.
+const EINTR: i32 = 4;
+
+// The longest words for an error, and what std puts behind them.
+const REASON_LENGTH: usize = 128;
+
+const CODE_MARK: &str = " (os error ";
 
 // No output has so many bytes.
 const MOST_BYTES: u64 = 0x8000_0000_0000_0000;
@@ -53,20 +75,20 @@ const REFUSED_SPACE: usize = 29;
 // The longest line of a refusal: `refused`, a space, three digits and the line's end. `refused_most` is the same number.
 const REFUSED_LENGTH: usize = 12;
 
-// What a call came to, by whether it failed, whether a signal had come then, and the bytes that it moved.
-fn judged(failed: bool, interrupted: bool, moved: usize) -> Turn
-    ensures { result ≡ turn_of failed interrupted moved }
+// What a call came to, by its answer: the bytes that it moved, or why it failed.
+fn judged(answer: Result<usize, Error>) -> Turn
+    ensures { IsTurn answer result }
 {
-    if failed {
-        if interrupted {
-            return Turn::Interrupted;
+    match answer {
+        Ok(0) => Turn::Ended,
+        Ok(n) => Turn::Moved(n),
+        Err(e) => {
+            if e.kind() == ErrorKind::Interrupted {
+                return Turn::Interrupted;
+            }
+            Turn::Failed(e)
         }
-        return Turn::Failed;
     }
-    if moved == 0 {
-        return Turn::Ended;
-    }
-    Turn::Moved(moved)
 }
 
 // The bytes that a call moved.
@@ -80,29 +102,28 @@ fn moved(turn: Turn) -> usize
 }
 
 // One read into the buffer from a place on.
-fn read_once(buf: &mut [u8], at: usize) -> Turn
+fn read_once<R: Read>(from: &mut R, buf: &mut [u8], at: usize) -> Turn
     requires { at ≤ length buf.old }
     ensures { at + moved_by result ≤ length buf.old }
 {
-    let answered = libc::read(STDIN_FILENO, &mut buf[at..]);
-    let interrupted = os::errno() == EINTR;
-    let moved = io::count(answered, &buf[at..]);
-    judged(answered < 0, interrupted, moved)
+    judged(from.read(&mut buf[at..]))
 }
 
 // One write of the bytes from a place on.
-fn write_once(fd: i32, bytes: &[u8], at: usize) -> Turn
+fn write_once<W: Write>(to: &mut W, bytes: &[u8], at: usize) -> Turn
     requires { at ≤ length bytes.now }
     ensures { at + moved_by result ≤ length bytes.now }
 {
-    let answered = libc::write(fd, &bytes[at..]);
-    let interrupted = os::errno() == EINTR;
-    let moved = io::count(answered, &bytes[at..]);
-    judged(answered < 0, interrupted, moved)
+    judged(to.write(&bytes[at..]))
 }
 
-// FILLS A BUFFER FROM STANDARD INPUT, up to the end of the input.
-pub fn fill(buf: &mut [u8]) -> Input
+// The error of a call that signals interrupted again and again.
+fn interrupted() -> Error {
+    Error::from_raw_os_error(EINTR)
+}
+
+// FILLS A BUFFER FROM A READER, which is standard input, up to the end of the input.
+pub fn fill<R: Read>(from: &mut R, buf: &mut [u8]) -> Input
     ensures { Filled result buf.new }
 {
     let mut at = 0;
@@ -111,44 +132,47 @@ pub fn fill(buf: &mut [u8]) -> Input
         if buf.len() <= at {
             return Input::Full;
         }
-        let turn = read_once(buf, at);
+        let turn = read_once(from, buf, at);
         if let Turn::Ended = turn {
             return Input::Ended(at);
         }
-        if let Turn::Failed = turn {
-            return Input::Unread;
+        if let Turn::Failed(e) = turn {
+            return Input::Unread(e);
         }
         at += moved(turn);
         calls -= 1;
     }
-    Input::Unread
+    Input::Unread(interrupted())
 }
 
-// How many of the bytes were written: all, or those before the first write that failed.
-fn put(fd: i32, bytes: &[u8]) -> usize
-    ensures { result ≤ length bytes.now }
+// Writes the bytes: all, or those before the first write that failed.
+fn put<W: Write>(to: &mut W, bytes: &[u8]) -> Sent
+    ensures { IsPart result (length bytes.now) }
 {
     let mut at = 0;
     let mut calls = CALLS;
     while 0 < calls {
         if bytes.len() <= at {
-            return at;
+            return Sent::All;
         }
-        let turn = write_once(fd, bytes, at);
+        let turn = write_once(to, bytes, at);
         if let Turn::Ended = turn {
-            return at;
+            return Sent::Part(at, Error::from(ErrorKind::WriteZero));
         }
-        if let Turn::Failed = turn {
-            return at;
+        if let Turn::Failed(e) = turn {
+            return Sent::Part(at, e);
         }
         at += moved(turn);
         calls -= 1;
     }
-    at
+    if bytes.len() <= at {
+        return Sent::All;
+    }
+    Sent::Part(at, interrupted())
 }
 
 // WRITES BYTES TO STANDARD OUTPUT, unless an earlier write has failed.
-pub fn write(before: Output, bytes: &[u8]) -> Output
+pub fn write(rt: &impl Print, before: Output, bytes: &[u8]) -> Output
     ensures { Wrote before (length bytes.now) result }
 {
     let Output::Whole(n) = before else {
@@ -159,105 +183,149 @@ pub fn write(before: Output, bytes: &[u8]) -> Output
         return before;
     }
     if MOST_BYTES <= n {
-        return Output::Cut(n);
+        return Output::Cut(n, Error::from(ErrorKind::FileTooLarge));
     }
-    let written = put(STDOUT_FILENO, bytes);
-    if written < length {
-        return Output::Cut(n + written as u64);
+    if let Sent::Part(written, e) = put(&mut writer(rt), bytes) {
+        return Output::Cut(n + written as u64, e);
     }
     Output::Whole(n + length as u64)
 }
 
 // The first bytes, so many; where there are fewer, none of them, and not all is written.
-pub fn write_first(before: Output, bytes: &[u8], count: usize) -> Output
+pub fn write_first(rt: &impl Print, before: Output, bytes: &[u8], count: usize) -> Output
     ensures { Wrote before count result }
 {
     if count <= bytes.len() {
-        return write(before, &bytes[..count]);
+        return write(rt, before, &bytes[..count]);
     }
     let Output::Whole(n) = before else {
         return before;
     };
-    Output::Cut(n)
+    Output::Cut(n, Error::from(ErrorKind::InvalidInput))
 }
 
 // A number and one byte behind it. A number of 64 bits has at most 20 digits.
-pub fn write_number(before: Output, n: u64, after: u8) -> Output
+pub fn write_number(rt: &impl Print, before: Output, n: u64, after: u8) -> Output
     ensures { Wrote before (length (decimal n ++ (after ∷ []))) result }
 {
     let mut space = [0u8; NUMBER_LENGTH];
     let size = text::put_number(&mut space, 0, n, after);
-    write_first(before, &space, size)
+    write_first(rt, before, &space, size)
 }
 
-// The descriptor to which the caller wants the last word, the program's first argument, one of 3 to 9; else -1.
-fn word_descriptor() -> i32 {
+// The descriptor to which the caller wants the last word, the program's first argument, one of 3 to 9, as a path.
+fn word_path(rt: &impl Env) -> Option<&'static str> {
     let mut word = [0u8; 2];
-    let length = os::arg(1, &mut word);
-    let digit = word[0];
-    if (length != 1) | (digit < b'3') | (b'9' < digit) {
-        return -1;
+    let Ok(1) = rt.arg(1, &mut word) else {
+        return None;
+    };
+    match word[0] {
+        b'3' => Some("/proc/self/fd/3"),
+        b'4' => Some("/proc/self/fd/4"),
+        b'5' => Some("/proc/self/fd/5"),
+        b'6' => Some("/proc/self/fd/6"),
+        b'7' => Some("/proc/self/fd/7"),
+        b'8' => Some("/proc/self/fd/8"),
+        b'9' => Some("/proc/self/fd/9"),
+        _ => None,
     }
-    (digit % 16) as i32
 }
 
-fn last_word(word: &[u8]) {
-    let fd = word_descriptor();
-    if 0 <= fd {
-        put(fd, word);
+// Opened anew, a file's place is 0, so the word is put behind what stands there; and where a pipe is opened for reading too, that waits for
+// no reader. Where it can't be opened, there is no last word.
+fn last_word(rt: &impl Runtime, word: &[u8]) {
+    let Some(path) = word_path(rt) else {
+        return;
+    };
+    let Ok(mut to) = OpenOptions::new().read(true).append(true).open(rt, path) else {
+        return;
+    };
+    let _ = put(&mut to, word);
+}
+
+// Bytes for people, on standard error: what is UTF-8 in them as it stands, and U+FFFD in place of what isn't.
+#[derive(Clone, Copy)]
+struct Words<'a>(&'a [u8]);
+
+impl Display for Words<'_> {
+    fn fmt<W: fmt::Write>(&self, f: &mut Formatter<W>) -> fmt::Result {
+        for chunk in self.0.utf8_chunks() {
+            f.write_str(chunk.valid())?;
+            if !chunk.invalid().is_empty() {
+                f.write_char(char::REPLACEMENT_CHARACTER)?;
+            }
+        }
+        Ok(())
     }
+}
+
+// A line on standard error: what failed, and why.
+fn tell(rt: &impl Eprint, what: impl Display + Drop, why: Error) {
+    let words = InlineText::<REASON_LENGTH>::of(why);
+    let all = words.as_str();
+    let reason = match all.split_once(CODE_MARK) {
+        Some((text, _)) => text,
+        None => all,
+    };
+    let _ = eprintln!(rt; "{what}: {reason}");
 }
 
 // THE END OF A PROGRAM whose output this is: where all of it was written, the last word; else none, and a line on standard error.
-fn end(name: &[u8], out: Output, word: &[u8]) {
-    if let Output::Cut(n) = out {
-        put(STDERR_FILENO, name);
-        put(STDERR_FILENO, b": standard output ends after ");
-        io::print_decimal(STDERR_FILENO, n);
-        os::fail(b" bytes and must not be used");
+fn end(rt: &impl Runtime, name: &[u8], out: Output, word: &[u8]) {
+    if let Output::Cut(n, e) = out {
+        let name = Words(name);
+        tell(
+            rt,
+            format_args!("{name}: standard output ends after {n} bytes and must not be used"),
+            e,
+        );
         return;
     }
-    last_word(word);
+    last_word(rt, word);
 }
 
 // The end of a program that did not refuse.
-pub fn end_whole(name: &[u8], out: Output) {
-    end(name, out, b"whole\n");
+pub fn end_whole(rt: &impl Runtime, name: &[u8], out: Output) {
+    end(rt, name, out, b"whole\n");
 }
 
 // The end of a program whose whole output is a text. Where that is the line of a refusal, so is the last word.
-pub fn end_text(name: &[u8], text: &[u8]) {
-    let out = write(Output::Whole(0), text);
+pub fn end_text(rt: &impl Runtime, name: &[u8], text: &[u8]) {
+    let out = write(rt, Output::Whole(0), text);
     if is_refusal(text) {
-        end(name, out, text);
+        end(rt, name, out, text);
         return;
     }
-    end_whole(name, out);
+    end_whole(rt, name, out);
 }
 
 // The end of a program that refuses: "A refusal prints only `refused` and the number."
-pub fn end_refused(name: &[u8], number: u8) {
-    end_refused_behind(name, Output::Whole(0), number);
+pub fn end_refused(rt: &impl Runtime, name: &[u8], number: u8) {
+    end_refused_behind(rt, name, Output::Whole(0), number);
 }
 
 // The end of a program that refuses, whose line stands behind what was written: a page for people, which tells of the refusal too.
-pub fn end_refused_behind(name: &[u8], before: Output, number: u8) {
+pub fn end_refused_behind(rt: &impl Runtime, name: &[u8], before: Output, number: u8) {
     let mut line = [0u8; REFUSED_SPACE];
     let size = text::put_refused(&mut line, number);
-    let out = write_first(before, &line, size);
-    end(name, out, &line[..size]);
+    let out = write_first(rt, before, &line, size);
+    end(rt, name, out, &line[..size]);
 }
 
 // The end of a program whose input could not be read: nothing was written, and there is no last word.
-pub fn end_unread(name: &[u8]) {
-    put(STDERR_FILENO, name);
-    os::fail(b": nothing is reported, since standard input could not be read");
+pub fn end_unread(rt: &impl Eprint, name: &[u8], why: Error) {
+    let name = Words(name);
+    tell(
+        rt,
+        format_args!("{name}: nothing is reported, since standard input could not be read"),
+        why,
+    );
 }
 
 // The end of a program that was asked for something else than it does: `words` on standard error, and nothing was written.
-pub fn end_mistake(words: &[u8]) {
-    put(STDERR_FILENO, words);
-    last_word(b"mistake\n");
+pub fn end_mistake(rt: &impl Runtime, words: &[u8]) {
+    let _ = rt.eprint(Words(words));
+    last_word(rt, b"mistake\n");
 }
 
 // Whether a text is the line of a refusal: any other is longer, or begins otherwise.

@@ -2,6 +2,8 @@
 // every register of the timer, and the inverse of the second, the register of every position; and the places of a sheet's rows. A
 // table is built anew wherever it is named, so a run makes it once and lends it.
 // It may not know what an instruction does, nor how a run goes.
+#![tactic(auto)]
+
 ghost use Rattle.std.specs.Prelude.{◌≡◌, ◌*◌, ◌<◌};
 ghost use Rattle.upd546.specs.declared.Sheet.{Sheet};
 ghost use Rattle.upd546.specs.Bytes.{bit_at};
@@ -60,7 +62,7 @@ const REGISTERS: RegisterTable = [
 ];
 
 // The bytes and base cycles of a code.
-#[derive(Drop)]
+#[derive(Clone, Copy)]
 pub struct Size {
     pub bytes: u8,
     pub cycles: u8,

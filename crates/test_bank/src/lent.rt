@@ -5,7 +5,7 @@ use test_stream::{Command, Session, bytes, copy, eight, fill, least};
 use upd546::Sheet;
 
 // How long the bank is, and what is carried besides: the session has the lengths of the ROMs and of the schedules.
-#[derive(Drop)]
+#[derive(Clone, Copy)]
 pub(crate) struct Trial {
     pub session: Session,
     pub bank: usize,
@@ -35,19 +35,19 @@ pub(crate) fn stopped(t: Trial) -> Trial {
     with_session(t, test_stream::stopped(session))
 }
 
-pub(crate) fn unknown(t: Trial, letter: u8) -> Trial {
+pub(crate) fn unknown(rt: &impl Print, t: Trial, letter: u8) -> Trial {
     let session = t.session;
-    with_session(t, test_stream::unknown(session, letter))
+    with_session(t, test_stream::unknown(rt, session, letter))
 }
 
-fn read(t: Trial, there: bool) -> Trial {
+fn read(rt: &impl Print, t: Trial, there: bool) -> Trial {
     let session = t.session;
-    with_session(t, test_stream::read(session, there))
+    with_session(t, test_stream::read(rt, session, there))
 }
 
 // The sheet's bytes: ROM bytes, rows and levels.
-pub(crate) fn sheet(c: Command, t: Trial, space: &mut [u8]) -> Trial {
-    read(t, bytes(space, c.n))
+pub(crate) fn sheet(rt: &(impl Print + Input), c: Command, t: Trial, space: &mut [u8]) -> Trial {
+    read(rt, t, bytes(rt, space, c.n))
 }
 
 fn sheet_of(space: &[u8]) -> Sheet {
@@ -58,24 +58,29 @@ fn sheet_of(space: &[u8]) -> Sheet {
     }
 }
 
-pub(crate) fn bank(c: Command, t: Trial, space: &mut [u8]) -> Trial {
+pub(crate) fn bank(rt: &(impl Print + Input), c: Command, t: Trial, space: &mut [u8]) -> Trial {
     let mut u = t;
     u.bank = c.length as usize;
-    read(u, bytes(space, c.n))
+    read(rt, u, bytes(rt, space, c.n))
 }
 
 // The ROMs of all panels, one behind the other.
-pub(crate) fn roms(c: Command, t: Trial, space: &mut [u8]) -> Trial {
+pub(crate) fn roms(rt: &(impl Print + Input), c: Command, t: Trial, space: &mut [u8]) -> Trial {
     let mut session = t.session;
     session.rom = c.length as usize;
-    read(with_session(t, session), bytes(space, c.n))
+    read(rt, with_session(t, session), bytes(rt, space, c.n))
 }
 
 // Their schedules.
-pub(crate) fn schedules(c: Command, t: Trial, space: &mut [u8]) -> Trial {
+pub(crate) fn schedules(
+    rt: &(impl Print + Input),
+    c: Command,
+    t: Trial,
+    space: &mut [u8],
+) -> Trial {
     let mut session = t.session;
     session.schedule = c.length as usize;
-    read(with_session(t, session), bytes(space, c.n))
+    read(rt, with_session(t, session), bytes(rt, space, c.n))
 }
 
 // One byte of the bank.
@@ -92,6 +97,7 @@ pub(crate) fn copied(t: Trial, to: &mut [u8], from: &[u8]) -> Trial {
 
 // A round of the bank.
 pub(crate) fn round(
+    rt: &impl Print,
     c: Command,
     t: Trial,
     space: &mut [u8],
@@ -106,6 +112,7 @@ pub(crate) fn round(
     let in_schedules = least(session.schedule, schedules.len());
     let in_logs = least(c.length as usize, logs.len());
     rounded(
+        rt,
         c,
         t,
         &mut space[..in_space],
@@ -117,6 +124,7 @@ pub(crate) fn round(
 }
 
 fn rounded(
+    rt: &impl Print,
     c: Command,
     t: Trial,
     space: &mut [u8],
@@ -127,7 +135,7 @@ fn rounded(
 ) -> Trial {
     fill(logs);
     let number = number_of(c, space, roms, schedules, logs, sheet);
-    answers::rounded(c, t, number, space, logs)
+    answers::rounded(rt, c, t, number, space, logs)
 }
 
 // By the letter V a row of panels by value, by any other the bank of the board's C program.

@@ -9,6 +9,7 @@ const REPORT: usize = 32;
 
 // What a call left, as the command wants it. `before` is the image's digest before the call.
 pub(crate) fn answered(
+    rt: &impl Print,
     c: Command,
     s: Session,
     number: u8,
@@ -19,22 +20,29 @@ pub(crate) fn answered(
 ) -> Session {
     let value = c.value;
     match value {
-        0 => tell(s, number, image, log, report),
+        0 => tell(rt, s, number, image, log, report),
         1 => chained(s, number, image, log, report),
         _ => listed(s, c.n, number, before, image, log, report),
     }
 }
 
 // A line: number, the report's counts, and digests of image, log and report.
-fn tell(s: Session, number: u8, image: &[u8], log: &[u8], report: &[u8]) -> Session {
-    column(number as u64);
-    column(eight(report, 0));
-    column(eight(report, 8));
-    column(eight(report, 16));
-    column(eight(report, 24));
-    column(digest(0, image));
-    column(digest(0, log));
-    last_column(digest(0, report));
+fn tell(
+    rt: &impl Print,
+    s: Session,
+    number: u8,
+    image: &[u8],
+    log: &[u8],
+    report: &[u8],
+) -> Session {
+    column(rt, number as u64);
+    column(rt, eight(report, 0));
+    column(rt, eight(report, 8));
+    column(rt, eight(report, 16));
+    column(rt, eight(report, 24));
+    column(rt, digest(0, image));
+    column(rt, digest(0, log));
+    last_column(rt, digest(0, report));
     s
 }
 

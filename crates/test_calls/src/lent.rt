@@ -2,27 +2,42 @@
 use crate::answers;
 use test_stream::{Command, LIST, Session, bytes, copy, eight, least, read, store};
 
-pub(crate) fn rom(c: Command, s: Session, space: &mut [u8]) -> Session {
+pub(crate) fn rom(rt: &(impl Print + Input), c: Command, s: Session, space: &mut [u8]) -> Session {
     let mut t = s;
     t.rom = c.length as usize;
-    read(t, bytes(space, c.n))
+    read(rt, t, bytes(rt, space, c.n))
 }
 
-pub(crate) fn schedule(c: Command, s: Session, space: &mut [u8]) -> Session {
+pub(crate) fn schedule(
+    rt: &(impl Print + Input),
+    c: Command,
+    s: Session,
+    space: &mut [u8],
+) -> Session {
     let mut t = s;
     t.schedule = c.length as usize;
-    read(t, bytes(space, c.n))
+    read(rt, t, bytes(rt, space, c.n))
 }
 
 // The sheet's bytes: ROM bytes, rows and levels.
-pub(crate) fn sheet(c: Command, s: Session, space: &mut [u8]) -> Session {
-    read(s, bytes(space, c.n))
+pub(crate) fn sheet(
+    rt: &(impl Print + Input),
+    c: Command,
+    s: Session,
+    space: &mut [u8],
+) -> Session {
+    read(rt, s, bytes(rt, space, c.n))
 }
 
-pub(crate) fn image(c: Command, s: Session, space: &mut [u8]) -> Session {
+pub(crate) fn image(
+    rt: &(impl Print + Input),
+    c: Command,
+    s: Session,
+    space: &mut [u8],
+) -> Session {
     let mut t = s;
     t.image = c.length as usize;
-    read(t, bytes(space, c.n))
+    read(rt, t, bytes(rt, space, c.n))
 }
 
 // One byte of the image.
@@ -102,6 +117,7 @@ pub(crate) fn bring_back(s: Session, image: &mut [u8], kept: &[u8]) -> Session {
 }
 
 pub(crate) fn call(
+    rt: &impl Print,
     c: Command,
     s: Session,
     rom: &[u8],
@@ -117,6 +133,7 @@ pub(crate) fn call(
     let in_log = least(c.length as usize, log.len());
     let in_report = least(c.place as usize, report.len());
     prepared(
+        rt,
         c,
         s,
         &rom[..in_rom],
@@ -130,6 +147,7 @@ pub(crate) fn call(
 
 // Fills log and report with the pattern.
 fn prepared(
+    rt: &impl Print,
     c: Command,
     s: Session,
     rom: &[u8],
@@ -142,10 +160,11 @@ fn prepared(
     let before = test_stream::digest(0, image);
     test_stream::fill(log);
     test_stream::fill(report);
-    made(c, s, before, rom, schedule, image, log, report, sheet)
+    made(rt, c, s, before, rom, schedule, image, log, report, sheet)
 }
 
 fn made(
+    rt: &impl Print,
     c: Command,
     s: Session,
     before: u64,
@@ -168,5 +187,5 @@ fn made(
         eight(sheet, 8),
         eight(sheet, 16),
     );
-    answers::answered(c, s, number, before, image, log, report)
+    answers::answered(rt, c, s, number, before, image, log, report)
 }

@@ -4,6 +4,8 @@
 // The sheet of the calls and conversions that follow is the command H: behind its 24 bytes stand, as many as n says, those of ROM bytes,
 // rows and levels, 8 each, big-endian; the rest of them is 0, and before the first H all of them. It may not know what a state is, nor
 // how a call goes.
+#![tactic(auto)]
+
 mod answers;
 mod lent;
 
@@ -15,7 +17,7 @@ const SHEET: usize = 24;
 // More commands than any stream has.
 const MOST: u64 = 0x4000_0000_0000;
 
-fn main() {
+fn main(rt: HostRuntime) {
     let mut rom = io::buffer();
     let mut schedule = io::large_buffer();
     let mut sheet = [0u8; SHEET];
@@ -27,8 +29,9 @@ fn main() {
     let mut s = test_stream::begin();
     let mut k: u64 = 0;
     while k < MOST {
-        let c = test_stream::read_command();
+        let c = test_stream::read_command(&rt);
         s = one(
+            &rt,
             c,
             s,
             &mut rom,
@@ -48,6 +51,7 @@ fn main() {
 }
 
 fn one(
+    rt: &(impl Print + Input),
     c: Command,
     s: Session,
     rom: &mut [u8; 4096],
@@ -61,21 +65,21 @@ fn one(
 ) -> Session {
     let letter = c.letter;
     match letter {
-        b'R' => lent::rom(c, s, rom),
-        b'S' => lent::schedule(c, s, schedule),
-        b'H' => lent::sheet(c, s, sheet),
-        b'I' => lent::image(c, s, image),
+        b'R' => lent::rom(rt, c, s, rom),
+        b'S' => lent::schedule(rt, c, s, schedule),
+        b'H' => lent::sheet(rt, c, s, sheet),
+        b'I' => lent::image(rt, c, s, image),
         b'X' => lent::changed(c, s, image),
         b'F' => lent::fresh(c, s, image),
         b'T' => lent::convert(c, s, image, space, sheet),
         b'K' => lent::keep(s, image, kept),
         b'B' => lent::bring_back(s, image, kept),
-        b'C' => lent::call(c, s, rom, schedule, image, log, report, sheet),
-        b'G' => test_stream::tell_group(s),
+        b'C' => lent::call(rt, c, s, rom, schedule, image, log, report, sheet),
+        b'G' => test_stream::tell_group(rt, s),
         b'U' => test_stream::remember(s, answers::with_image(s, image)),
         b'E' => test_stream::end_list(s, answers::with_image(s, image)),
-        b'P' => test_stream::tell_panel(s),
+        b'P' => test_stream::tell_panel(rt, s),
         b'.' => test_stream::stopped(s),
-        _ => test_stream::unknown(s, letter),
+        _ => test_stream::unknown(rt, s, letter),
     }
 }

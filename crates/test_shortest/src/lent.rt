@@ -9,27 +9,42 @@ use upd546::{Sheet, State};
 // The most cycles that the log has 16 bytes for.
 const MOST_CYCLES: u64 = 4096;
 
-pub(crate) fn rom(c: Command, s: Session, space: &mut [u8]) -> Session {
+pub(crate) fn rom(rt: &(impl Print + Input), c: Command, s: Session, space: &mut [u8]) -> Session {
     let mut t = s;
     t.rom = c.length as usize;
-    read(t, bytes(space, c.n))
+    read(rt, t, bytes(rt, space, c.n))
 }
 
-pub(crate) fn schedule(c: Command, s: Session, space: &mut [u8]) -> Session {
+pub(crate) fn schedule(
+    rt: &(impl Print + Input),
+    c: Command,
+    s: Session,
+    space: &mut [u8],
+) -> Session {
     let mut t = s;
     t.schedule = c.length as usize;
-    read(t, bytes(space, c.n))
+    read(rt, t, bytes(rt, space, c.n))
 }
 
-pub(crate) fn image(c: Command, s: Session, space: &mut [u8]) -> Session {
+pub(crate) fn image(
+    rt: &(impl Print + Input),
+    c: Command,
+    s: Session,
+    space: &mut [u8],
+) -> Session {
     let mut t = s;
     t.image = c.length as usize;
-    read(t, bytes(space, c.n))
+    read(rt, t, bytes(rt, space, c.n))
 }
 
 // The sheet's bytes: ROM bytes, rows and levels.
-pub(crate) fn sheet(c: Command, s: Session, space: &mut [u8]) -> Session {
-    read(s, bytes(space, c.n))
+pub(crate) fn sheet(
+    rt: &(impl Print + Input),
+    c: Command,
+    s: Session,
+    space: &mut [u8],
+) -> Session {
+    read(rt, s, bytes(rt, space, c.n))
 }
 
 fn sheet_of(space: &[u8]) -> Sheet {
@@ -47,6 +62,7 @@ fn state_of(image: &[u8]) -> State {
 }
 
 pub(crate) fn find(
+    rt: &impl Print,
     c: Command,
     s: Session,
     rom: &[u8],
@@ -61,6 +77,7 @@ pub(crate) fn find(
     let in_log = least(c.length as usize, log.len());
     let state = state_of(&image[..in_image]);
     found(
+        rt,
         c,
         s,
         &rom[..in_rom],
@@ -72,6 +89,7 @@ pub(crate) fn find(
 }
 
 fn found(
+    rt: &impl Print,
     c: Command,
     s: Session,
     rom: &[u8],
@@ -82,18 +100,18 @@ fn found(
 ) -> Session {
     test_stream::fill(log);
     let a = shortest::find(rom, schedule, state, MachineCycles(c.n), log, sheet);
-    answered(c, s, a, log)
+    answered(rt, c, s, a, log)
 }
 
 // Its number, k, and 1 where the log is as it was, but for the bytes that the trials are lent.
-fn answered(c: Command, s: Session, a: Shortest, log: &[u8]) -> Session {
+fn answered(rt: &impl Print, c: Command, s: Session, a: Shortest, log: &[u8]) -> Session {
     let number = shortest::number_of(a);
     let k = shortest::records_of(a) as u64;
     let left = one_if(test_stream::untouched(log, free(number, c.n)));
     if c.value == 0 {
-        column(number as u64);
-        column(k);
-        last_column(left);
+        column(rt, number as u64);
+        column(rt, k);
+        last_column(rt, left);
         return s;
     }
     let h = mixed(mixed(s.digest, number as u64), k);

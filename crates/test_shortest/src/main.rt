@@ -1,6 +1,8 @@
 // Finds the shortest schedules that still stop, of the panels that the commands of standard input give, and tells what is answered: a line
 // for a call or for a group of calls. The other interpreter writes the same text. The commands and the text are told at the top of
 // tests/reference/src/bin/trials/stream.rs. It may not know how a run goes, what a trial is, nor what an image holds.
+#![tactic(auto)]
+
 mod lent;
 
 use test_stream::{Command, Session};
@@ -11,7 +13,7 @@ const SHEET: usize = 24;
 // More commands than any stream has.
 const MOST: u64 = 0x4000_0000_0000;
 
-fn main() {
+fn main(rt: HostRuntime) {
     let mut rom = io::buffer();
     let mut schedule = io::large_buffer();
     let mut image = [0u8; 512];
@@ -20,8 +22,9 @@ fn main() {
     let mut s = test_stream::begin();
     let mut k: u64 = 0;
     while k < MOST {
-        let c = test_stream::read_command();
+        let c = test_stream::read_command(&rt);
         s = one(
+            &rt,
             c,
             s,
             &mut rom,
@@ -38,6 +41,7 @@ fn main() {
 }
 
 fn one(
+    rt: &(impl Print + Input),
     c: Command,
     s: Session,
     rom: &mut [u8; 4096],
@@ -48,13 +52,13 @@ fn one(
 ) -> Session {
     let letter = c.letter;
     match letter {
-        b'R' => lent::rom(c, s, rom),
-        b'S' => lent::schedule(c, s, schedule),
-        b'I' => lent::image(c, s, image),
-        b'H' => lent::sheet(c, s, sheet),
-        b'F' => lent::find(c, s, rom, schedule, image, sheet, log),
-        b'G' => test_stream::tell_group(s),
+        b'R' => lent::rom(rt, c, s, rom),
+        b'S' => lent::schedule(rt, c, s, schedule),
+        b'I' => lent::image(rt, c, s, image),
+        b'H' => lent::sheet(rt, c, s, sheet),
+        b'F' => lent::find(rt, c, s, rom, schedule, image, sheet, log),
+        b'G' => test_stream::tell_group(rt, s),
         b'.' => test_stream::stopped(s),
-        _ => test_stream::unknown(s, letter),
+        _ => test_stream::unknown(rt, s, letter),
     }
 }

@@ -1,8 +1,9 @@
 // Runs either runner on a load of standard input, slice after slice from the fresh state, so that its speed can be measured (tests/speed).
 // It may not know how a run goes, nor the time.
+#![tactic(auto)]
+
 ghost use Rattle.std.specs.Prelude.{◌<◌, ◌≤◌, length};
 
-use libc::{STDIN_FILENO, STDOUT_FILENO};
 use runs::MachineCycles;
 use test_stream::{column, last_column};
 use upd546::{RunAnswer, Sheet, State};
@@ -30,7 +31,7 @@ const ROM_AT: usize = 13;
 const LOG_LENGTH: usize = 16 * 100000;
 
 // What the slices gave together, and the last PC. The digest is of the last bytes that each slice wrote.
-#[derive(Drop)]
+#[derive(Clone, Copy)]
 struct Sums {
     cycles: u64,
     begun: u64,
@@ -41,10 +42,10 @@ struct Sums {
 }
 
 // The buffer holds more than every load.
-fn main() {
+fn main(rt: HostRuntime) {
     let mut input = io::large_buffer();
-    let got = io::read_full(STDIN_FILENO, &mut input);
-    measure(&input[..got]);
+    let got = test_stream::read_full(&rt, &mut input);
+    measure(&rt, &input[..got]);
 }
 
 // Where the schedule begins, or a place past the input's end where the input is cut short before it.
@@ -67,22 +68,25 @@ fn sheet_of(input: &[u8]) -> Sheet
     }
 }
 
-fn measure(input: &[u8]) {
+fn measure(rt: &impl Print, input: &[u8]) {
     let end = schedule_at(input);
     if input.len() < end {
-        io::write_all(STDOUT_FILENO, b"the input is cut short\n");
+        test_stream::put(rt, b"the input is cut short\n");
         return;
     }
     let slices = big_endian::number_at(input, SLICES_AT, NUMBER_LENGTH);
     let n = MachineCycles(big_endian::number_at(input, CYCLES_AT, NUMBER_LENGTH));
-    print(run_slices(
-        &input[ROM_AT..end],
-        &input[end..],
-        input[0],
-        slices,
-        n,
-        sheet_of(input),
-    ));
+    print(
+        rt,
+        run_slices(
+            &input[ROM_AT..end],
+            &input[end..],
+            input[0],
+            slices,
+            n,
+            sheet_of(input),
+        ),
+    );
 }
 
 // The slices, one after the other, each with the same log.
@@ -161,11 +165,11 @@ fn wide(x: u8) -> u64
     x as u64
 }
 
-fn print(sums: Sums) {
-    column(sums.cycles);
-    column(sums.begun);
-    column(sums.bytes);
-    column(sums.steps);
-    column(sums.digest as u64);
-    last_column(sums.pc as u64);
+fn print(rt: &impl Print, sums: Sums) {
+    column(rt, sums.cycles);
+    column(rt, sums.begun);
+    column(rt, sums.bytes);
+    column(rt, sums.steps);
+    column(rt, sums.digest as u64);
+    last_column(rt, sums.pc as u64);
 }

@@ -1,6 +1,8 @@
 // What the programs of the tests share that give states as values. The value of a state: the bytes of its fields, each as it stands there.
 // PC, stack, Acc, C, C', DPH, DPL, INT, INTE, TM, level, mark, owed, register, counter, ports, RAM, cycle number, count of cycles with RES
 // high. And the bytes of a sheet. It may not know how a run, a save or a restore goes.
+#![tactic(auto)]
+
 use runs::MachineCycles;
 use test_stream::{byte, copy, digest, eight, lay, store, word};
 use upd546::{Core, Flow, Interrupt, LATCHES, RAM_WORDS, Registers, Sheet, State, Timer};

@@ -4,10 +4,10 @@ use crate::lent::Trial;
 use test_stream::{Command, column, digest, last_column, mixed};
 
 // Of keeping an image: its number and the whole store.
-pub(crate) fn kept(c: Command, t: Trial, number: u8, space: &[u8]) -> Trial {
+pub(crate) fn kept(rt: &impl Print, c: Command, t: Trial, number: u8, space: &[u8]) -> Trial {
     if c.value == 0 {
-        column(number as u64);
-        last_column(digest(0, space));
+        column(rt, number as u64);
+        last_column(rt, digest(0, space));
         return t;
     }
     let session = t.session;
@@ -19,12 +19,19 @@ pub(crate) fn kept(c: Command, t: Trial, number: u8, space: &[u8]) -> Trial {
 }
 
 // Of a recall: its number, the place of the entry, and the part of the store.
-pub(crate) fn recalled(c: Command, t: Trial, number: u8, place: u64, part: &[u8]) -> Trial {
+pub(crate) fn recalled(
+    rt: &impl Print,
+    c: Command,
+    t: Trial,
+    number: u8,
+    place: u64,
+    part: &[u8],
+) -> Trial {
     if c.value == 0 {
-        column(number as u64);
-        column(place);
-        column(part.len() as u64);
-        last_column(digest(0, part));
+        column(rt, number as u64);
+        column(rt, place);
+        column(rt, part.len() as u64);
+        last_column(rt, digest(0, part));
         return t;
     }
     let session = t.session;
@@ -37,7 +44,7 @@ fn chained(t: Trial, number: u8, h: u64) -> Trial {
     lent::with_session(t, test_stream::chained(session, number, h))
 }
 
-pub(crate) fn tell_group(t: Trial) -> Trial {
+pub(crate) fn tell_group(rt: &impl Print, t: Trial) -> Trial {
     let session = t.session;
-    lent::with_session(t, test_stream::tell_group(session))
+    lent::with_session(t, test_stream::tell_group(rt, session))
 }

@@ -4,7 +4,7 @@ use test_stream::{Command, Session, bytes, eight, least};
 use upd546::Sheet;
 
 // How long the store, the name and the image are, and what is carried besides.
-#[derive(Drop)]
+#[derive(Clone, Copy)]
 pub(crate) struct Trial {
     pub session: Session,
     pub entries: usize,
@@ -38,19 +38,19 @@ pub(crate) fn stopped(t: Trial) -> Trial {
     with_session(t, test_stream::stopped(session))
 }
 
-pub(crate) fn unknown(t: Trial, letter: u8) -> Trial {
+pub(crate) fn unknown(rt: &impl Print, t: Trial, letter: u8) -> Trial {
     let session = t.session;
-    with_session(t, test_stream::unknown(session, letter))
+    with_session(t, test_stream::unknown(rt, session, letter))
 }
 
-fn read(t: Trial, there: bool) -> Trial {
+fn read(rt: &impl Print, t: Trial, there: bool) -> Trial {
     let session = t.session;
-    with_session(t, test_stream::read(session, there))
+    with_session(t, test_stream::read(rt, session, there))
 }
 
 // The sheet's bytes: ROM bytes, rows and levels.
-pub(crate) fn sheet(c: Command, t: Trial, space: &mut [u8]) -> Trial {
-    read(t, bytes(space, c.n))
+pub(crate) fn sheet(rt: &(impl Print + Input), c: Command, t: Trial, space: &mut [u8]) -> Trial {
+    read(rt, t, bytes(rt, space, c.n))
 }
 
 fn sheet_of(space: &[u8]) -> Sheet {
@@ -62,22 +62,22 @@ fn sheet_of(space: &[u8]) -> Sheet {
 }
 
 // The store's bytes.
-pub(crate) fn entries(c: Command, t: Trial, space: &mut [u8]) -> Trial {
+pub(crate) fn entries(rt: &(impl Print + Input), c: Command, t: Trial, space: &mut [u8]) -> Trial {
     let mut u = t;
     u.entries = c.length as usize;
-    read(u, bytes(space, c.n))
+    read(rt, u, bytes(rt, space, c.n))
 }
 
-pub(crate) fn name(c: Command, t: Trial, space: &mut [u8]) -> Trial {
+pub(crate) fn name(rt: &(impl Print + Input), c: Command, t: Trial, space: &mut [u8]) -> Trial {
     let mut u = t;
     u.name = c.length as usize;
-    read(u, bytes(space, c.n))
+    read(rt, u, bytes(rt, space, c.n))
 }
 
-pub(crate) fn image(c: Command, t: Trial, space: &mut [u8]) -> Trial {
+pub(crate) fn image(rt: &(impl Print + Input), c: Command, t: Trial, space: &mut [u8]) -> Trial {
     let mut u = t;
     u.image = c.length as usize;
-    read(u, bytes(space, c.n))
+    read(rt, u, bytes(rt, space, c.n))
 }
 
 // One byte of the store.
@@ -88,6 +88,7 @@ pub(crate) fn changed(c: Command, t: Trial, space: &mut [u8]) -> Trial {
 
 // The image is kept under the name.
 pub(crate) fn keep(
+    rt: &impl Print,
     c: Command,
     t: Trial,
     space: &mut [u8],
@@ -99,6 +100,7 @@ pub(crate) fn keep(
     let in_name = least(t.name, name.len());
     let in_image = least(t.image, image.len());
     kept(
+        rt,
         c,
         t,
         &mut space[..in_space],
@@ -108,23 +110,52 @@ pub(crate) fn keep(
     )
 }
 
-fn kept(c: Command, t: Trial, space: &mut [u8], name: &[u8], image: &[u8], sheet: Sheet) -> Trial {
+fn kept(
+    rt: &impl Print,
+    c: Command,
+    t: Trial,
+    space: &mut [u8],
+    name: &[u8],
+    image: &[u8],
+    sheet: Sheet,
+) -> Trial {
     let outcome = store::keep(space, name, image, sheet);
-    answers::kept(c, t, runs::outcome_number(outcome), space)
+    answers::kept(rt, c, t, runs::outcome_number(outcome), space)
 }
 
 // What is kept under the name.
-pub(crate) fn recall(c: Command, t: Trial, space: &[u8], name: &[u8], sheet: &[u8]) -> Trial {
+pub(crate) fn recall(
+    rt: &impl Print,
+    c: Command,
+    t: Trial,
+    space: &[u8],
+    name: &[u8],
+    sheet: &[u8],
+) -> Trial {
     let in_space = least(t.entries, space.len());
     let in_name = least(t.name, name.len());
-    recalled(c, t, &space[..in_space], &name[..in_name], sheet_of(sheet))
+    recalled(
+        rt,
+        c,
+        t,
+        &space[..in_space],
+        &name[..in_name],
+        sheet_of(sheet),
+    )
 }
 
-fn recalled(c: Command, t: Trial, space: &[u8], name: &[u8], sheet: Sheet) -> Trial {
+fn recalled(
+    rt: &impl Print,
+    c: Command,
+    t: Trial,
+    space: &[u8],
+    name: &[u8],
+    sheet: Sheet,
+) -> Trial {
     let outcome = store::recall_check(space, name, sheet);
     let number = runs::outcome_number(outcome);
     let place = place_of(space, name, sheet);
-    answers::recalled(c, t, number, place, store::recall(space, name, sheet))
+    answers::recalled(rt, c, t, number, place, store::recall(space, name, sheet))
 }
 
 // Which entry a name has, 0 where none.

@@ -1,6 +1,9 @@
 // The commands of standard input, one after the other.
+ghost use Rattle.std.specs.Prelude.{◌≤◌, length};
+
+use crate::columns::put;
 use crate::numbers::{copy, eight, long, word};
-use libc::{STDIN_FILENO, STDOUT_FILENO};
+use std::io::Read;
 
 // The bytes of a command, numbers big-endian.
 const HEAD: usize = 24;
@@ -9,7 +12,7 @@ const HEAD: usize = 24;
 pub const LIST: u8 = 2;
 
 // A letter, and numbers that mean what the letter says.
-#[derive(Drop)]
+#[derive(Clone, Copy)]
 pub struct Command {
     pub letter: u8,
     pub value: u8,
@@ -19,10 +22,28 @@ pub struct Command {
     pub runner: u64,
 }
 
+// Reads until a buffer is full, the input ends or a read fails: so many bytes of it stand at the front of the buffer.
+pub fn read_full(rt: &impl Input, buf: &mut [u8]) -> usize
+    ensures { result ≤ length buf.new }
+{
+    let mut from = rt.reader();
+    let mut done = 0;
+    while done < buf.len() {
+        let Ok(n) = from.read(&mut buf[done..]) else {
+            return done;
+        };
+        if n == 0 {
+            return done;
+        }
+        done += n;
+    }
+    done
+}
+
 // The next command. Where the stream ends it has the letter 0.
-pub fn read_command() -> Command {
+pub fn read_command(rt: &impl Input) -> Command {
     let mut head = [0u8; HEAD];
-    let got = io::read_full(STDIN_FILENO, &mut head);
+    let got = read_full(rt, &mut head);
     if got < HEAD {
         return told(&[0u8; HEAD]);
     }
@@ -42,7 +63,7 @@ fn told(head: &[u8; HEAD]) -> Command {
 
 // Reads so many bytes behind a command to the start of a buffer, whose others become 0. Whether they are there and fit. With none the
 // buffer stays as it is.
-pub fn bytes(space: &mut [u8], count: u64) -> bool {
+pub fn bytes(rt: &impl Input, space: &mut [u8], count: u64) -> bool {
     if count == 0 {
         return true;
     }
@@ -50,25 +71,25 @@ pub fn bytes(space: &mut [u8], count: u64) -> bool {
         return false;
     }
     copy(space, &[0u8; 1], 1);
-    read(space, count)
+    read(rt, space, count)
 }
 
-fn read(space: &mut [u8], count: u64) -> bool {
+fn read(rt: &impl Input, space: &mut [u8], count: u64) -> bool {
     if (space.len() as u64) < count {
         return false;
     }
     let size = count as usize;
-    let got = io::read_full(STDIN_FILENO, &mut space[..size]);
+    let got = read_full(rt, &mut space[..size]);
     got == size
 }
 
 // Tells a command that there is none of.
-pub(crate) fn tell_unknown(letter: u8) {
+pub(crate) fn tell_unknown(rt: &impl Print, letter: u8) {
     if letter == 0 {
-        io::write_all(STDOUT_FILENO, b"the stream is cut short\n");
+        put(rt, b"the stream is cut short\n");
         return;
     }
-    io::write_all(STDOUT_FILENO, b"no such command: ");
-    io::write_all(STDOUT_FILENO, &[letter]);
-    io::write_all(STDOUT_FILENO, b"\n");
+    put(rt, b"no such command: ");
+    put(rt, &[letter]);
+    put(rt, b"\n");
 }

@@ -1,6 +1,8 @@
 // What the programs of the tests share: numbers in bytes and on standard output, what stands in a buffer before a call, digests, the
 // commands of a stream, what is carried from command to command, and what a list of calls comes to. The commands are told at the top
 // of tests/reference/src/bin/trials/stream.rs. It may not know how a call, a run, a save or a restore goes.
+#![tactic(auto)]
+
 mod columns;
 mod commands;
 mod digests;
@@ -8,8 +10,8 @@ mod lists;
 mod numbers;
 mod sessions;
 
-pub use columns::{column, last_column, number};
-pub use commands::{Command, LIST, bytes, read_command};
+pub use columns::{column, last_column, number, put};
+pub use commands::{Command, LIST, bytes, read_command, read_full};
 pub use digests::{digest, digest_first, fill, mixed, untouched};
 pub use lists::{Sums, Tally, called, refused};
 pub use numbers::{byte, copy, eight, lay, least, long, store, word};

@@ -5,7 +5,7 @@ use std::num::wrapping_add_u64;
 // The sums of a list: the number of the first call that didn't finish, cycles, instructions and log bytes together, digests of the joined
 // log and of what is kept at the end, whether nothing was wrong, and of the calls how many there were and how many were refused, with the
 // sum of their numbers.
-#[derive(Drop)]
+#[derive(Clone, Copy)]
 pub struct Sums {
     pub number: u8,
     pub cycles: u64,
@@ -35,7 +35,7 @@ pub(crate) fn no_calls() -> Sums {
 }
 
 // How many lists ended, how many of them the same, and the sums of their calls.
-#[derive(Drop)]
+#[derive(Clone, Copy)]
 pub struct Tally {
     pub lists: u64,
     pub same: u64,
@@ -115,16 +115,16 @@ fn same(s: Sums, whole: Sums) -> bool {
 }
 
 // A line: the list that is remembered, and how many lists ended as it did.
-pub(crate) fn tell(whole: Sums, t: Tally) {
-    column(whole.number as u64);
-    column(whole.cycles);
-    column(whole.begun);
-    column(whole.written);
-    column(whole.kept);
-    column(whole.log);
-    column(t.lists);
-    column(t.same);
-    column(t.calls);
-    column(t.refused);
-    last_column(t.numbers);
+pub(crate) fn tell(rt: &impl Print, whole: Sums, t: Tally) {
+    column(rt, whole.number as u64);
+    column(rt, whole.cycles);
+    column(rt, whole.begun);
+    column(rt, whole.written);
+    column(rt, whole.kept);
+    column(rt, whole.log);
+    column(rt, t.lists);
+    column(rt, t.same);
+    column(rt, t.calls);
+    column(rt, t.refused);
+    last_column(rt, t.numbers);
 }

@@ -8,7 +8,7 @@ use std::num::wrapping_add_u64;
 
 // How long ROM, schedule, image and the image that is kept are; a group's calls, how many of them were refused, and a digest of all that
 // they left; the list on its way, the one that is remembered, and what the lists came to.
-#[derive(Drop)]
+#[derive(Clone, Copy)]
 pub struct Session {
     pub on: bool,
     pub rom: usize,
@@ -46,17 +46,17 @@ pub fn stopped(s: Session) -> Session {
 }
 
 // There is no such command.
-pub fn unknown(s: Session, letter: u8) -> Session {
-    commands::tell_unknown(letter);
+pub fn unknown(rt: &impl Print, s: Session, letter: u8) -> Session {
+    commands::tell_unknown(rt, letter);
     stopped(s)
 }
 
 // Where bytes that a command announces aren't there, the stream is cut short.
-pub fn read(s: Session, there: bool) -> Session {
+pub fn read(rt: &impl Print, s: Session, there: bool) -> Session {
     if there {
         return s;
     }
-    unknown(s, 0)
+    unknown(rt, s, 0)
 }
 
 // All numbers but those of a finish and of the stops.
@@ -79,10 +79,10 @@ pub fn chained(s: Session, number: u8, h: u64) -> Session {
 }
 
 // A line for a group: calls, those refused, and the digest.
-pub fn tell_group(s: Session) -> Session {
-    column(s.calls);
-    column(s.refused);
-    last_column(s.digest);
+pub fn tell_group(rt: &impl Print, s: Session) -> Session {
+    column(rt, s.calls);
+    column(rt, s.refused);
+    last_column(rt, s.digest);
     let mut t = s;
     t.calls = 0;
     t.refused = 0;
@@ -132,10 +132,10 @@ pub fn end_list(s: Session, list: Sums) -> Session {
 }
 
 // A line for a panel.
-pub fn tell_panel(s: Session) -> Session {
+pub fn tell_panel(rt: &impl Print, s: Session) -> Session {
     let whole = s.whole;
     let tally = s.tally;
-    lists::tell(whole, tally);
+    lists::tell(rt, whole, tally);
     let next = lists::no_lists();
     let mut t = s;
     t.tally = next;

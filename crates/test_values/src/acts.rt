@@ -9,6 +9,7 @@ use upd546::{RestoreAnswer, Sheet, State};
 
 // A command by which a call is made, or by which it is told what calls came to.
 pub(crate) fn one(
+    rt: &impl Print,
     c: Command,
     s: Session,
     rom: &[u8; 4096],
@@ -22,16 +23,16 @@ pub(crate) fn one(
     let size = c.length as usize;
     let under = test_states::sheet_of(sheet);
     match letter {
-        b'A' => run(c, s, rom, schedule, value, log, under),
+        b'A' => run(rt, c, s, rom, schedule, value, log, under),
         b'W' => save(c, s, value, image, under),
         b'O' => restore(c, s, value, image, under),
         b'L' => begin(s, size, log),
-        b'G' => test_stream::tell_group(s),
+        b'G' => test_stream::tell_group(rt, s),
         b'U' => test_stream::remember(s, answers::with_ends(s, size, value, log)),
         b'E' => test_stream::end_list(s, answers::with_ends(s, size, value, log)),
-        b'P' => test_stream::tell_panel(s),
+        b'P' => test_stream::tell_panel(rt, s),
         b'.' => test_stream::stopped(s),
-        _ => test_stream::unknown(s, letter),
+        _ => test_stream::unknown(rt, s, letter),
     }
 }
 
@@ -43,6 +44,7 @@ fn begin(s: Session, size: usize, log: &mut [u8]) -> Session {
 }
 
 fn run(
+    rt: &impl Print,
     c: Command,
     s: Session,
     rom: &[u8],
@@ -55,6 +57,7 @@ fn run(
     let in_schedule = least(s.schedule, schedule.len());
     let in_log = least(c.length as usize, log.len());
     prepared(
+        rt,
         c,
         s,
         &rom[..in_rom],
@@ -67,6 +70,7 @@ fn run(
 
 // The runs of a list write to one log, each from the place on up to which those before wrote; any other run has a log of its own.
 fn prepared(
+    rt: &impl Print,
     c: Command,
     s: Session,
     rom: &[u8],
@@ -78,10 +82,11 @@ fn prepared(
     let before = digest(0, value);
     if c.value == LIST {
         let at = s.list.written as usize;
-        return driven(c, s, before, at, rom, schedule, value, log, sheet);
+        return driven(rt, c, s, before, at, rom, schedule, value, log, sheet);
     }
     test_stream::fill(log);
     driven(
+        rt,
         c,
         s,
         before,
@@ -95,6 +100,7 @@ fn prepared(
 }
 
 fn driven(
+    rt: &impl Print,
     c: Command,
     s: Session,
     before: u64,
@@ -119,7 +125,7 @@ fn driven(
     let after = answer.machine.state;
     let report = answer.report;
     test_states::put(value, after);
-    answers::run_answered(c, s, report, before, value, log)
+    answers::run_answered(rt, c, s, report, before, value, log)
 }
 
 // Runner 0 is the plain one, any other the timer-skipping one.

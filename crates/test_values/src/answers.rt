@@ -6,6 +6,7 @@ use test_stream::{
 
 // What a run answered, as the command wants it. `before` and `value` are the digest of the state before it and the value after it.
 pub(crate) fn run_answered(
+    rt: &impl Print,
     c: Command,
     s: Session,
     report: Report,
@@ -15,23 +16,23 @@ pub(crate) fn run_answered(
 ) -> Session {
     let mode = c.value;
     match mode {
-        0 => tell_run(s, report, value, log),
+        0 => tell_run(rt, s, report, value, log),
         1 => chain_run(s, report, value, log),
         _ => list_run(s, c.n, report, digest(0, value) == before),
     }
 }
 
 // A line: number, cycles, clock cycles, instructions, log bytes, steps, and digests of the state and of the whole log.
-fn tell_run(s: Session, report: Report, value: &[u8], log: &[u8]) -> Session {
+fn tell_run(rt: &impl Print, s: Session, report: Report, value: &[u8], log: &[u8]) -> Session {
     let end = report.end;
-    column(runs::end_number(end) as u64);
-    column(report.cycles.0);
-    column(report.clocks.0);
-    column(report.begun);
-    column(report.written as u64);
-    column(report.steps);
-    column(digest(0, value));
-    last_column(digest(0, log));
+    column(rt, runs::end_number(end) as u64);
+    column(rt, report.cycles.0);
+    column(rt, report.clocks.0);
+    column(rt, report.begun);
+    column(rt, report.written as u64);
+    column(rt, report.steps);
+    column(rt, digest(0, value));
+    last_column(rt, digest(0, log));
     s
 }
 

@@ -4,6 +4,8 @@
 // tests/reference/src/bin/trials/stream.rs. The sheet of the runs, saves and restores that follow is the command H: behind its 24 bytes
 // stand, as many as n says, those of ROM bytes, rows and levels, 8 each, big-endian; the rest of them is 0, and before the first H all of
 // them. It may not know how a run, a save or a restore goes.
+#![tactic(auto)]
+
 mod acts;
 mod answers;
 
@@ -13,7 +15,7 @@ use test_stream::{Command, Session, bytes, copy, read, store};
 // More commands than any stream has.
 const MOST: u64 = 0x4000_0000_0000;
 
-fn main() {
+fn main(rt: HostRuntime) {
     let mut rom = io::buffer();
     let mut schedule = io::large_buffer();
     let mut sheet = [0u8; SHEET];
@@ -24,8 +26,9 @@ fn main() {
     let mut s = test_stream::begin();
     let mut k: u64 = 0;
     while k < MOST {
-        let c = test_stream::read_command();
+        let c = test_stream::read_command(&rt);
         s = one(
+            &rt,
             c,
             s,
             &mut rom,
@@ -44,6 +47,7 @@ fn main() {
 }
 
 fn one(
+    rt: &(impl Print + Input),
     c: Command,
     s: Session,
     rom: &mut [u8; 4096],
@@ -56,29 +60,34 @@ fn one(
 ) -> Session {
     let letter = c.letter;
     match letter {
-        b'R' => rom_read(c, s, rom),
-        b'S' => schedule_read(c, s, schedule),
-        b'H' => read(s, bytes(sheet, c.n)),
-        b'V' => read(s, bytes(value, c.n)),
-        b'I' => read(s, bytes(image, c.n)),
+        b'R' => rom_read(rt, c, s, rom),
+        b'S' => schedule_read(rt, c, s, schedule),
+        b'H' => read(rt, s, bytes(rt, sheet, c.n)),
+        b'V' => read(rt, s, bytes(rt, value, c.n)),
+        b'I' => read(rt, s, bytes(rt, image, c.n)),
         b'X' => changed(c, s, value),
         b'Y' => changed(c, s, image),
         b'K' => copied(s, kept, value),
         b'B' => copied(s, value, kept),
-        _ => acts::one(c, s, rom, schedule, sheet, value, image, log),
+        _ => acts::one(rt, c, s, rom, schedule, sheet, value, image, log),
     }
 }
 
-fn rom_read(c: Command, s: Session, rom: &mut [u8]) -> Session {
+fn rom_read(rt: &(impl Print + Input), c: Command, s: Session, rom: &mut [u8]) -> Session {
     let mut t = s;
     t.rom = c.length as usize;
-    read(t, bytes(rom, c.n))
+    read(rt, t, bytes(rt, rom, c.n))
 }
 
-fn schedule_read(c: Command, s: Session, schedule: &mut [u8]) -> Session {
+fn schedule_read(
+    rt: &(impl Print + Input),
+    c: Command,
+    s: Session,
+    schedule: &mut [u8],
+) -> Session {
     let mut t = s;
     t.schedule = c.length as usize;
-    read(t, bytes(schedule, c.n))
+    read(rt, t, bytes(rt, schedule, c.n))
 }
 
 // One byte of the value, or of the image.

@@ -1,9 +1,10 @@
 // Reads the logs of standard input, each from an empty report, from what the case before carried on or from a part that is given, and
 // writes a line for each: the same text that the other interpreter writes of them. It may not know how a log is read. The file and
 // the text are told at the top of tests/reference/src/bin/waits/main.rs.
+#![tactic(auto)]
+
 ghost use Rattle.std.specs.Prelude.{◌+◌, ◌≤◌, length};
 
-use libc::{STDIN_FILENO, STDOUT_FILENO};
 use runs::MachineCycles;
 use test_stream::{column, number};
 use waiting::{Carried, LANDINGS, Landing, Reading};
@@ -21,40 +22,40 @@ const LAMPS_AT: usize = LANDINGS * LANDING_BYTES;
 
 const CARRIED_BYTES: usize = LAMPS_AT + 9;
 
-fn main() {
+fn main(rt: HostRuntime) {
     let mut head = [0u8; 2];
-    let got = io::read_full(STDIN_FILENO, &mut head);
+    let got = test_stream::read_full(&rt, &mut head);
     if got < 2 {
-        cut_short();
+        cut_short(&rt);
         return;
     }
-    all(test_stream::word(&head, 0));
+    all(&rt, test_stream::word(&head, 0));
 }
 
-fn all(count: u16) {
-    titles();
+fn all(rt: &(impl Print + Input), count: u16) {
+    titles(rt);
     let mut before = waiting::start_of_day();
     let mut k: u16 = 0;
     while k < count {
-        let tried = one(before);
+        let tried = one(rt, before);
         if !tried.there {
-            cut_short();
+            cut_short(rt);
             return;
         }
         let reading = tried.reading;
-        line(reading);
+        line(rt, reading);
         before = reading.carried;
         k += 1;
     }
-    number(count as u64, b" cases\n");
+    number(rt, count as u64, b" cases\n");
 }
 
-fn cut_short() {
-    io::write_all(STDOUT_FILENO, b"the file of cases is cut short\n");
+fn cut_short(rt: &impl Print) {
+    test_stream::put(rt, b"the file of cases is cut short\n");
 }
 
 // What a case gave, where there was one.
-#[derive(Drop)]
+#[derive(Clone, Copy)]
 struct Tried {
     there: bool,
     reading: Reading,
@@ -69,22 +70,22 @@ fn not_there() -> Tried {
 }
 
 // One case, behind one that carried this on.
-fn one(before: Carried) -> Tried {
+fn one(rt: &impl Input, before: Carried) -> Tried {
     let mut head = [0u8; HEAD];
     let mut given = [0u8; CARRIED_BYTES];
     let mut space = io::large_buffer();
-    let got = io::read_full(STDIN_FILENO, &mut head);
+    let got = test_stream::read_full(rt, &mut head);
     if got < HEAD {
         return not_there();
     }
     let size = test_stream::word(&head, 1) as usize;
     if head[0] == GIVEN {
-        let part = io::read_full(STDIN_FILENO, &mut given);
+        let part = test_stream::read_full(rt, &mut given);
         if part < CARRIED_BYTES {
             return not_there();
         }
     }
-    let taken = take(&mut space, size);
+    let taken = take(rt, &mut space, size);
     if taken < size {
         return not_there();
     }
@@ -97,13 +98,13 @@ fn one(before: Carried) -> Tried {
 }
 
 // Reads a log to the start of a buffer. Its size, or 0 where the file or the buffer ends before.
-fn take(space: &mut [u8], size: usize) -> usize
+fn take(rt: &impl Input, space: &mut [u8], size: usize) -> usize
     ensures { result ≤ length space.new }
 {
     if space.len() < size {
         return 0;
     }
-    let got = io::read_full(STDIN_FILENO, &mut space[..size]);
+    let got = test_stream::read_full(rt, &mut space[..size]);
     if got < size {
         return 0;
     }
@@ -153,29 +154,29 @@ fn carried_at(bytes: &[u8; CARRIED_BYTES]) -> Carried {
     }
 }
 
-fn titles() {
-    io::write_all(
-        STDOUT_FILENO,
+fn titles(rt: &impl Print) {
+    test_stream::put(
+        rt,
         b"number lamps last closed cycles longest open start closed cycles longest open start closed cycles longest open start closed cycles longest open start\n",
     );
 }
 
-fn line(r: Reading) {
+fn line(rt: &impl Print, r: Reading) {
     let carried = r.carried;
     let l = carried.landings;
-    column(r.number as u64);
-    column(carried.lamps as u64);
-    column(carried.last.0);
-    figures(l[0], b" ");
-    figures(l[1], b" ");
-    figures(l[2], b" ");
-    figures(l[3], b"\n");
+    column(rt, r.number as u64);
+    column(rt, carried.lamps as u64);
+    column(rt, carried.last.0);
+    figures(rt, l[0], b" ");
+    figures(rt, l[1], b" ");
+    figures(rt, l[2], b" ");
+    figures(rt, l[3], b"\n");
 }
 
-fn figures(l: Landing, after: &[u8]) {
-    column(l.closed);
-    column(l.cycles.0);
-    column(l.longest.0);
-    column(l.mark as u64);
-    number(l.start.0, after);
+fn figures(rt: &impl Print, l: Landing, after: &[u8]) {
+    column(rt, l.closed);
+    column(rt, l.cycles.0);
+    column(rt, l.longest.0);
+    column(rt, l.mark as u64);
+    number(rt, l.start.0, after);
 }

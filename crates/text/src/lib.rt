@@ -1,4 +1,6 @@
 // Text in a buffer, piece behind piece: bytes, decimal numbers, the line of a refusal. It may not know what a text tells.
+#![tactic(auto)]
+
 ghost use Rattle.std.specs.Prelude.{◌∷◌, [], ◌++◌, ◌+◌, ◌<◌, ◌≤◌, length};
 ghost use Rattle.upd546.specs.Reports.{decimal, refused_text};
 ghost use Rattle.text.specs.Writing.{Appended, number_length, refused_length};
@@ -11,7 +13,7 @@ pub fn put(out: &mut [u8], at: usize, bytes: &[u8]) -> usize
     requires { at + length bytes.now ≤ length out.old }
     ensures { Appended out.old at bytes.now out.new result }
 {
-    bytes::copy(bytes, &mut out[at..]);
+    copying::copy(bytes, &mut out[at..]);
     at + bytes.len()
 }
 

@@ -1,5 +1,7 @@
 // The report of a panel: the input of program `trace` split into n, ROM and schedule, the board's call on a fresh panel with the plain
 // runner, and the text of what it answers. It may not know how a run goes, nor where input comes from and text goes to.
+#![tactic(auto)]
+
 ghost use Rattle.std.specs.Prelude.{◌≡◌, ◌+◌, ◌*◌, ◌/◌, ◌<◌, ◌≤◌, length, replicate};
 ghost use Rattle.runs.specs.TwoRunners.{plain};
 ghost use Rattle.upd546.specs.TheMachine.{fresh};
@@ -33,7 +35,7 @@ const COUNT_BYTES: usize = 8;
 pub const TEXT_LENGTH: usize = 65536;
 
 // How a call ended: its number, and the counts of its report that the text shows.
-#[derive(Drop)]
+#[derive(Clone, Copy)]
 struct Ended {
     number: u8,
     cycles: MachineCycles,

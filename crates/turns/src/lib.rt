@@ -1,6 +1,8 @@
 // The loop of both runners: turn after turn, or a jump, from a state on. The state goes in by value and comes back by value; inside
 // the loop the core is a local and RAM, latches, log and tables are lent.
 // It may not know what a turn does, only that it answers what its definition says, nor where a jump is taken, nor what refuses a run.
+#![tactic(auto)]
+
 ghost use Rattle.std.specs.Prelude.{◌≡◌, ◌-◌, ◌*◌, ◌≤◌};
 ghost use Rattle.runs.specs.Numbers.{stop_number};
 ghost use Rattle.runs.specs.Refusals.{cycle_limit};

@@ -1,5 +1,7 @@
 // The uPD546 of document 01: the types that definitions and functions share, the fresh state, and in specs/ every sentence
 // of the document as a definition, a file for each section. It may not know how a runner, a save or a restore is written.
+#![tactic(auto)]
+
 pub mod layout;
 
 ghost use Rattle.std.specs.Prelude.{◌≡◌};
@@ -53,7 +55,7 @@ pub const PORT_E: u8 = 4;
 pub const PORT_I: u8 = 8;
 
 // Acc, C, C' and DP. Flags are 0 or 1.
-#[derive(Drop)]
+#[derive(Clone, Copy)]
 pub struct Registers {
     pub acc: u8,
     pub carry: u8,
@@ -63,14 +65,14 @@ pub struct Registers {
 }
 
 // PC and the stack, newest first.
-#[derive(Drop)]
+#[derive(Clone, Copy)]
 pub struct Flow {
     pub pc: u16,
     pub stack: [u16; STACK_DEPTH],
 }
 
 // The flip-flops INT and INTE, and the INT level last seen.
-#[derive(Drop)]
+#[derive(Clone, Copy)]
 pub struct Interrupt {
     pub int: u8,
     pub inte: u8,
@@ -78,7 +80,7 @@ pub struct Interrupt {
 }
 
 // The flip-flop TM, the polynomial register (0 when stopped) and the binary counter.
-#[derive(Drop)]
+#[derive(Clone, Copy)]
 pub struct Timer {
     pub tm: u8,
     pub register: u8,
@@ -86,7 +88,7 @@ pub struct Timer {
 }
 
 // What the instructions work on besides one RAM word and the ports.
-#[derive(Drop)]
+#[derive(Clone, Copy)]
 pub struct Core {
     pub registers: Registers,
     pub flow: Flow,
@@ -98,7 +100,7 @@ pub struct Core {
 
 // The whole machine: the core, the output latches of ports C to I, the RAM (rows 0 to 4 and 7), the count of consecutive cycles
 // with RES high, and the cycle number.
-#[derive(Drop)]
+#[derive(Clone, Copy)]
 pub struct State {
     pub core: Core,
     pub ports: [u8; LATCHES],
@@ -108,7 +110,7 @@ pub struct State {
 }
 
 // How much of it a chip of the family has: bytes of ROM, which of RAM rows 0 to 4 (bit i for row i), and stack levels.
-#[derive(Drop)]
+#[derive(Clone, Copy)]
 pub struct Sheet {
     pub rom: u64,
     pub rows: u64,
@@ -116,7 +118,7 @@ pub struct Sheet {
 }
 
 // The lines of one cycle: ports A to D, the INT level and RES.
-#[derive(Drop)]
+#[derive(Clone, Copy)]
 pub struct Lines {
     pub a: u8,
     pub b: u8,
@@ -127,7 +129,7 @@ pub struct Lines {
 }
 
 // What a run answers. The log that it was lent holds `written` bytes of records.
-#[derive(Drop)]
+#[derive(Clone, Copy)]
 pub struct RunAnswer {
     pub end: RunEnd,
     pub state: State,
@@ -139,7 +141,7 @@ pub struct RunAnswer {
 }
 
 // What a restore answers: where it is refused, the fresh state. A save answers an `Outcome`.
-#[derive(Drop)]
+#[derive(Clone, Copy)]
 pub struct RestoreAnswer {
     pub outcome: Outcome,
     pub state: State,

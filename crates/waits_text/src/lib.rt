@@ -1,5 +1,7 @@
 // The waiting-time report as program `waits` makes it: a log of any length is read in parts, the report carried on from part to
 // part, and told as text. It may not know how a log is read, nor where it comes from and where text goes to.
+#![tactic(auto)]
+
 ghost use Rattle.std.specs.Prelude.{◌≡◌, ◌+◌, ◌≤◌, length};
 ghost use Rattle.text.specs.Writing.{Appended};
 ghost use Rattle.waits_text.specs.Parts.{no_parts, part_read};

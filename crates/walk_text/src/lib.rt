@@ -1,5 +1,7 @@
 // A machine cycle as a line of text: one cycle by the plain runner, and what it did, the state after it, the ports that it wrote and the
 // lines that changed. It may not know how a run goes, what an instruction does, nor where text goes to.
+#![tactic(auto)]
+
 ghost use Rattle.std.specs.Prelude.{◌≡◌, ◌++◌, ◌+◌, ◌*◌, ◌-◌, ◌%◌, ◌<◌, ◌≤◌, length, get_or};
 ghost use Rattle.upd546.specs.TheLineSchedule.{schedule_number};
 ghost use Rattle.upd546.specs.Instructions.{instruction};
@@ -26,7 +28,7 @@ const LOG_LENGTH: usize = 16;
 
 // A machine cycle that was walked: the state before and after it, its lines and those of the cycle before. Of the cycles owed before it,
 // the last `over` are those of a skip.
-#[derive(Drop)]
+#[derive(Clone, Copy)]
 pub struct Walked {
     pub before: State,
     pub after: State,
@@ -37,7 +39,7 @@ pub struct Walked {
 
 // A cycle that was walked, or wasn't: its number, 0 where it was done; the state after it; of the cycles owed then, how many are those of a
 // skip; and the length of its line.
-#[derive(Drop)]
+#[derive(Clone, Copy)]
 pub struct WalkAnswer {
     pub number: u8,
     pub state: State,
@@ -46,7 +48,7 @@ pub struct WalkAnswer {
 }
 
 // What a cycle did.
-#[derive(Drop)]
+#[derive(Clone, Copy)]
 pub enum Kind {
     Reset,
     Accepts,

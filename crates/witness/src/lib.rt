@@ -3,6 +3,8 @@
 // a second time, at variables, so that none can hold of fewer arguments or sheets; and a function that makes the calls of two slices,
 // and ends as one unbroken run.
 // It may not know how a run, a save or a restore goes, nor how a theorem is proved: only definitions, contracts and theorems.
+#![tactic(auto)]
+
 ghost use Rattle.driver.specs.Lending.{runner_kind};
 ghost use Rattle.witness.specs.Day.{OneSlice, TwoSlices};
 
@@ -12,7 +14,7 @@ use upd546::layout::IMAGE_LENGTH;
 use upd546::{Sheet, State};
 
 // How a slice ended: what each of its calls answers.
-#[derive(Drop)]
+#[derive(Clone, Copy)]
 pub struct SliceEnd {
     pub report: Report,
     pub saved: Outcome,
@@ -21,7 +23,7 @@ pub struct SliceEnd {
 }
 
 // How two slices ended.
-#[derive(Drop)]
+#[derive(Clone, Copy)]
 pub struct DayEnd {
     pub first: SliceEnd,
     pub second: SliceEnd,
