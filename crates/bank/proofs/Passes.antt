@@ -1,12 +1,14 @@
 -- A round as the two loops make it: panel i of the whole row is noted, and then replaced, for i from 0 up. It is the round of the
 -- definitions. Assumes nothing.
 use mathlib.Core.Path.{◌≡◌, refl, sym, ◌∙◌, ap}
-use Prim.Native.Nat.{ℕ, zero, suc, ◌+◌, ◌≤◌}
+use Prim.Native.Nat.{ℕ, zero, suc, ◌+◌, ◌-◌, ◌<◌, ◌≤◌}
 use native.Mathlib.Omega.{arith}
 use mathlib.Core.Bool.{Bool, true, false, cond}
 use mathlib.Core.List.{List, [], ◌∷◌, ◌++◌}
 use lib.Dec.{eqb, leb}
-use lib.ListN.{length, get_or, set, take, length-append}
+use borrow.Author.Tests.{leb-true, ne_eqb}
+use lib.ListN.{length, get_or, set, take, length-append, length-set}
+use Rattle.std.proofs.lemmas.List.{get_or_default}
 use Rattle.runs.specs.Machine.{Machine}
 use Rattle.runs.specs.EveryRun.{EveryRunCountsWithin}
 use Rattle.runs.specs.Refusals.{first_of, unless}
@@ -39,12 +41,6 @@ serving M roms scheds zero i zs ls c = record { panels = zs; logs = ls; number =
 serving M roms scheds (suc k) i zs ls c =
     serving M roms scheds k (i + 1) (set zs i (panel_after (get_or zs i some_panel) (turn_run M roms scheds ls (get_or zs i some_panel) c)))
     (turn_logs M roms scheds ls (get_or zs i some_panel) c) (after_of c (get_or zs i some_panel).needs)
-
--- a panel put back as it was
-pub set_same : (zs : List Panel) (i : ℕ) (d : Panel) → set zs i (get_or zs i d) ≡ zs
-set_same [] i d = refl
-set_same (z ∷ zs) zero d = refl
-set_same (z ∷ zs) (suc i) d = ap {B = List Panel} (λ l. z ∷ l) (set_same zs i d)
 
 -- no more panels are gone through than there are
 none_or_all : (z : Bool) (m n : ℕ) → m ≤ n → cond z m 0 ≤ n
@@ -139,3 +135,98 @@ module _ (M : Machine State) (counts : EveryRunCountsWithin M) (roms scheds : Li
       serving_after M roms scheds plan.count ps [] logs plan few
       ∙ ap (λ (c : Course). turns_of M roms scheds c.count ps logs c) plan_is
       ∙ turns_make M counts roms scheds t ps logs
+
+-- ==== WHAT THE LOOPS KEEP
+
+-- with m panels, up to 16, or none
+abbrev count_of : ℕ → ℕ → ℕ
+count_of k m = cond (eqb k 0) m 0
+
+few_tested : (z : Bool) (m : ℕ) → leb m most_panels ≡ z → count_of (first_of (0 ∷ unless z 61 ∷ [])) m ≤ 16
+unfolding first_of
+few_tested true m h = leb-true m most_panels h
+few_tested false m h = omega arith
+
+not_none : (k : ℕ) → suc k ≡ 0 → ⊥
+not_none k e = omega arith
+
+few_of : (own m : ℕ) → count_of (first_of (own ∷ unless (leb m most_panels) 61 ∷ [])) m ≤ 16
+unfolding first_of
+few_of zero m = few_tested (leb m most_panels) m refl
+few_of (suc own) m = rw (ne_eqb (suc own) 0 (not_none own)) (omega arith)
+
+pub begin_few : (own m : ℕ) (ends : Places) (t : ℕ) → (begin_of own m ends t).count ≤ 16
+unfolding begin_of
+begin_few own m ends t = few_of own m
+
+-- n panels are to be noted, and i are, from the course `start` on
+pub record Noted (n i : ℕ) (zs : List Panel) (course start : Course) : Type 0 where
+  pub few : n ≤ 16
+  pub within : n ≤ length zs
+  pub so_far : i ≤ n
+  pub same : noting (n - i) i zs course ≡ noting n 0 zs start
+
+pub noted_none : (own : ℕ) (ends : Places) (t : ℕ) (zs : List Panel) (c : Course) → c ≡ begin_of own (length zs) ends t → Noted c.count 0 zs c c
+noted_none own ends t zs c e = record {
+  few = omega (arith, begin_few own (length zs) ends t, ap (λ (x : Course). x.count) e);
+  within = omega (arith, begin_count own (length zs) ends t, ap (λ (x : Course). x.count) e);
+  so_far = omega arith;
+  same = let all : c.count - 0 ≡ c.count = omega arith in ap (λ (k : ℕ). noting k 0 zs c) all;
+}
+
+pub noted_more : (n i : ℕ) (zs : List Panel) (x : Panel) (c d start : Course) → Noted n i zs c start → i < n → d ≡ note_of c (get_or zs i x).needs → Noted n (i + 1) zs d start
+noted_more n i zs x c d start w h e =
+    let read : get_or zs i x ≡ get_or zs i some_panel = get_or_default zs i x some_panel (omega (arith, w.within)) in
+    let left : n - i ≡ suc (n - (i + 1)) = omega arith in
+    record {
+      few = w.few;
+      within = w.within;
+      so_far = omega arith;
+      same = ap (noting (n - (i + 1)) (i + 1) zs) (e ∙ ap (λ (z : Panel). note_of c z.needs) read) ∙ ap (λ (k : ℕ). noting k i zs c) (sym left) ∙ w.same;
+    }
+
+pub noted_all : (n i : ℕ) (zs : List Panel) (c start : Course) → Noted n i zs c start → n ≤ i → c ≡ noting n 0 zs start
+noted_all n i zs c start w h =
+    let none : n - i ≡ 0 = omega arith in
+    ap (λ (k : ℕ). noting k i zs c) (sym none) ∙ w.same
+
+-- n panels are to be served, and i are
+module _ (M : Machine State) (roms scheds : List ℕ) where
+  pub record Served (n i : ℕ) (zs : List Panel) (ls : List ℕ) (course : Course) (ps : List Panel) (logs : List ℕ) (start : Course) : Type 0 where
+    pub few : n ≤ 16
+    pub within : n ≤ length zs
+    pub so_far : i ≤ n
+    pub same : serving M roms scheds (n - i) i zs ls course ≡ serving M roms scheds n 0 ps logs start
+
+  pub served_none : (n i : ℕ) (ps : List Panel) (logs : List ℕ) (c d start : Course) → Noted n i ps c start → n ≤ i → start.count ≡ n → d ≡ plan_of c
+      → Served d.count 0 ps logs d ps logs d
+  served_none n i ps logs c d start w h start_is e =
+      let noted_count : c.count ≡ n = ap (λ (x : Course). x.count) (noted_all n i ps c start w h) ∙ noting_count n 0 ps start ∙ start_is in
+      let count_is : d.count ≡ (plan_of c).count = ap (λ (x : Course). x.count) e in
+      record {
+        few = omega (arith, count_is, plan_count c 16 (omega (arith, noted_count, w.few)));
+        within = omega (arith, count_is, plan_count c (length ps) (omega (arith, noted_count, w.within)));
+        so_far = omega arith;
+        same = let all : d.count - 0 ≡ d.count = omega arith in ap (λ (k : ℕ). serving M roms scheds k 0 ps logs d) all;
+      }
+
+  pub served_more : (n i : ℕ) (zs : List Panel) (ls : List ℕ) (c : Course) (ps : List Panel) (logs : List ℕ) (start : Course) → Served n i zs ls c ps logs start → i < n
+      → (x p : Panel) (ls' : List ℕ) (d : Course) → p ≡ panel_after (get_or zs i x) (turn_run M roms scheds ls (get_or zs i x) c)
+      → d ≡ after_of c (get_or zs i x).needs → ls' ≡ turn_logs M roms scheds ls (get_or zs i x) c
+      → Served n (i + 1) (set zs i p) ls' d ps logs start
+  served_more n i zs ls c ps logs start w h x p ls' d e f g =
+      let left : n - i ≡ suc (n - (i + 1)) = omega arith in
+      let on : serving M roms scheds (n - (i + 1)) (i + 1) (set zs i p) ls' d ≡ serving M roms scheds (suc (n - (i + 1))) i zs ls c
+      = rw (e, f, g, get_or_default zs i x some_panel (omega (arith, w.within))) refl in
+      record {
+        few = w.few;
+        within = omega (arith, w.within, length-set zs i p);
+        so_far = omega arith;
+        same = on ∙ ap (λ (k : ℕ). serving M roms scheds k i zs ls c) (sym left) ∙ w.same;
+      }
+
+  pub served_all : (n i : ℕ) (zs : List Panel) (ls : List ℕ) (c : Course) (ps : List Panel) (logs : List ℕ) (start : Course) → Served n i zs ls c ps logs start → n ≤ i
+      → record { panels = zs; logs = ls; number = c.number } ≡ serving M roms scheds n 0 ps logs start
+  served_all n i zs ls c ps logs start w h =
+      let none : n - i ≡ 0 = omega arith in
+      ap (λ (k : ℕ). serving M roms scheds k i zs ls c) (sym none) ∙ w.same

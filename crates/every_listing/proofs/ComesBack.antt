@@ -94,7 +94,7 @@ module _ (all : List Item) (n : ℕ) (whole : Chain 0 all) where
       → Each (Known (header n ∷ lines_for all all) all) is
   unfolding begins led_to
   known [] end sub led = none
-  known (i ∷ is) (link e s c) sub led =
+  known {at = at} (i ∷ is) (link e s c) sub led =
       more
       (record {
         label = λ h. behind_header n i.at (lines_for all all)
@@ -104,7 +104,7 @@ module _ (all : List Item) (n : ℕ) (whole : Chain 0 all) where
             (led (target i) (or_true (leads_for i.kind && eqb (target i) (target i)) (led_to is (target i)) (ap (λ (x : Bool). x && eqb (target i) (target i)) l ∙ eq-eqb (target i) (target i) refl)))
             whole b;
       })
-      (known is c (λ a h. sub a (or_right (eqb i.at a) (begins is a) h)) (λ a h. led a (or_right (leads_for i.kind && eqb (target i) a) (led_to is a) h)))
+      (known {at = at + size_for i.kind} is c (λ a h. sub a (or_right (eqb i.at a) (begins is a) h)) (λ a h. led a (or_right (leads_for i.kind && eqb (target i) a) (led_to is a) h)))
 
 -- A LINE
 
@@ -149,11 +149,11 @@ module _ (lines : List Line) (all : List Item) (n : ℕ) (hn : n ≤ 2000) where
       → length done + length (bytes_all is) ≤ n → assembled_from lines k (given n done) (lines_for all is) ≡ result (done ++ bytes_all is)
   unfolding bytes_all lines_for assembled_from step action_for parsed before onwards
   all_steps [] k done end none e h = ap result (sym (append-nil done))
-  all_steps (i ∷ is) k done (link p s c) (more kn ks) e h =
+  all_steps {at = at} (i ∷ is) k done (link p s c) (more kn ks) e h =
       let here : length done + length (bytes_of i) ≤ n = omega (arith, length-append (bytes_of i) (bytes_all is)) in
       let rest : length (done ++ bytes_of i) + length (bytes_all is) ≤ n = omega (arith, length-append (bytes_of i) (bytes_all is), length-append done (bytes_of i)) in
       go_on lines k (given n done) (given n (done ++ bytes_of i)) (line_for all i) (lines_for all is) (item_step i done (p ∙ e) s kn here)
-      ∙ all_steps is (suc k) (done ++ bytes_of i) c ks (omega (arith, length-append done (bytes_of i), size_bytes i)) rest
+      ∙ all_steps {at = at + size_for i.kind} is (suc k) (done ++ bytes_of i) c ks (omega (arith, length-append done (bytes_of i), size_bytes i)) rest
       ∙ ap result (append_assoc done (bytes_of i) (bytes_all is))
 
 -- THE FIRST LINE

@@ -81,7 +81,7 @@ module _ (sheet : Sheet) (rom sched : List ℕ) (s : State) (r span room n : ℕ
   valid = accepted-valid sheet s accepted
 
   unreset : Unreset sched s
-  unreset = record { low = w.low; none = w.count }
+  unreset = record { low = w.low; none = omega (arith, w.count) }
 
   some_ticks : 0 < r
   unfolding ticks_left

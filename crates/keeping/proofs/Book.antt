@@ -1,30 +1,30 @@
 -- A store that holds these entries and nothing else: how it is read, and what each call makes of it. Assumes nothing.
 use mathlib.Core.Path.{◌≡◌, ◌∙◌, refl, sym, ap, ap₂, subst}
-use mathlib.Core.Bool.{Bool, true, false, cond, not, ◌&&◌, ◌||◌}
-use mathlib.Core.List.{List, [], ◌∷◌, ◌++◌}
-use mathlib.Core.Option.{Option, none, some}
+use mathlib.Core.Bool.{Bool, true, false, cond, ◌||◌}
+use mathlib.Core.List.{List, [], ◌∷◌}
+use mathlib.Core.Option.{some}
 use Prim.Native.Nat.{ℕ, zero, suc, ◌+◌, ◌-◌, ◌*◌, ◌≤◌, ◌<◌}
 use native.Mathlib.Nat.{sub-zero, zero-add}
 use native.Mathlib.Omega.{arith}
-use lib.Dec.{eqb, ltb}
+use lib.Dec.{ltb}
 use lib.ListN.{length, replicate}
 use borrow.Author.Tests.{eq-eqb}
 use Rattle.runs.specs.declared.Version.TheVariants.{Two}
 use Rattle.runs.specs.Machine.{Machine}
-use Rattle.runs.specs.Refusals.{first_of, unless}
+use Rattle.runs.specs.Refusals.{unless}
 use Rattle.runs.specs.TwoRunners.{current_number}
 use Rattle.runs.specs.Lists.{Each}
 use Rattle.runs.proofs.Refusals.{first_past, last_one}
 use Rattle.runs.proofs.Calls.{current_fit}
 use Rattle.upd546.specs.Bytes.{part}
 use Rattle.upd546.specs.Sequences.{same_numbers}
-use Rattle.store.specs.Entries.{name_length, zero_name, legal_name, Entry, entry_bytes, place_of, known, distinct, entry_length, entries_of, capacity, kept, image_at, with_entry}
+use Rattle.store.specs.Entries.{name_length, zero_name, legal_name, Entry, place_of, known, distinct, entry_length, capacity, kept, image_at, with_entry}
 use Rattle.store.specs.Entries.{kept_in, accepted, all_accepted, well_formed}
-use Rattle.store.specs.Answers.{StoreAnswer, place_in, judged_number, store_number, store_answer, recall_number, recall_answer}
-use Rattle.store.proofs.Entries.{span, span_none, span_cons, span_all, length-span, kept_entries}
-use Rattle.store.proofs.Answers.{by_images, judged_none, judged_fit, store_fit, stored_done, recall_place, recalled-done}
+use Rattle.store.specs.Answers.{StoreAnswer, judged_number, store_number, store_answer, recall_number}
+use Rattle.store.proofs.Entries.{span, span_cons, span_all, length-span, kept_entries}
+use Rattle.store.proofs.Answers.{by_images, judged_none, judged_fit, store_fit, stored_done}
 use Rattle.keeping.specs.Lists.{is_stored, put_in, laid_out}
-use Rattle.keeping.proofs.Names.{lookup, known_held, distinct-put, put_most, names, length-names, known_stored}
+use Rattle.keeping.proofs.Names.{lookup, distinct-put, put_most, names, length-names, known_stored}
 use Rattle.keeping.proofs.Laid.{Sized, capacity-laid, whole_laid, kept_laid, tail_laid, laid_put}
 
 module _ {S : Type 0} (M : Machine S) where

@@ -1,26 +1,17 @@
 -- The bytes of entries in a store: what the store is read as, and what a store of one more leaves. Assumes nothing.
-use mathlib.Core.Path.{◌≡◌, ◌∙◌, refl, sym, ap, ap₂, subst}
-use mathlib.Core.Bool.{Bool, true, false, cond, ◌&&◌}
+use mathlib.Core.Path.{◌≡◌, ◌∙◌, refl, sym, ap, ap₂}
+use mathlib.Core.Bool.{Bool, true, false, cond}
 use mathlib.Core.List.{List, [], ◌∷◌, ◌++◌, append-nil, append_assoc}
-use mathlib.Core.Option.{Option, none, some}
 use Prim.Native.Nat.{ℕ, zero, suc, ◌+◌, ◌-◌, ◌*◌, ◌/◌, ◌%◌, ◌≤◌, ◌<◌}
 use native.Mathlib.Nat.{zero-add, suc-add, sub-zero, suc-sub-suc, mul-zero, mul-add, mul-div_cancel_left, mul-mod_right}
 use native.Mathlib.Omega.{arith}
-use lib.Dec.{eqb}
 use lib.ListN.{length, take, drop, replicate, length-append, length-replicate}
-use lib.Seq.{take_at, drop_at, length-take-le, take-append-add, drop-append-add}
-use borrow.Author.Tests.{eq-eqb}
-use Rattle.runs.specs.declared.Version.TheVariants.{Two}
-use Rattle.runs.specs.Machine.{Machine}
-use Rattle.runs.specs.TwoRunners.{current_number}
+use lib.Seq.{take_at, drop_at, take-append-add, drop-append-add}
 use Rattle.runs.specs.Lists.{Each}
-use Rattle.runs.proofs.Calls.{current_fit}
 use Rattle.upd546.specs.Bytes.{part}
-use Rattle.upd546.specs.Sequences.{all_of, all_below, same_numbers}
-use Rattle.store.specs.Entries.{name_length, zero_name, Entry, entry_bytes, used_of, place_of, distinct, entry_length, entries_of, capacity, kept, tail_of, with_entry}
-use Rattle.store.specs.Entries.{all_accepted, well_formed}
+use Rattle.upd546.specs.Sequences.{all_below, same_numbers}
+use Rattle.store.specs.Entries.{name_length, zero_name, Entry, entry_bytes, used_of, place_of, entry_length, entries_of, capacity, kept, tail_of, with_entry}
 use Rattle.store.proofs.Names.{same_self}
-use Rattle.store.proofs.Answers.{by_images}
 use Rattle.keeping.specs.Lists.{put_in, joined, laid_out}
 
 -- ZEROS

@@ -2,28 +2,27 @@
 use mathlib.Core.Path.{◌≡◌, ◌∙◌, refl, sym, ap, ap₂, subst}
 use mathlib.Core.Bool.{Bool, true, false, ◌||◌}
 use mathlib.Core.List.{List, [], ◌∷◌, ◌++◌, map}
-use mathlib.Core.Option.{Option, none, some}
+use mathlib.Core.Option.{none, some}
 use Prim.Native.Nat.{ℕ, zero, suc, ◌+◌, ◌*◌, ◌≤◌, ◌<◌}
 use native.Mathlib.Nat.{mul-le-mul_left}
 use native.Mathlib.Omega.{arith}
 use lib.Dec.{ltb}
 use lib.ListN.{length, take, drop, length-append}
 use borrow.Author.Tests.{ltb-true, ltb-false}
-use Rattle.runs.specs.declared.Version.TheVariants.{Two}
 use Rattle.runs.specs.Machine.{Machine}
 use Rattle.runs.specs.Refusals.{first_of, unless}
-use Rattle.runs.specs.TwoRunners.{RestoreAnswer, current_number, restore_answer}
+use Rattle.runs.specs.TwoRunners.{RestoreAnswer}
 use Rattle.runs.specs.Laws.{ImageLaws}
-use Rattle.runs.specs.Lists.{Kind, Each, run_answer, WrittenBy}
-use Rattle.runs.proofs.Refusals.{first_is, first_past, first_append}
+use Rattle.runs.specs.Lists.{Each, run_answer, WrittenBy}
+use Rattle.runs.proofs.Refusals.{first_is}
 use Rattle.runs.proofs.Calls.{current_fit, restore-number, fit_restore, restore_same}
 use Rattle.upd546.specs.Bytes.{part}
-use Rattle.store.specs.Entries.{name_length, Entry, entry_bytes, place_of, entry_length, capacity, kept, image_at, with_entry, kept_in, legal_name, accepted, well_formed}
+use Rattle.store.specs.Entries.{Entry, entry_bytes, place_of, entry_length, legal_name, well_formed}
 use Rattle.store.specs.Answers.{StoreAnswer, place_in, judged_number, store_number, stored, store_answer, recall_number, recalled, recall_answer}
 use Rattle.store.proofs.Answers.{judged_fit, store_fit, store_judged, store_image, stored_done, recall_place, recalled-done, entry_within}
 use Rattle.keeping.specs.Lists.{Request, keep_under, recall_of, made_on, on_one_store, EveryListOnOneStoreIsMeant}
 use Rattle.keeping.specs.Lists.{Call, keep, recall, sheet_of, lent_to, unless_refused, last_stored, first_stored, order_of, is_stored, put_in, entries_after}
-use Rattle.keeping.specs.Lists.{refusal, document_number, leaves, not_refused, last, AllLent, image_length, empty_store, Meant, HandsBackTheLast, KeepsTheOthers, ChangesNothing, NextCalls, KeepsTheLast}
+use Rattle.keeping.specs.Lists.{refusal, document_number, leaves, not_refused, last, AllLent, image_length, empty_store, Meant, HandsBackTheLast, KeepsTheOthers, ChangesNothing, KeepsTheLast}
 use Rattle.keeping.specs.Lists.{EveryListKeepsTheLast, SheetRefusesFirst, MalformedRefusesBeforeRoom}
 use Rattle.keeping.proofs.Names.{lookup, names, place_order, last_lookup, first_names}
 use Rattle.keeping.proofs.Book.{Holds, holds_none, holds_kept, holds_put, lookup_taken, next_recall, next_store, found_kept}
@@ -163,9 +162,9 @@ module _ {Sheet S : Type 0} (M : Sheet → Machine S) where
       ∙ go (well_formed (M sheet) store) (legal_name name) refl refl
     where
       go : (f n : Bool) → well_formed (M sheet) store ≡ f → legal_name name ≡ n → store_number (M sheet) store name image ≡ 51
-      go false n p q = store_judged (M sheet) store name image 51 (rw (legal, p)) (λ (z : ◌≡◌ {A = ℕ} 51 0). omega arith)
-      go true false p q = store_judged (M sheet) store name image 51 (rw (legal, p, q)) (λ (z : ◌≡◌ {A = ℕ} 51 0). omega arith)
-      go true true p q = store_image (M sheet) store name image (rw (legal, p, q)) e
+      go false n p q = store_judged (M sheet) store name image 51 (rw (p, legal)) (λ (z : ◌≡◌ {A = ℕ} 51 0). omega arith)
+      go true false p q = store_judged (M sheet) store name image 51 (rw (p, q, legal)) (λ (z : ◌≡◌ {A = ℕ} 51 0). omega arith)
+      go true true p q = store_image (M sheet) store name image (rw (p, q, legal)) e
 
   -- THE STORE BEHIND CALLS
   module _ (sheet : Sheet) (places : ℕ) where

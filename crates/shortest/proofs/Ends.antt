@@ -2,25 +2,24 @@
 use mathlib.Core.Path.{◌≡◌, ◌∙◌, refl, sym, ap}
 use mathlib.Core.Bool.{Bool, true, false}
 use mathlib.Core.List.{List}
-use Prim.Native.Nat.{ℕ, zero, suc, ◌+◌, ◌*◌, ◌/◌, ◌<◌, ◌≤◌}
+use Prim.Native.Nat.{ℕ, zero, suc, ◌+◌, ◌*◌, ◌<◌, ◌≤◌}
 use native.Mathlib.Omega.{arith}
 use lib.Dec.{ltb}
-use lib.ListN.{length, take, get_or, replicate, length-replicate, length-take, get_or-eq_default}
+use lib.ListN.{length, get_or, replicate, length-replicate, length-take, get_or-eq_default}
 use lib.Seq.{get_or-take}
 use borrow.Author.Tests.{ltb-true, ltb-false}
 use Rattle.runs.specs.Machine.{Machine}
 use Rattle.runs.specs.Laws.{Bytes, Panel}
 use Rattle.runs.specs.Lists.{Kind, plain_one, run_answer}
-use Rattle.runs.specs.Refusals.{cycle_limit, first_of}
-use Rattle.runs.specs.TwoRunners.{log_bound, End, RunAnswer, Stepped, end_with, unbroken, within, stepwise, run_number, told, plain}
+use Rattle.runs.specs.Refusals.{cycle_limit}
+use Rattle.runs.specs.TwoRunners.{log_bound, Stepped, end_with, unbroken, within, stepwise, run_number, told, plain}
 use Rattle.runs.proofs.Refusals.{first_at, first_past, last_one}
-use Rattle.runs.proofs.Calls.{Fit, run_fit, fit_run, run_same}
+use Rattle.runs.proofs.Calls.{run_fit, fit_run, run_same}
 use Rattle.upd546.specs.declared.Sheet.{Sheet}
 use Rattle.upd546.specs.declared.State.{State}
 use Rattle.upd546.specs.TheLineSchedule.{record_length, record_count, schedule_number}
 use Rattle.upd546.specs.TwoRunners.{panel_number, chip}
 use Rattle.laws.proofs.Demand3.{laws}
-use Rattle.laws.proofs.Lines.{panel_schedule}
 use Rattle.shortest.specs.Search.{first_records, trial_end}
 use Rattle.shortest.proofs.FirstRecords.{first_accepted}
 

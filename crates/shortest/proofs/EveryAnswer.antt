@@ -4,28 +4,26 @@ use mathlib.Core.Bool.{Bool, true, false, true≢false}
 use mathlib.Core.List.{List}
 use mathlib.Core.Logic.{⊎_elim}
 use mathlib.Core.Option.{Option, none, some}
-use Prim.Native.Nat.{ℕ, ◌-◌, ◌*◌, ◌<◌, ◌≤◌}
+use Prim.Native.Nat.{ℕ, ◌-◌, ◌*◌}
 use native.Mathlib.Nat.{eq-or-lt_of_le, sub-zero}
 use native.Mathlib.Omega.{arith}
-use lib.Dec.{eqb, leb}
-use lib.ListN.{length, take}
+use lib.Dec.{leb}
+use lib.ListN.{length}
 use lib.Seq.{take_all}
 use borrow.Author.Tests.{eqb-true, eqb-false, leb-true, leb-false}
 use Rattle.runs.specs.Machine.{Machine}
-use Rattle.runs.specs.Laws.{Bytes}
 use Rattle.runs.specs.Lists.{plain_one}
-use Rattle.runs.specs.TwoRunners.{log_bound, End, finished, stopped, refused, number_of_end, end_with, unbroken, within, run_number, plain}
+use Rattle.runs.specs.TwoRunners.{End, finished, stopped, refused, number_of_end, end_with, unbroken, within, run_number, plain}
 use Rattle.runs.proofs.Cut.{stands}
 use Rattle.runs.proofs.Calls.{run_fit}
 use Rattle.upd546.specs.declared.Sheet.{Sheet}
 use Rattle.upd546.specs.declared.State.{State}
 use Rattle.upd546.specs.TheLineSchedule.{record_length, record_count}
 use Rattle.upd546.specs.TwoRunners.{chip}
-use Rattle.laws.specs.Stops.{StopNumber}
 use Rattle.laws.proofs.Stops.{stop_number}
 use Rattle.laws.proofs.Lines.{panel_schedule}
-use Rattle.shortest.specs.Search.{first_records, stops_with, Found, trial_end, smallest_from, smallest, shortest_answer}
-use Rattle.shortest.specs.EveryAnswer.{FinishesOrStopsOtherwise, NeverThree, EveryTrial, IsShortest, AnswersInOrder, EveryAnswerIsShortest, NoTrialStopsWithThree}
+use Rattle.shortest.specs.Search.{first_records, stops_with, Found, trial_end, smallest_from, smallest}
+use Rattle.shortest.specs.EveryAnswer.{FinishesOrStopsOtherwise, NeverThree, EveryTrial, IsShortest, EveryAnswerIsShortest, NoTrialStopsWithThree}
 use Rattle.shortest.proofs.FirstRecords.{all_records}
 use Rattle.shortest.proofs.Smallest.{Smallest, smallest_is}
 use Rattle.shortest.proofs.Order.{untried_refused, untried_short, untried_none, answer_untried, answer_finishes, answer_stops}

@@ -2,7 +2,7 @@
 use mathlib.Core.Path.{◌≡◌, ◌∙◌, refl, sym, ap}
 use mathlib.Core.Bool.{cond}
 use mathlib.Core.List.{List, [], ◌∷◌, ◌++◌}
-use Prim.Native.Nat.{ℕ, zero, suc, ◌*◌, ◌<◌, ◌≤◌}
+use Prim.Native.Nat.{ℕ, ◌<◌, ◌≤◌}
 use native.Mathlib.Omega.{arith}
 use lib.ListN.{length, take, drop, length-append, length-drop}
 use lib.Seq.{drop_at, length-take-le}
@@ -14,7 +14,7 @@ use Rattle.runs.specs.TwoRunners.{log_bound, run_number}
 use Rattle.runs.proofs.Refusals.{numbered}
 use Rattle.shortest.specs.declared.Shortest.{Shortest}
 use Rattle.shortest.specs.declared.Shortest.TheVariants.{Refused, LogShort}
-use Rattle.shortest.specs.Search.{Found, finishes, trial_end, untried_number, error_number, on_error, shortest_answer, LogLeft, found_of, Answers}
+use Rattle.shortest.specs.Search.{finishes, trial_end, untried_number, error_number, on_error, shortest_answer, LogLeft, found_of, Answers}
 use Rattle.shortest.proofs.Order.{untried_refused, untried_short, untried_none, answer_untried}
 
 module _ {S : Type 0} (M : Machine S) (rom sched : List ℕ) (s : S) (n : ℕ) (log : List ℕ) where

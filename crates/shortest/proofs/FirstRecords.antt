@@ -2,22 +2,19 @@
 -- first record left out. Assumes nothing.
 use mathlib.Core.Path.{◌≡◌, ◌∙◌, refl, sym, ap}
 use mathlib.Core.Bool.{Bool, true, false}
-use mathlib.Core.List.{List, [], ◌∷◌, ◌++◌}
+use mathlib.Core.List.{List}
 use mathlib.Core.Logic.{⊎_elim}
-use Prim.Native.Nat.{ℕ, zero, suc, ◌+◌, ◌*◌, ◌/◌, ◌%◌, ◌<◌, ◌≤◌}
+use Prim.Native.Nat.{ℕ, zero, suc, ◌+◌, ◌*◌, ◌%◌, ◌<◌, ◌≤◌}
 use native.Mathlib.Nat.{eq-or-lt_of_le}
 use native.Mathlib.Omega.{arith}
 use lib.Dec.{eqb, leb}
-use lib.ListN.{length, take, drop, get_or, length-drop, take-append-drop}
+use lib.ListN.{length, take, drop, length-drop, take-append-drop}
 use lib.Seq.{length-take-le, take_all, drop-append-le, take-append-le, get_or-take}
 use borrow.Author.Tests.{eqb-true, eq-eqb, leb-true, le-leb, lt-leb}
-use Rattle.runs.specs.Refusals.{first_of, unless}
+use Rattle.runs.specs.Refusals.{first_of}
 use Rattle.runs.proofs.Refusals.{first_at, passes}
 use Rattle.upd546.specs.Bytes.{number_of, part}
-use Rattle.upd546.specs.declared.Lines.{Lines}
-use Rattle.upd546.specs.declared.Sheet.{Sheet}
-use Rattle.upd546.specs.TheLineSchedule.{record_length, max_records, record_count, record_byte, record_cycle, record_lines, lines_among, lines_at, bytes_number, order_number, record_number, records_number, schedule_number}
-use Rattle.upd546.specs.TwoRunners.{panel_number}
+use Rattle.upd546.specs.TheLineSchedule.{record_length, max_records, record_count, record_byte, record_cycle, record_lines, lines_among, lines_at, bytes_number, order_number, records_number, schedule_number}
 use Rattle.shortest.specs.Search.{first_records}
 
 -- an accepted schedule is whole records, not too many, none of them refused

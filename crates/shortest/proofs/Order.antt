@@ -1,6 +1,6 @@
 -- What is answered in each case, by the numbers in their order. Assumes nothing.
 use mathlib.Core.Path.{◌≡◌, ◌∙◌, refl, sym, ap}
-use mathlib.Core.Bool.{Bool, true, false, cond}
+use mathlib.Core.Bool.{Bool, true, false}
 use mathlib.Core.List.{List, [], ◌∷◌}
 use Prim.Native.Nat.{ℕ, zero, suc, ◌+◌, ◌<◌, ◌≤◌}
 use native.Mathlib.Omega.{arith}
@@ -9,10 +9,10 @@ use lib.ListN.{length}
 use borrow.Author.Tests.{le-leb, lt-leb, leb-true, leb-false}
 use Rattle.runs.specs.Machine.{Machine}
 use Rattle.runs.specs.Refusals.{cycle_limit, first_of, unless}
-use Rattle.runs.specs.TwoRunners.{log_bound, End, finished, stopped, number_of_end, run_number}
+use Rattle.runs.specs.TwoRunners.{log_bound, finished, stopped, number_of_end, run_number}
 use Rattle.runs.proofs.Refusals.{first_is}
 use Rattle.runs.proofs.Calls.{run_fit, fit_run}
-use Rattle.shortest.specs.Search.{Found, trial_end, smallest, untried_number, error_number, on_error, shortest_answer}
+use Rattle.shortest.specs.Search.{trial_end, smallest, untried_number, error_number, on_error, shortest_answer}
 
 module _ {S : Type 0} (M : Machine S) (rom sched : List ℕ) (s : S) (n : ℕ) where
   -- A run of no cycle is refused by every number of a run of n but 2, and by 2 where every run is.

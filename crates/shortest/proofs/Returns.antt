@@ -6,9 +6,9 @@ use mathlib.Core.Option.{Option, none, some}
 use Prim.Native.Nat.{ℕ, zero, suc, ◌+◌, ◌-◌, ◌<◌, ◌≤◌}
 use native.Mathlib.Omega.{arith}
 use lib.Dec.{eqb}
-use Rattle.runs.specs.Machine.{Machine, Out, stop, went}
+use Rattle.runs.specs.Machine.{Out, stop, went}
 use Rattle.runs.specs.TwoRunners.{Ran, still, on_out, unbroken}
-use Rattle.runs.proofs.Cut.{first_stop, joined, unbroken-cut}
+use Rattle.runs.proofs.Cut.{first_stop, unbroken-cut}
 use Rattle.upd546.specs.declared.Lines.{Lines}
 use Rattle.upd546.specs.declared.Sheet.{Sheet}
 use Rattle.upd546.specs.declared.State.{State}

@@ -2,7 +2,7 @@
 use mathlib.Core.Path.{◌≡◌, ◌∙◌, refl, sym, ap}
 use mathlib.Core.Bool.{Bool, true, false}
 use mathlib.Core.List.{List}
-use Prim.Native.Nat.{ℕ, ◌+◌, ◌-◌, ◌*◌, ◌<◌, ◌≤◌}
+use Prim.Native.Nat.{ℕ, ◌+◌, ◌-◌, ◌<◌, ◌≤◌}
 use native.Mathlib.Omega.{arith}
 use lib.ListN.{length}
 use Rattle.runs.specs.TwoRunners.{log_bound}
@@ -11,7 +11,7 @@ use Rattle.upd546.specs.declared.State.{State}
 use Rattle.upd546.specs.TheLineSchedule.{record_count}
 use Rattle.upd546.specs.TwoRunners.{chip}
 use Rattle.shortest.specs.Search.{first_records, stops_with, trial_end, smallest_from, smallest}
-use Rattle.shortest.specs.Tried.{Ready, Tryable, Stopping, KeptFrom}
+use Rattle.shortest.specs.Tried.{Tryable, Stopping, KeptFrom}
 use Rattle.shortest.proofs.Smallest as found
 use Rattle.shortest.proofs.EveryAnswer.{test_of, starts}
 use Rattle.shortest.proofs.Shared.{kept_on_lem, kept_next, kept_start}

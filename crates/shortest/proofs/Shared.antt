@@ -4,7 +4,7 @@ use mathlib.Core.Path.{◌≡◌, ◌∙◌, refl, sym, ap}
 use mathlib.Core.List.{List}
 use mathlib.Core.Logic.{⊎_elim}
 use mathlib.Core.Option.{Option}
-use Prim.Native.Nat.{ℕ, zero, suc, ◌+◌, ◌-◌, ◌*◌, ◌<◌, ◌≤◌}
+use Prim.Native.Nat.{ℕ, zero, suc, ◌+◌, ◌-◌, ◌<◌, ◌≤◌}
 use native.Mathlib.Nat.{eq-or-lt_of_le, zero-add, sub-zero, suc-add}
 use native.Mathlib.Omega.{arith}
 use lib.Dec.{eqb}
@@ -27,7 +27,7 @@ use Rattle.laws.proofs.Chip.{chip_laws}
 use Rattle.laws.proofs.Demand3.{laws}
 use Rattle.laws.proofs.Lines.{panel_schedule}
 use Rattle.schedule.proofs.Records.{rises}
-use Rattle.shortest.specs.Search.{first_records, trial_end}
+use Rattle.shortest.specs.Search.{first_records}
 use Rattle.shortest.specs.Tried.{Ahead, KeptFrom}
 use Rattle.shortest.proofs.FirstRecords.{lines_later, lines_first}
 use Rattle.shortest.proofs.Ends.{Sound, sound_first, trial_ends}

@@ -11,11 +11,10 @@ use Rattle.runs.specs.Machine.{Machine, Out, stop, went}
 use Rattle.runs.specs.Laws.{Bytes}
 use Rattle.runs.specs.Lists.{skipping_one, run_answer, AnswersAs}
 use Rattle.runs.specs.declared.Version.TheVariants.{Two}
-use Rattle.runs.specs.TwoRunners.{Ran, RestoreAnswer, end_with, finished, on_out, log_bound, unbroken, restore_answer}
+use Rattle.runs.specs.TwoRunners.{Ran, RestoreAnswer, end_with, on_out, log_bound, unbroken, restore_answer}
 use Rattle.runs.proofs.Cut.{first_stop, unbroken-cut}
 use Rattle.runs.proofs.Iterate.{Reached, reaches}
 use Rattle.runs.proofs.Calls.{fit_run, run_same}
-use Rattle.upd546.specs.declared.Lines.{Lines}
 use Rattle.upd546.specs.declared.Sheet.{Sheet}
 use Rattle.upd546.specs.declared.State.{State}
 use Rattle.upd546.specs.StateImage.{image_length, state_number, version_number, absent_zero}

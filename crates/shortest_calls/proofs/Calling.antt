@@ -2,8 +2,7 @@
 use mathlib.Core.Path.{◌≡◌, ◌∙◌, refl, sym, ap, subst}
 use mathlib.Core.Bool.{Bool, true, false}
 use mathlib.Core.List.{List, ◌++◌}
-use Prim.Native.Nat.{ℕ, zero, suc, ◌<◌, ◌≤◌}
-use native.Mathlib.Omega.{arith}
+use Prim.Native.Nat.{ℕ, suc, ◌<◌, ◌≤◌}
 use lib.Dec.{leb}
 use lib.ListN.{length, drop}
 use borrow.Author.Tests.{le-leb, lt-leb}
@@ -11,7 +10,7 @@ use Rattle.runs.specs.Machine.{Machine}
 use Rattle.runs.specs.TwoRunners.{RestoreAnswer, current_answer}
 use Rattle.upd546.specs.Bytes.{bytes_of}
 use Rattle.shortest.specs.Search.{Found, shortest_answer, LogLeft}
-use Rattle.shortest_calls.specs.Call.{found_length, CallAnswer, on_length, on_restored, image_found, call_answer, LeftBy, ImageLeft, LeftOnLength, Called, FoundIn}
+use Rattle.shortest_calls.specs.Call.{found_length, on_length, on_restored, image_found, call_answer, LeftBy, ImageLeft, LeftOnLength, Called, FoundIn}
 
 module _ {S : Type 0} (M : Machine S) (image rom sched : List ℕ) (n : ℕ) (log : List ℕ) where
   -- by what a restore answers

@@ -1,8 +1,8 @@
 -- Well-formed or not, and what either call answers, case by case. Assumes nothing.
-use mathlib.Core.Path.{◌≡◌, ◌∙◌, refl, sym, ap, subst}
-use mathlib.Core.Bool.{Bool, true, false, not, ◌&&◌, ◌||◌, and-true, or-true}
-use mathlib.Core.List.{List, [], ◌∷◌}
-use Prim.Native.Nat.{ℕ, zero, suc, ◌+◌, ◌*◌, ◌/◌, ◌%◌, ◌<◌, ◌≤◌}
+use mathlib.Core.Path.{◌≡◌, ◌∙◌, refl, sym, ap}
+use mathlib.Core.Bool.{Bool, true, false, not, ◌||◌, and-true}
+use mathlib.Core.List.{List, []}
+use Prim.Native.Nat.{ℕ, zero, suc, ◌+◌, ◌*◌, ◌%◌, ◌<◌, ◌≤◌}
 use native.Mathlib.Nat.{mul-le-mul_left, mul-div-le}
 use native.Mathlib.Omega.{arith}
 use lib.Dec.{eqb, ltb}
@@ -10,17 +10,16 @@ use lib.ListN.{length}
 use borrow.Author.Tests.{eq-eqb, ne_eqb, eqb-true, lt-ltb, le-ltb, ltb-true, ltb-false, not-true}
 use Rattle.runs.specs.declared.Version.TheVariants.{Two}
 use Rattle.runs.specs.Machine.{Machine}
-use Rattle.runs.specs.Refusals.{first_of, unless}
+use Rattle.runs.specs.Refusals.{first_of}
 use Rattle.runs.specs.TwoRunners.{current_number}
-use Rattle.runs.proofs.Refusals.{first_at, first_here, first_past, passes}
-use Rattle.runs.proofs.Calls.{current_fit}
+use Rattle.runs.proofs.Refusals.{first_at, passes}
 use Rattle.upd546.specs.Bytes.{part}
 use Rattle.upd546.specs.Sequences.{all_of, all_below}
 use Rattle.laws.proofs.Lists.{and_left, and_right}
 use Rattle.laws.proofs.Parts.{length_part}
-use Rattle.store.specs.Entries.{name_length, zero_name, legal_name, Entry, place_of, known, distinct, entry_length, capacity, kept, tail_of, image_at, with_entry}
+use Rattle.store.specs.Entries.{name_length, zero_name, legal_name, known, distinct, entry_length, capacity, tail_of, image_at, with_entry}
 use Rattle.store.specs.Entries.{kept_in, accepted, all_accepted, well_formed}
-use Rattle.store.specs.Answers.{StoreAnswer, RecallAnswer, place_in, judged_number, store_number, stored, store_answer, recall_number, recalled, recall_answer}
+use Rattle.store.specs.Answers.{place_in, judged_number, store_number, stored, store_answer, recall_number, recalled, recall_answer}
 use Rattle.store.proofs.Entries.{place_most, kept_most}
 
 module _ {S : Type 0} (M : Machine S) (store : List ℕ) where
@@ -53,15 +52,15 @@ module _ {S : Type 0} (M : Machine S) (store : List ℕ) where
     module _ (legal : M.own_number ≡ 0) where
       pub judged_store : well_formed M store ≡ false → 51 ≡ judged_number M store name
       unfolding judged_number first_of
-      judged_store h = rw (legal, h)
+      judged_store h = rw (h, legal)
 
       pub judged_name : well_formed M store ≡ true → legal_name name ≡ false → 51 ≡ judged_number M store name
       unfolding judged_number first_of
-      judged_name h g = rw (legal, h, g)
+      judged_name h g = rw (h, g, legal)
 
       pub judged_none : well_formed M store ≡ true → legal_name name ≡ true → 0 ≡ judged_number M store name
       unfolding judged_number first_of
-      judged_none h g = rw (legal, h, g)
+      judged_none h g = rw (h, g, legal)
 
     -- WHAT REFUSES A RECALL
     pub recall_judged : (k : ℕ) → judged_number M store name ≡ k → (k ≡ 0 → ⊥) → recall_number M store name ≡ k

@@ -2,7 +2,7 @@
 use mathlib.Core.Path.{◌≡◌, ◌∙◌, refl, sym, ap, subst}
 use mathlib.Core.Bool.{Bool, true, false, cond, not, ◌&&◌}
 use mathlib.Core.List.{List, [], ◌∷◌, ◌++◌}
-use Prim.Native.Nat.{ℕ, zero, suc, ◌+◌, ◌-◌, ◌*◌, ◌/◌, ◌<◌, ◌≤◌}
+use Prim.Native.Nat.{ℕ, zero, suc, ◌+◌, ◌-◌, ◌*◌, ◌<◌, ◌≤◌}
 use native.Mathlib.Nat.{mul-le-mul_left, mul-zero, sub-zero}
 use native.Mathlib.Omega.{arith}
 use lib.Dec.{eqb, ltb}
@@ -15,7 +15,7 @@ use Rattle.upd546.specs.Bytes.{part, number_of, number_at}
 use Rattle.upd546.specs.Sequences.{same_numbers}
 use Rattle.laws.proofs.Parts.{length_part}
 use Rattle.laws.proofs.Tails.{put_more}
-use Rattle.store.specs.Entries.{name_length, zero_name, Entry, entry_bytes, used_of, place_of, known, distinct, entry_length, entries_of, capacity, kept, image_at}
+use Rattle.store.specs.Entries.{name_length, zero_name, Entry, entry_bytes, used_of, place_of, distinct, entry_length, entries_of, capacity, kept, image_at}
 use Rattle.store.specs.Entries.{accepted, all_accepted}
 use Rattle.store.proofs.Names.{compared, part_bytes, zero_compared}
 

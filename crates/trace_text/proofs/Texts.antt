@@ -1,22 +1,13 @@
 -- Which text a run and an input have. Assumes nothing.
-use mathlib.Core.Path.{◌≡◌, ap}
+use mathlib.Core.Path.{◌≡◌}
 use mathlib.Core.List.{List}
 use Prim.Native.Nat.{ℕ, ◌+◌, ◌<◌, ◌≤◌}
 use native.Mathlib.Omega.{arith}
 use lib.ListN.{length, take, drop, replicate}
 use borrow.Author.Tests.{lt-ltb, le-ltb}
-use Rattle.runs.specs.declared.Stop.{Stop}
-use Rattle.runs.specs.declared.Refusal.{Refusal}
-use Rattle.runs.specs.declared.RunEnd.TheVariants.{Finished, Stopped, Refused}
-use Rattle.runs.specs.TwoRunners.{plain}
-use Rattle.runs.specs.TwoRunners as runners
-use Rattle.runs.specs.Numbers.{stop_number, refusal_number, end_of}
-use Rattle.upd546.specs.declared.State.{State}
-use Rattle.upd546.specs.declared.RunAnswer.{RunAnswer}
-use Rattle.upd546.specs.TheMachine.{rom_length, fresh}
+use Rattle.upd546.specs.TheMachine.{rom_length}
 use Rattle.upd546.specs.Bytes.{number_at}
-use Rattle.upd546.specs.TwoRunners.{upd546, answer_of}
-use Rattle.upd546.specs.Reports.{refused_text, report_text, on_end, trace_log, trace_text, run_text}
+use Rattle.upd546.specs.Reports.{refused_text, trace_log, trace_text, run_text}
 use Rattle.text.specs.Writing.{Appended}
 use Rattle.trace_text.specs.Texts.{Traced}
 use Rattle.text.proofs.Writing.{counted}

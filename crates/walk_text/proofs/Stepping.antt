@@ -1,13 +1,9 @@
 -- One cycle of a panel: what it answers is what the definition's cycle comes to. Assumes nothing.
 use mathlib.Core.Path.{◌≡◌, ◌∙◌, refl, sym, ap, subst}
-use mathlib.Core.List.{List, [], ◌∷◌}
-use mathlib.Core.Logic.{⊎_elim}
+use mathlib.Core.List.{List}
 use Prim.Native.Nat.{ℕ, zero, suc, ◌-◌}
 use native.Mathlib.Omega.{arith}
 use lib.ListN.{replicate}
-use types.Run.{OneOf}
-use denote.Enum.Declared.{tag_of}
-use Rattle.runs.specs.contracts.RunEnd.{the_type}
 use Rattle.runs.proofs.Refusals.{refusal-some}
 use Rattle.runs.specs.declared.RunEnd.{RunEnd}
 use Rattle.runs.specs.declared.RunEnd.TheVariants.{Finished, Stopped, Refused}
@@ -45,9 +41,9 @@ stop_some LogFull = λ (z : ◌≡◌ {A = ℕ} 3 0). omega arith
 stop_some RomEnd = λ (z : ◌≡◌ {A = ℕ} 22 0). omega arith
 stop_some NoInstruction = λ (z : ◌≡◌ {A = ℕ} 23 0). omega arith
 
--- the second and the third variant, by their places, have numbers
-end_some : (e : RunEnd) → OneOf (1 ∷ 2 ∷ []) (tag_of the_type e) → end_number e ≡ 0 → ⊥
-end_some Finished h z = ⊎_elim (λ (x : ◌≡◌ {A = ℕ} 0 1). omega arith) (λ (x : ◌≡◌ {A = ℕ} 0 2). omega arith) h
+-- a stop and a refusal have numbers
+end_some : (e : RunEnd) → (e ≡ Finished → ⊥) → end_number e ≡ 0 → ⊥
+end_some Finished h z = h refl
 end_some (Stopped s) h z = stop_some s z
 end_some (Refused r) h z = refusal-some r z
 
@@ -76,7 +72,7 @@ module _ (rom sched : List ℕ) (s : State) where
         go zero x = refl
         go (suc k) x = absurd (omega (arith, x))
 
-    pub not_done : (over : ℕ) (b : List ℕ) {k : ℕ} → OneOf (1 ∷ 2 ∷ []) (tag_of the_type a.end) → k ≡ end_number a.end
+    pub not_done : (over : ℕ) (b : List ℕ) {k : ℕ} → (a.end ≡ Finished → ⊥) → k ≡ end_number a.end
         → Stepped rom sched s over b b (record { number = k; state = a.state; over = over; size = 0 })
     not_done over b h e = record {
       number = e ∙ ended;

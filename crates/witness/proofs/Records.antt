@@ -45,7 +45,7 @@ narrow (reset p z) e = omega arith
 in_order : {first end : ℕ} {log : List ℕ} → Records first end log → end ≤ 256 → (k : ℕ) → 8 * k ≤ length log → InOrder first end (entries_in k log)
 in_order r h zero l = tt
 in_order empty h (suc k) l = absurd (omega arith)
-in_order {end = end} (also {log = log} n w from below v r) h (suc k) l =
+in_order {first = first} {end = end} (also {log = log} n w from below v r) h (suc k) l =
     let low : n / 1 % 256 ≡ n = omega arith in (
       record {
         not_before = omega arith;
@@ -56,7 +56,7 @@ in_order {end = end} (also {log = log} n w from below v r) h (suc k) l =
         value = small v;
         value_of_i = narrow v;
       },
-      subst (λ (c : ℕ). InOrder c end (entries_in k log)) (sym low) (in_order r h k (omega arith)),
+      subst (λ (c : ℕ). InOrder c end (entries_in k log)) (sym low) (in_order {first = n} r h k (omega arith)),
     )
 
 pub figures : LogFigures

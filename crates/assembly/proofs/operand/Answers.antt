@@ -1,0 +1,10 @@
+-- The second word of the statement. Assumes nothing.
+use mathlib.Core.Path.{◌∙◌, sym, ap}
+use Rattle.assembly.specs.Grammar.{Line, first_word, behind}
+use Rattle.assembly.proofs.Parts.{parsed_by}
+use Rattle.assembly.proofs.operand.Goals as goal
+
+pub returns : goal.returns
+returns c =
+    c.first_word.ensures ∙ ap first_word (c.behind.ensures ∙ ap behind c.statement.ensures)
+    ∙ sym (ap (λ (l : Line). l.operand) (parsed_by c.args.line.now))
