@@ -9,7 +9,7 @@ ghost use Rattle.streams.specs.Streams.{IsTurn, moved_by, Filled, IsPart, Wrote,
 
 use std::fmt;
 use std::fmt::{Display, Formatter, InlineText};
-use std::fs::OpenOptions;
+use std::fs::{File, OpenOptions};
 use std::io::{Error, ErrorKind, Read, Write, writer};
 use std::rt::{Env, Runtime};
 
@@ -63,6 +63,11 @@ const EINTR: i32 = 4;
 const REASON_LENGTH: usize = 128;
 
 const CODE_MARK: &str = " (os error ";
+
+// The longest path of a descriptor, and what is read of what Linux tells of one: its first two lines are shorter.
+const PATH_LENGTH: usize = 32;
+
+const INFO_LENGTH: usize = 64;
 
 // No output has so many bytes.
 const MOST_BYTES: u64 = 0x8000_0000_0000_0000;
@@ -213,31 +218,52 @@ pub fn write_number(rt: &impl Print, before: Output, n: u64, after: u8) -> Outpu
     write_first(rt, before, &space, size)
 }
 
-// The descriptor to which the caller wants the last word, the program's first argument, one of 3 to 9, as a path.
-fn word_path(rt: &impl Env) -> Option<&'static str> {
+// The descriptor to which the caller wants the last word: the program's first argument, one of 3 to 9.
+fn word_descriptor(rt: &impl Env) -> Option<u8> {
     let mut word = [0u8; 2];
     let Ok(1) = rt.arg(1, &mut word) else {
         return None;
     };
     match word[0] {
-        b'3' => Some("/proc/self/fd/3"),
-        b'4' => Some("/proc/self/fd/4"),
-        b'5' => Some("/proc/self/fd/5"),
-        b'6' => Some("/proc/self/fd/6"),
-        b'7' => Some("/proc/self/fd/7"),
-        b'8' => Some("/proc/self/fd/8"),
-        b'9' => Some("/proc/self/fd/9"),
+        b'3'..=b'9' => Some(word[0] % 16),
         _ => None,
     }
 }
 
-// Opened anew, a file's place is 0, so the word is put behind what stands there; and where a pipe is opened for reading too, that waits for
-// no reader. Where it can't be opened, there is no last word.
+// Whether a descriptor is open for writing. Linux tells its flags in the second line of a file of its own, as an octal number, whose last
+// digit is 0 where it is open for reading alone.
+fn is_writable(rt: &impl Runtime, descriptor: u8) -> bool {
+    let path = InlineText::<PATH_LENGTH>::of(format_args!("/proc/self/fdinfo/{descriptor}"));
+    let Ok(mut from) = File::open(rt, path.as_str()) else {
+        return false;
+    };
+    let mut info = [0u8; INFO_LENGTH];
+    let _ = fill(&mut from, &mut info);
+    let Ok(text) = str::from_utf8(&info) else {
+        return false;
+    };
+    match text.lines().nth(1) {
+        Some(flags) => !flags.ends_with('0'),
+        None => false,
+    }
+}
+
+// std reaches no descriptor by its number, so it is opened anew, by its path, as it was open: not where that was for reading alone. A file's
+// place is 0 then, so the word is put behind what stands there; and where a pipe is opened for reading too, that waits for no reader.
+// Where it can't be opened, as a socket, there is no last word.
 fn last_word(rt: &impl Runtime, word: &[u8]) {
-    let Some(path) = word_path(rt) else {
+    let Some(descriptor) = word_descriptor(rt) else {
         return;
     };
-    let Ok(mut to) = OpenOptions::new().read(true).append(true).open(rt, path) else {
+    if !is_writable(rt, descriptor) {
+        return;
+    }
+    let path = InlineText::<PATH_LENGTH>::of(format_args!("/proc/self/fd/{descriptor}"));
+    let Ok(mut to) = OpenOptions::new()
+        .read(true)
+        .append(true)
+        .open(rt, path.as_str())
+    else {
         return;
     };
     let _ = put(&mut to, word);
