@@ -10,6 +10,7 @@ ghost use Rattle.runs.specs.Reports.{clocks_per_cycle, clocks_of};
 ghost use Rattle.upd546.specs.TwoRunners.{answer_of};
 ghost use Rattle.upd546.specs.Parts.{with_count, state_of};
 ghost use Rattle.laws.specs.Stops.{StopNumber};
+ghost use Rattle.laws.specs.Valid.{Scalars};
 ghost use Rattle.turns.specs.Either.{Set, run_by};
 
 use runs::{ClockCycles, MachineCycles, RunEnd, Stop};
@@ -27,6 +28,17 @@ fn stop_of(k: u8) -> Stop
         22 => Stop::RomEnd,
         _ => Stop::NoInstruction,
     }
+}
+
+// The core as it is: no register of a run is wider than the chip's. LLVM can't know that, so it doesn't hold four of them in one vector
+// throughout the loop, which would take 13 machine instructions more for each cycle (docs/MEASUREMENTS.md).
+fn within_widths(c: Core) -> Core
+    ensures { Scalars c → result ≡ c }
+{
+    let mut core = c;
+    core.registers.carry = c.registers.carry.min(1);
+    core.registers.dph = c.registers.dph.min(7);
+    core
 }
 
 fn state_of(core: Core, ram: [u8; RAM_WORDS], ports: [u8; LATCHES], count: u8, n: u64) -> State
@@ -110,7 +122,7 @@ pub fn run_loop(
             let r = reset::look(core, &mut ports, log, at, lines, number, limit, before);
             if r.full {
                 let stop = RunEnd::Stopped(Stop::LogFull);
-                let state = state_of(core, ram, ports, before, number);
+                let state = state_of(within_widths(core), ram, ports, before, number);
                 return answer(stop, state, number - start, begun, at, spared);
             }
             core = r.core;
@@ -143,7 +155,7 @@ pub fn run_loop(
                 );
                 if o.stop != 0 {
                     let stop = RunEnd::Stopped(stop_of(o.stop));
-                    let state = state_of(core, ram, ports, before, number);
+                    let state = state_of(within_widths(core), ram, ports, before, number);
                     return answer(stop, state, number - start, begun, at, spared);
                 }
                 core = o.core;
@@ -154,6 +166,6 @@ pub fn run_loop(
         }
         cursor = schedule::moved(sched, cursor, MachineCycles(number - 1));
     }
-    let state = state_of(core, ram, ports, count, number);
+    let state = state_of(within_widths(core), ram, ports, count, number);
     answer(RunEnd::Finished, state, number - start, begun, at, spared)
 }

@@ -466,7 +466,7 @@ pub returns-then-r : goal.returns-then-r
 returns-then-r c =
     rw c.answer.ensures
     (look_full (by_records_2 c) c.loop-number-test.true c.lesser-limit.ensures (not_quiet _ _ c.if-lines-count.true) c.look-r.ensures c.if-r.true
-    c.state_of-state.ensures)
+    (rw (c.within_widths.ensures (by_records_2 c).at.valid.core.scalars) at c.state_of-state.ensures))
 
 -- UP TO THE LIMIT
 pub loop-number-2-init : goal.loop-number-2-init
@@ -515,7 +515,7 @@ answer-requires-then-o-ne0 c =
 pub returns-then-o-ne0 : goal.returns-then-o-ne0
 returns-then-o-ne0 c =
     rw (c.answer-then-o-ne0.ensures, c.stop_of.ensures)
-    (stops (standing_4 c) (ahead_of_3 c) (no_jump_2 c) c.turn-o.ensures (stops_with_lem c) c.state_of-state-then-o-ne0.ensures)
+    (stops (standing_4 c) (ahead_of_3 c) (no_jump_2 c) c.turn-o.ensures (stops_with_lem c) (rw (c.within_widths-then-o-ne0.ensures (standing_4 c).valid.core.scalars) at c.state_of-state-then-o-ne0.ensures))
 
 pub loop-number-2-preserved : goal.loop-number-2-preserved
 loop-number-2-preserved c =
@@ -544,4 +544,5 @@ loop-number-preserved c =
 
 pub returns : goal.returns
 returns c =
-    rw (c.answer-2.ensures, c.state_of-state-2.ensures) (finishes (by_records_4 c).at c.loop-number-test.false)
+    rw (c.answer-2.ensures, c.state_of-state-2.ensures, c.within_widths-2.ensures (by_records_4 c).at.valid.core.scalars)
+    (finishes (by_records_4 c).at c.loop-number-test.false)
