@@ -78,7 +78,7 @@ fn kept_round(
     }
 }
 
-// The same for any count: its parameters are plain or slices of numbers, so whoever calls it needs no walk.
+// The same for any count, with a row by value.
 pub fn round_row(
     start: [Panel; 16],
     count: usize,

@@ -134,7 +134,7 @@ fn serve(
     sheet: Sheet,
 )
     requires { (entry_length * planned.count ≡ length bank.old) × Within planned roms.now schedules.now logs.old }
-    ensures { record { bank = bank.exit.now; logs = logs.new } ≡ in_turn chip sheet roms.now schedules.now logs.old planned (entries_of planned.count bank.entry.now) }
+    ensures { record { bank = bank.new; logs = logs.new } ≡ in_turn chip sheet roms.now schedules.now logs.old planned (entries_of planned.count bank.old) }
 {
     let count = planned.count;
     let mut course = planned;

@@ -73,7 +73,7 @@ pub fn wharfnettle_call(
     rows: u64,
     levels: u64,
 ) -> u8
-    ensures { record { number = result; image = image.exit.now; log = log.new; report = report.new } ≡ board_answer chip (record { image = image.entry.now; rom = rom.entry.now; sched = schedule.now; log = log.old; n = n; runner = runner; report = report.old; sheet = record { rom = rom_bytes; rows = rows; levels = levels } }) }
+    ensures { record { number = result; image = image.new; log = log.new; report = report.new } ≡ board_answer chip (record { image = image.old; rom = rom.now; sched = schedule.now; log = log.old; n = n; runner = runner; report = report.old; sheet = record { rom = rom_bytes; rows = rows; levels = levels } }) }
 {
     if report.len() < REPORT_LENGTH {
         return 1;

@@ -43,7 +43,7 @@ pub fn first_call(
     rows: u64,
     levels: u64,
 ) -> Numbers
-    ensures { FirstCall (record { image = image.entry.now; rom = rom.entry.now; sched = schedule.now; log = log.old; n = n; runner = runner; report = report.old; sheet = record { rom = rom_bytes; rows = rows; levels = levels } }) result.first (record { number = result.second; image = image.exit.now; log = log.new; report = report.new }) }
+    ensures { FirstCall (record { image = image.old; rom = rom.now; sched = schedule.now; log = log.old; n = n; runner = runner; report = report.old; sheet = record { rom = rom_bytes; rows = rows; levels = levels } }) result.first (record { number = result.second; image = image.new; log = log.new; report = report.new }) }
 {
     let first = board::wharfnettle_fresh(image);
     let second = board::wharfnettle_call(
@@ -65,7 +65,7 @@ pub fn two_calls(
     rows: u64,
     levels: u64,
 ) -> Numbers
-    ensures { TwoCalls (record { image = image.entry.now; rom = rom.entry.now; sched = schedule.now; log = log.old; n = n; runner = runner; report = report.old; sheet = record { rom = rom_bytes; rows = rows; levels = levels } }) result.first (record { number = result.second; image = image.exit.now; log = log.new; report = report.new }) }
+    ensures { TwoCalls (record { image = image.old; rom = rom.now; sched = schedule.now; log = log.old; n = n; runner = runner; report = report.old; sheet = record { rom = rom_bytes; rows = rows; levels = levels } }) result.first (record { number = result.second; image = image.new; log = log.new; report = report.new }) }
 {
     let first = board::wharfnettle_call(
         image, rom, schedule, log, n, runner, report, rom_bytes, rows, levels,

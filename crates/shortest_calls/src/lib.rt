@@ -47,7 +47,7 @@ pub fn wharfnettle_shortest(
     rows: u64,
     levels: u64,
 ) -> u8
-    ensures { Called (chip (record { rom = rom_bytes; rows = rows; levels = levels })) image.now rom.entry.now schedule.now n log.old found.old result log.new found.new }
+    ensures { Called (chip (record { rom = rom_bytes; rows = rows; levels = levels })) image.now rom.now schedule.now n log.old found.old result log.new found.new }
 {
     if found.len() < FOUND_LENGTH {
         return 1;

@@ -187,7 +187,7 @@ fn find_room(store: &[u8], name: &[u8], image: &[u8], sheet: Sheet) -> Place
 // A name and an image, over the bytes of an entry.
 fn put_entry(store: &mut [u8], i: usize, name: &[u8], image: &[u8])
     requires { (entry_length chip_image * i + entry_length chip_image ≤ length store.old) × (length name.now ≡ name_length) × (length image.now ≡ chip_image) }
-    ensures { store.new ≡ with_entry chip_image i (record { name = name.entry.now; image = image.now }) store.old }
+    ensures { store.new ≡ with_entry chip_image i (record { name = name.now; image = image.now }) store.old }
 {
     let at = ENTRY_LENGTH * i;
     copying::copy(name, &mut store[at..]);
