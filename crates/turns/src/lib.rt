@@ -16,7 +16,7 @@ ghost use Rattle.turns.specs.Either.{Set, run_by};
 use runs::{ClockCycles, MachineCycles, RunEnd, Stop};
 use schedule::Cursor;
 use tables::{InstructionTable, PositionTable, RegisterTable, RowTable};
-use upd546::{Core, LATCHES, RAM_WORDS, RunAnswer, Sheet, State};
+use upd546::{Core, LAST_MARK, LATCHES, RAM_WORDS, RunAnswer, Sheet, State};
 
 // The stop of a number.
 fn stop_of(k: u8) -> Stop
@@ -30,14 +30,15 @@ fn stop_of(k: u8) -> Stop
     }
 }
 
-// The core as it is: no register of a run is wider than the chip's. LLVM can't know that, so it doesn't hold four of them in one vector
-// throughout the loop, which would take 13 machine instructions more for each cycle (docs/MEASUREMENTS.md).
+// The core as it is: nothing in a run's core is wider than in the chip. LLVM can't know that, so it doesn't hold bytes of the core in
+// vectors throughout the loop, which would take 13 machine instructions more for each cycle (docs/MEASUREMENTS.md).
 fn within_widths(c: Core) -> Core
     ensures { Scalars c → result ≡ c }
 {
     let mut core = c;
-    core.registers.carry = c.registers.carry.min(1);
     core.registers.dph = c.registers.dph.min(7);
+    core.interrupt.level = c.interrupt.level.min(1);
+    core.mark = c.mark.min(LAST_MARK);
     core
 }
 
