@@ -248,9 +248,9 @@ fn is_writable(rt: &impl Runtime, descriptor: u8) -> bool {
     }
 }
 
-// std reaches no descriptor by its number, so it is opened anew, by its path, as it was open: not where that was for reading alone. A file's
-// place is 0 then, so the word is put behind what stands there; and where a pipe is opened for reading too, that waits for no reader.
-// Where it can't be opened, as a socket, there is no last word.
+// std reaches no descriptor by its number, so it is opened anew, by its path, and only where it is open for writing. A file's place is 0
+// then, so the word is put behind what stands there; and where a pipe is opened for reading too, that waits for no reader. Where it can't be
+// opened, as a socket, there is no last word.
 fn last_word(rt: &impl Runtime, word: &[u8]) {
     let Some(descriptor) = word_descriptor(rt) else {
         return;

@@ -31,7 +31,7 @@ fn stop_of(k: u8) -> Stop
 }
 
 // The core as it is: nothing in a run's core is wider than in the chip. LLVM can't know that, so it doesn't hold bytes of the core in
-// vectors throughout the loop, which would take 13 machine instructions more for each cycle (docs/MEASUREMENTS.md).
+// vectors throughout the loop, which would take 15 to 27 machine instructions more for each cycle (docs/MEASUREMENTS.md).
 fn within_widths(c: Core) -> Core
     ensures { Scalars c → result ≡ c }
 {
