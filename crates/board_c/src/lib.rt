@@ -1,5 +1,6 @@
-// The calls of the board's C program, as C finds them: see `board`. It stands
-// apart from the other calls, so that a restore has one place in each object of the archive and is compiled into it.
+// The calls of the board's C program, as C finds them: each hands its arguments on to the function of its name in `board`, whose contract
+// it has. It stands apart from the other calls, so that a restore has one place in each object of the archive and is compiled into it. It
+// may not know how a call goes.
 #![tactic(auto)]
 
 ghost use Rattle.std.specs.Prelude.{◌≡◌};

@@ -1,4 +1,5 @@
 // A copy of bytes into a buffer. The board's archive asks the linker for nothing, and std's `copy_from_slice` would ask for memmove.
+// It may not know what the bytes are for.
 #![tactic(auto)]
 
 ghost use Rattle.std.specs.Prelude.{◌≡◌, ◌≤◌, ◌++◌, length, drop};

@@ -1,5 +1,6 @@
-// The call of the board's C program that finds the shortest schedule, as C finds it: see `shortest_calls`. It stands
-// apart from the other calls, so that a restore has one place in each object of the archive and is compiled into it.
+// The call of the board's C program that finds the shortest schedule, as C finds it: it hands its arguments on to the function of its name
+// in `shortest_calls`, whose contract it has. It stands apart from the other calls, so that a restore has one place in each object of the
+// archive and is compiled into it. It may not know how a call goes.
 #![tactic(auto)]
 
 ghost use Rattle.upd546.specs.TwoRunners.{chip};
