@@ -1,13 +1,11 @@
 -- Document 01, "Numbers, by whose hand": the number of each case of an answer. Assumes nothing: these are definitions.
-use Rattle.std.specs.Prelude.{ℕ, Bool, ◌||◌, eqb}
+use Rattle.std.specs.Prelude.{ℕ, Bool, ◌||◌, Result, Ok, Err, eqb}
 use Rattle.runs.specs.declared.Stop.{Stop}
 use Rattle.runs.specs.declared.Stop.TheVariants.{LogFull, RomEnd, NoInstruction}
 use Rattle.runs.specs.declared.Refusal.{Refusal}
 use Rattle.runs.specs.declared.Refusal.TheVariants.{BufferShort, CycleLimit, ScheduleLength, ScheduleLong, RecordBytes, RecordOrder, RomLength, ImageLength, ImageMark, ImageVersion, Field, StoreMalformed, NameUnknown, StoreFull, ResetCount, Sheet}
 use Rattle.runs.specs.declared.RunEnd.{RunEnd}
 use Rattle.runs.specs.declared.RunEnd.TheVariants.{Finished, Stopped, Refused}
-use Rattle.runs.specs.declared.Outcome.{Outcome}
-use Rattle.runs.specs.declared.Outcome.TheVariants.{Done, Refused as NotDone}
 use Rattle.runs.specs.TwoRunners.{End, finished, stopped, refused}
 
 -- "3 the log lacks the 8 or 16 bytes of the next instruction", or the 8 of a reset's record: "stop 3 covers it" (R-8);
@@ -53,9 +51,10 @@ end_number Finished = 0
 end_number (Stopped s) = stop_number s
 end_number (Refused r) = refusal_number r
 
-abbrev pub outcome_number : Outcome → ℕ
-outcome_number Done = 0
-outcome_number (NotDone r) = refusal_number r
+-- what a check, a save or a restore answers; 0 where nothing refuses it
+abbrev pub outcome_number : Result (Unit {0}) Refusal → ℕ
+outcome_number (Ok u) = 0
+outcome_number (Err r) = refusal_number r
 
 -- How a run ended, as the definitions of the two runners say it.
 abbrev pub end_of : RunEnd → End

@@ -13,88 +13,63 @@ pub struct MachineCycles(pub u64);
 #[derive(Clone, Copy)]
 pub struct ClockCycles(pub u64);
 
-// Why a run stopped before its last cycle.
-#[derive(Clone, Copy)]
+// Why a run stopped before its last cycle, each with its number.
+#[derive(Clone, Copy, PartialEq, Eq)]
 pub enum Stop {
-    LogFull,
-    RomEnd,
-    NoInstruction,
+    LogFull = 3,
+    RomEnd = 22,
+    NoInstruction = 23,
 }
 
 // The versions of an image. Version 1 is for old boards, and lacks the count of cycles with RES high.
-#[derive(Clone, Copy)]
+#[derive(Clone, Copy, PartialEq, Eq)]
 pub enum Version {
     One,
     Two,
 }
 
-// Why a call was refused.
-#[derive(Clone, Copy)]
+// Why a call was refused, each with its number.
+#[derive(Clone, Copy, PartialEq, Eq)]
 pub enum Refusal {
-    BufferShort,
-    CycleLimit,
-    ScheduleLength,
-    ScheduleLong,
-    RecordBytes,
-    RecordOrder,
-    RomLength,
-    ImageLength,
-    ImageMark,
-    ImageVersion,
-    Field,
-    StoreMalformed,
-    NameUnknown,
-    StoreFull,
-    ResetCount,
-    Sheet,
+    BufferShort = 1,
+    CycleLimit = 2,
+    ScheduleLength = 11,
+    ScheduleLong = 12,
+    RecordBytes = 13,
+    RecordOrder = 14,
+    RomLength = 21,
+    ImageLength = 31,
+    ImageMark = 32,
+    ImageVersion = 33,
+    Field = 34,
+    StoreMalformed = 51,
+    NameUnknown = 52,
+    StoreFull = 53,
+    ResetCount = 54,
+    Sheet = 71,
 }
 
 // How a run ended.
-#[derive(Clone, Copy)]
+#[derive(Clone, Copy, PartialEq, Eq)]
 pub enum RunEnd {
     Finished,
     Stopped(Stop),
     Refused(Refusal),
 }
 
-// How a save or a restore ended.
-#[derive(Clone, Copy)]
-pub enum Outcome {
-    Done,
-    Refused(Refusal),
-}
-
+// The number of a stop. It and the three below are functions by name, and no `From`: docs/LIBRARIES.md has callers write them, and 0, which
+// is nobody's number, stands for an end that is neither a stop nor a refusal.
 pub fn stop_number(s: Stop) -> u8
     ensures { result ≡ stop_number s }
 {
-    match s {
-        Stop::LogFull => 3,
-        Stop::RomEnd => 22,
-        Stop::NoInstruction => 23,
-    }
+    s as u8
 }
 
+// The number of a refusal.
 pub fn refusal_number(r: Refusal) -> u8
     ensures { result ≡ refusal_number r }
 {
-    match r {
-        Refusal::BufferShort => 1,
-        Refusal::CycleLimit => 2,
-        Refusal::ScheduleLength => 11,
-        Refusal::ScheduleLong => 12,
-        Refusal::RecordBytes => 13,
-        Refusal::RecordOrder => 14,
-        Refusal::RomLength => 21,
-        Refusal::ImageLength => 31,
-        Refusal::ImageMark => 32,
-        Refusal::ImageVersion => 33,
-        Refusal::Field => 34,
-        Refusal::StoreMalformed => 51,
-        Refusal::NameUnknown => 52,
-        Refusal::StoreFull => 53,
-        Refusal::ResetCount => 54,
-        Refusal::Sheet => 71,
-    }
+    r as u8
 }
 
 // The number that a run answers; 0 where it finished.
@@ -108,12 +83,12 @@ pub fn end_number(e: RunEnd) -> u8
     }
 }
 
-// The number that a save or a restore answers; 0 where it was done.
-pub fn outcome_number(o: Outcome) -> u8
+// The number of a check, a save or a restore; 0 where nothing refuses it.
+pub fn outcome_number(o: Result<(), Refusal>) -> u8
     ensures { result ≡ outcome_number o }
 {
     match o {
-        Outcome::Done => 0,
-        Outcome::Refused(r) => refusal_number(r),
+        Ok(()) => 0,
+        Err(r) => refusal_number(r),
     }
 }

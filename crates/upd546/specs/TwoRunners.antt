@@ -1,11 +1,11 @@
 -- Document 01, "Two runners": where the timer-skipping one jumps, and the chip as the machine that the runners run; with
 -- document 02, R-8 and R-11. Assumes nothing: these are definitions.
-use Rattle.std.specs.Prelude.{ℕ, zero, suc, ◌+◌, ◌-◌, ◌%◌, min, Bool, true, false, cond, not, ◌&&◌, List, [], ◌∷◌, eqb, leb, ltb, length}
+use Rattle.std.specs.Prelude.{ℕ, zero, suc, ◌+◌, ◌-◌, ◌%◌, min, Bool, true, false, cond, not, ◌&&◌, List, [], ◌∷◌, Result, eqb, leb, ltb, length}
 use Rattle.runs.specs.Machine.{Machine}
 use Rattle.runs.specs.Refusals.{first_of, unless}
 use Rattle.runs.specs.TwoRunners as runners
 use Rattle.runs.specs.Numbers.{end_of, outcome_number}
-use Rattle.runs.specs.declared.Outcome.{Outcome}
+use Rattle.runs.specs.declared.Refusal.{Refusal}
 use Rattle.upd546.specs.declared.State.{State}
 use Rattle.upd546.specs.declared.Sheet.{Sheet}
 use Rattle.upd546.specs.declared.RunAnswer.{RunAnswer}
@@ -107,7 +107,7 @@ answer_of a log = record {
 }
 
 -- What a save answers, with the lent buffer as it stands when the save returns, in the terms of the definitions.
-abbrev pub save_of : Outcome → List ℕ → runners.SaveAnswer
+abbrev pub save_of : Result (Unit {0}) Refusal → List ℕ → runners.SaveAnswer
 save_of o buffer = record { number = outcome_number o; buffer = buffer }
 
 -- What a restore answers, in the terms of the definitions.

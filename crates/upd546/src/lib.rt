@@ -8,7 +8,7 @@ ghost use Rattle.std.specs.Prelude.{◌≡◌};
 ghost use Rattle.upd546.specs.TheMachine.{fresh};
 ghost use Rattle.upd546.specs.TheSheet.{upd546_sheet};
 
-use runs::{ClockCycles, MachineCycles, Outcome, RunEnd};
+use runs::{ClockCycles, MachineCycles, Refusal, RunEnd};
 
 // The sizes of the chip, which hold what the largest of its family has. `rom_length`, `ram_length`, `stack_depth` and `latches` are the
 // same numbers; the image's are in `layout`.
@@ -29,7 +29,8 @@ pub const LOG_RECORD: usize = 8;
 // The count at which a cycle with RES high is a reset cycle; no count is above it.
 pub const RESET_COUNT: u8 = 4;
 
-// The mark: the kind of the last instruction begun.
+// The mark: the kind of the last instruction begun. It is a byte and no enum, since a state given as a value may hold any byte, and by
+// the clause of `fields::check` one above `LAST_MARK` is refused with 34.
 pub const MARK_OTHER: u8 = 0;
 
 pub const MARK_LDI: u8 = 1;
@@ -43,7 +44,8 @@ pub const MARK_LI: u8 = 4;
 // No mark is above it.
 pub const LAST_MARK: u8 = MARK_LI;
 
-// Ports, as DPL names them: A to I are 0 to 8. In a record of the log 0 is a reset.
+// Ports, as DPL names them: A to I are 0 to 8. In a record of the log 0 is a reset. They are bytes and no enum, since DPL, which may be
+// any of 16, and a byte of the log are the same number.
 pub const PORT_RESET: u8 = 0;
 
 pub const PORT_C: u8 = 2;
@@ -54,7 +56,8 @@ pub const PORT_E: u8 = 4;
 
 pub const PORT_I: u8 = 8;
 
-// Acc, C, C' and DP. Flags are 0 or 1.
+// Acc, C, C' and DP. Flags are 0 or 1. They are bytes and no bools, since a state given as a value may hold any byte, and by the clause
+// of `fields::check` one above 1 is refused with 34.
 #[derive(Clone, Copy)]
 pub struct Registers {
     pub acc: u8,
@@ -140,10 +143,11 @@ pub struct RunAnswer {
     pub steps: u64,
 }
 
-// What a restore answers: where it is refused, the fresh state. A save answers an `Outcome`.
+// What a restore answers. It is a struct and no `Result<State, Refusal>`, since by the clause of `restore::restore` a refused restore
+// answers the fresh state too.
 #[derive(Clone, Copy)]
 pub struct RestoreAnswer {
-    pub outcome: Outcome,
+    pub outcome: Result<(), Refusal>,
     pub state: State,
 }
 
@@ -195,7 +199,8 @@ pub fn fresh_state() -> State
     }
 }
 
-// A core, field by field: the compiler packs the fields of a struct that is copied whole.
+// A core, field by field: the compiler packs the fields of a struct that is copied whole, and a run is slower then (tried: see
+// docs/MEASUREMENTS.md).
 pub fn copy_core(c: Core) -> Core
     ensures { result ≡ c }
 {
