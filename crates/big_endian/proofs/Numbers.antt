@@ -1,13 +1,15 @@
 -- The number that bytes are, one byte more at a time. Assumes nothing.
 use mathlib.Core.Path.{◌≡◌, ◌∙◌, refl, ap}
-use mathlib.Core.List.{List, [], ◌∷◌, ◌++◌}
-use Prim.Native.Nat.{ℕ, suc, ◌+◌, ◌*◌, ◌^◌, ◌<◌, ◌≤◌}
-use native.Mathlib.Nat.{pow-suc, pow-le-pow_right}
+use mathlib.Core.List.{List, [], ◌∷◌, ◌++◌, append_assoc}
+use Prim.Native.Nat.{ℕ, suc, ◌+◌, ◌-◌, ◌*◌, ◌/◌, ◌%◌, ◌^◌, ◌<◌, ◌≤◌}
+use native.Mathlib.Nat.{pow-suc, pow-le-pow_right, div-div-eq-div-mul}
 use native.Mathlib.Numerals.{add-one}
 use native.Mathlib.Omega.{arith}
-use lib.ListN.{length, get_or, drop, length-drop}
+use lib.ListN.{length, get_or, set, take, drop, length-drop}
 use lib.Seq.{take-suc, get_or-drop}
-use Rattle.upd546.specs.Bytes.{number_from, part, number_at}
+use Rattle.std.proofs.Common.{length-take-le}
+use Rattle.std.proofs.Math.Seq.{set-append_seam}
+use Rattle.upd546.specs.Bytes.{number_from, part, number_at, bytes_of}
 
 from_snoc : (n : ℕ) (l : List ℕ) (b : ℕ) → number_from n (l ++ (b ∷ [])) ≡ number_from n l * 256 + b
 from_snoc n [] b = refl
@@ -32,3 +34,19 @@ number_fits i x h k =
     let seven : i ≤ 7 = omega arith in
     let most : 256 ^ i ≤ 256 ^ 7 = pow-le-pow_right some seven in
     omega (arith, most)
+
+-- what is left of a number without one byte more
+pub rest_next : (n k : ℕ) {rest : ℕ} → rest ≡ n / 256 ^ k → rest / 256 ≡ n / 256 ^ (k + 1)
+rest_next n k e = rw (e, add-one k, pow-suc 256 k, div-div-eq-div-mul n (256 ^ k) 256)
+
+-- one byte more, before those that are put
+pub put_next : (N k n : ℕ) (old : List ℕ) {bytes : List ℕ} {rest : ℕ} → k < N → N ≤ length old → rest ≡ n / 256 ^ k
+    → bytes ≡ take (N - k) old ++ bytes_of k n ++ drop N old
+    → set bytes (N - 1 - k) (rest % 256) ≡ take (N - (k + 1)) old ++ bytes_of (k + 1) n ++ drop N old
+put_next N k n old h f r e =
+    let m = N - 1 - k in
+    let one_more : N - k ≡ suc m = omega arith in
+    let one_less : N - (k + 1) ≡ m = omega arith in
+    let here : length (take m old) ≡ m = length-take-le m old (omega arith) in
+    let at_seam = rw here at (set-append_seam (take m old) (get_or old m 0) (bytes_of k n ++ drop N old) (n / 256 ^ k % 256)) in
+    rw (e, r, one_more, one_less, add-one k, take-suc old m 0 (omega arith)) (simp append_assoc at_seam)

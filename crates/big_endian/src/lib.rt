@@ -10,38 +10,20 @@ pub fn number_at(bytes: &[u8], at: usize, count: usize) -> u64
     ensures { (result ≡ number_at bytes.now at count) × (result < 256 ^ count) }
 {
     let mut number: u64 = 0;
-    let mut i = 0;
-    while i < count {
+    for i in 0..count {
         number = 256 * number + bytes[at + i] as u64;
-        i += 1;
     }
     number
 }
 
-// The low six bytes of a number, at the front of what is lent.
-pub fn put_six(bytes: &mut [u8], n: u64)
-    requires { 6 ≤ length bytes.old }
-    ensures { bytes.new ≡ bytes_of 6 n ++ drop 6 bytes.old }
+// The low N bytes of a number, at the front of what is lent.
+pub fn put_number<const N: usize>(bytes: &mut [u8], n: u64)
+    requires { N ≤ length bytes.old }
+    ensures { bytes.new ≡ bytes_of N n ++ drop N bytes.old }
 {
-    bytes[0] = (n / 1099511627776 % 256) as u8;
-    bytes[1] = (n / 4294967296 % 256) as u8;
-    bytes[2] = (n / 16777216 % 256) as u8;
-    bytes[3] = (n / 65536 % 256) as u8;
-    bytes[4] = (n / 256 % 256) as u8;
-    bytes[5] = (n % 256) as u8;
-}
-
-// The eight bytes of a number, at the front of what is lent.
-pub fn put_eight(bytes: &mut [u8], n: u64)
-    requires { 8 ≤ length bytes.old }
-    ensures { bytes.new ≡ bytes_of 8 n ++ drop 8 bytes.old }
-{
-    bytes[0] = (n / 72057594037927936 % 256) as u8;
-    bytes[1] = (n / 281474976710656 % 256) as u8;
-    bytes[2] = (n / 1099511627776 % 256) as u8;
-    bytes[3] = (n / 4294967296 % 256) as u8;
-    bytes[4] = (n / 16777216 % 256) as u8;
-    bytes[5] = (n / 65536 % 256) as u8;
-    bytes[6] = (n / 256 % 256) as u8;
-    bytes[7] = (n % 256) as u8;
+    let mut rest = n;
+    for k in 0..N {
+        bytes[N - 1 - k] = (rest % 256) as u8;
+        rest /= 256;
+    }
 }

@@ -1,13 +1,11 @@
 -- The numbers that refuse an image, in their order. Assumes nothing.
-use mathlib.Core.Path.{◌≡◌, ◌∙◌, refl, sym}
+use mathlib.Core.Path.{◌≡◌, refl}
 use mathlib.Core.Bool.{Bool, true, false, ◌&&◌}
 use mathlib.Core.List.{List, [], ◌∷◌}
-use Prim.Native.Nat.{ℕ, zero, suc, ◌+◌, ◌-◌, ◌≤◌, ◌<◌}
-use native.Mathlib.Numerals.{add-one}
+use Prim.Native.Nat.{ℕ, zero, suc, ◌≤◌, ◌<◌}
 use native.Mathlib.Omega.{arith}
 use lib.Dec.{eqb, ltb}
-use lib.ListN.{length, get_or, drop, drop_of_length-le}
-use lib.Seq.{drop-cons}
+use lib.ListN.{length}
 use borrow.Author.Tests.{eq-eqb, ne_eqb, eqb-true, lt-ltb, le-ltb}
 use Rattle.runs.specs.declared.Version.{Version}
 use Rattle.runs.specs.declared.Version.TheVariants.{One, Two}
@@ -21,7 +19,6 @@ use Rattle.upd546.specs.Sequences.{same_numbers}
 use Rattle.upd546.specs.Bytes.{part}
 use Rattle.upd546.specs.StateImage.{image_length, image_mark, version_bytes, version_of, byte, of_image, state_sound, state_number, fields_number, image_number}
 use Rattle.upd546.specs.TwoRunners.{chip}
-use Rattle.laws.proofs.Parts.{part_cons}
 use Rattle.restore.specs.Head.{head_number}
 
 -- the version that the length tells
@@ -68,27 +65,6 @@ head_length image e =
     let v = version_of image in
     at_least v (length image)
     (eqb-true (length image) (image_length v) (passes (eqb (length image) (image_length v)) 31 refl (first_at _ e 0)))
-
--- THE LOOP that compares bytes with those expected, at the byte i
-module _ (bytes expected : List ℕ) (at i : ℕ) (fits : at + length expected ≤ length bytes) (more : i < length expected) where
-  one_step : same_numbers (part bytes (at + i) (length expected - i)) (drop i expected)
-      ≡ (eqb (byte bytes (at + i)) (get_or expected i 0) && same_numbers (part bytes (at + (i + 1)) (length expected - (i + 1))) (drop (i + 1) expected))
-  one_step =
-      let left : length expected - i ≡ suc (length expected - (i + 1)) = omega arith in
-      let place : at + i + 1 ≡ at + (i + 1) = omega arith in
-      rw (left, part_cons bytes (at + i) (length expected - (i + 1)) (omega arith), drop-cons expected i 0 more, place, add-one i)
-
-  pub compared_more : byte bytes (at + i) ≡ get_or expected i 0
-      → same_numbers (part bytes (at + (i + 1)) (length expected - (i + 1))) (drop (i + 1) expected) ≡ same_numbers (part bytes (at + i) (length expected - i)) (drop i expected)
-  compared_more e = sym (one_step ∙ rw (eq-eqb (byte bytes (at + i)) (get_or expected i 0) e))
-
-  pub compared_other : (byte bytes (at + i) ≡ get_or expected i 0 → ⊥) → same_numbers (part bytes (at + i) (length expected - i)) (drop i expected) ≡ false
-  compared_other e = one_step ∙ rw (ne_eqb (byte bytes (at + i)) (get_or expected i 0) e)
-
-pub compared_all : (bytes expected : List ℕ) (at i : ℕ) → length expected ≤ i → same_numbers (part bytes (at + i) (length expected - i)) (drop i expected) ≡ true
-compared_all bytes expected at i h =
-    let none : length expected - i ≡ 0 = omega arith in
-    rw (none, drop_of_length-le expected h)
 
 -- WHAT A RESTORE ANSWERS
 module _ (sheet : Sheet) (image : List ℕ) where

@@ -1,7 +1,7 @@
 // RESTORE: the state that the bytes of an image are, or why not. It may not know how an image is written, nor how a run goes.
 #![tactic(auto)]
 
-ghost use Rattle.std.specs.Prelude.{◌≡◌, ◌+◌, ◌≤◌, length};
+ghost use Rattle.std.specs.Prelude.{◌≡◌, Err, ◌+◌, ◌≤◌, length};
 ghost use Rattle.runs.specs.declared.Version.TheVariants.{One};
 ghost use Rattle.runs.specs.Numbers.{outcome_number};
 ghost use Rattle.runs.specs.TwoRunners.{restore_answer, current_answer};
@@ -12,7 +12,7 @@ ghost use Rattle.upd546.specs.StateImage.{image_length, ports_at, ram_at, ram_by
 ghost use Rattle.upd546.specs.TwoRunners.{chip, restore_of};
 ghost use Rattle.restore.specs.Head.{core_of, head_number};
 
-use runs::{MachineCycles, Outcome, Refusal, Version};
+use runs::{MachineCycles, Refusal, Version};
 use upd546::layout::{
     ACC_AT, COUNT_AT, COUNTER_AT, CYCLE_AT, DP_AT, FLAGS_AT, IMAGE_LENGTH, IMAGE_MARK,
     IMAGE_MARK_AT, MARK_AT, OWED_AT, PC_AT, PORTS_AT, RAM_AT, RAM_BYTES, REGISTER_AT, STACK_AT,
@@ -26,26 +26,21 @@ use upd546::{
 // Flags are 6 bits.
 const FLAGS: u8 = 64;
 
-// The entries of the stack behind the newest.
+// The older entries of the stack.
 const SECOND_AT: usize = STACK_AT + WORD_BYTES;
 
 const OLDEST_AT: usize = SECOND_AT + WORD_BYTES;
 
-// Whether the bytes from a place on begin with those expected.
+// Whether the bytes from a place on begin with those expected. It stands apart, since `head_check` would be no plainer with two cuts
+// and two comparisons in it.
 fn stands_at(bytes: &[u8], at: usize, expected: &[u8]) -> bool
     requires { at + length expected.now ≤ length bytes.now }
     ensures { result ≡ same_numbers (part bytes.now at (length expected.now)) expected.now }
 {
-    let mut i = 0;
-    while i < expected.len() {
-        if bytes[at + i] != expected[i] {
-            return false;
-        }
-        i += 1;
-    }
-    true
+    &bytes[at..at + expected.len()] == expected
 }
 
+// Two bytes as a word. `u16::from_be_bytes` takes an array, so that each cut would need `try_into` and `unwrap`: no plainer.
 fn word_at(bytes: &[u8], at: usize) -> u16
     requires { at + 2 ≤ length bytes.now }
     ensures { result ≡ number_at bytes.now at 2 }
@@ -53,6 +48,8 @@ fn word_at(bytes: &[u8], at: usize) -> u16
     big_endian::number_at(bytes, at, WORD_BYTES) as u16
 }
 
+// The parts ask for the bytes that version 1 has, by a clause each. An array of these in place of the slice would be no plainer, since
+// `of_image` reads the image whole.
 fn core_at(bytes: &[u8]) -> Core
     requires { image_length One ≤ length bytes.now }
     ensures { result ≡ core_of bytes.now }
@@ -94,15 +91,7 @@ fn ports_at(bytes: &[u8]) -> [u8; LATCHES]
     requires { image_length One ≤ length bytes.now }
     ensures { result ≡ part bytes.now ports_at latches }
 {
-    [
-        bytes[PORTS_AT],
-        bytes[PORTS_AT + 1],
-        bytes[PORTS_AT + 2],
-        bytes[PORTS_AT + 3],
-        bytes[PORTS_AT + 4],
-        bytes[PORTS_AT + 5],
-        bytes[PORTS_AT + 6],
-    ]
+    bytes[PORTS_AT..RAM_AT].try_into().unwrap()
 }
 
 fn ram_at(bytes: &[u8]) -> [u8; RAM_WORDS]
@@ -110,12 +99,11 @@ fn ram_at(bytes: &[u8]) -> [u8; RAM_WORDS]
     ensures { result ≡ unpacked (part bytes.now ram_at ram_bytes) }
 {
     let mut words = [0; RAM_WORDS];
-    let mut i = 0;
-    while i < RAM_BYTES {
+    // By index: a `zip` would need the words as `as_chunks_mut::<2>`, with a rest beside them that is always empty, which is no plainer.
+    for i in 0..RAM_BYTES {
         let byte = bytes[RAM_AT + i];
         words[2 * i] = byte / 16;
         words[2 * i + 1] = byte % 16;
-        i += 1;
     }
     words
 }
@@ -124,10 +112,7 @@ fn ram_at(bytes: &[u8]) -> [u8; RAM_WORDS]
 fn count_at(bytes: &[u8]) -> u8
     ensures { result ≡ byte bytes.now count_at }
 {
-    if bytes.len() <= COUNT_AT {
-        return 0;
-    }
-    bytes[COUNT_AT]
+    bytes.get(COUNT_AT).copied().unwrap_or(0)
 }
 
 fn state_at(bytes: &[u8]) -> State
@@ -154,53 +139,50 @@ fn version_of(bytes: &[u8]) -> Version
 }
 
 // 31, 32, 33, and 34 of the flags, which have 6 bits.
-fn head_check(bytes: &[u8]) -> Outcome
+fn head_check(bytes: &[u8]) -> Result<(), Refusal>
     ensures { outcome_number result ≡ head_number bytes.now }
 {
     let version = version_of(bytes);
     if bytes.len() != layout::image_length(version) {
-        return Outcome::Refused(Refusal::ImageLength);
+        return Err(Refusal::ImageLength);
     }
     if !stands_at(bytes, IMAGE_MARK_AT, &IMAGE_MARK) {
-        return Outcome::Refused(Refusal::ImageMark);
+        return Err(Refusal::ImageMark);
     }
     if !stands_at(bytes, VERSION_AT, &layout::version_bytes(version)) {
-        return Outcome::Refused(Refusal::ImageVersion);
+        return Err(Refusal::ImageVersion);
     }
     if FLAGS <= bytes[FLAGS_AT] {
-        return Outcome::Refused(Refusal::Field);
+        return Err(Refusal::Field);
     }
-    Outcome::Done
+    Ok(())
 }
 
-fn refused(why: Outcome) -> RestoreAnswer
-    ensures { result ≡ record { outcome = why; state = fresh } }
+fn refused(why: Refusal) -> RestoreAnswer
+    ensures { result ≡ record { outcome = Err why; state = fresh } }
 {
     RestoreAnswer {
-        outcome: why,
+        outcome: Err(why),
         state: upd546::fresh_state(),
     }
 }
 
-// RESTORE: 71, then 31 to 34 in order; where it is refused, the fresh state.
+// RESTORE: 71, then 31 to 34 in order; if it is refused, the fresh state.
 pub fn restore(bytes: &[u8], sheet: Sheet) -> RestoreAnswer
     ensures { restore_of result ≡ restore_answer (chip sheet) bytes.now }
 {
-    let by_sheet = fields::check_sheet(sheet);
-    if runs::outcome_number(by_sheet) != 0 {
-        return refused(by_sheet);
+    if let Err(why) = fields::check_sheet(sheet) {
+        return refused(why);
     }
-    let by_head = head_check(bytes);
-    if runs::outcome_number(by_head) != 0 {
-        return refused(by_head);
+    if let Err(why) = head_check(bytes) {
+        return refused(why);
     }
     let state = state_at(bytes);
-    let by_fields = fields::check(state, sheet);
-    if runs::outcome_number(by_fields) != 0 {
-        return refused(by_fields);
+    if let Err(why) = fields::check(state, sheet) {
+        return refused(why);
     }
     RestoreAnswer {
-        outcome: Outcome::Done,
+        outcome: Ok(()),
         state,
     }
 }
@@ -209,12 +191,11 @@ pub fn restore(bytes: &[u8], sheet: Sheet) -> RestoreAnswer
 pub fn restore_current(bytes: &[u8], sheet: Sheet) -> RestoreAnswer
     ensures { restore_of result ≡ current_answer (chip sheet) bytes.now }
 {
-    let by_sheet = fields::check_sheet(sheet);
-    if runs::outcome_number(by_sheet) != 0 {
-        return refused(by_sheet);
+    if let Err(why) = fields::check_sheet(sheet) {
+        return refused(why);
     }
     if bytes.len() != IMAGE_LENGTH {
-        return refused(Outcome::Refused(Refusal::ImageLength));
+        return refused(Refusal::ImageLength);
     }
     restore(bytes, sheet)
 }

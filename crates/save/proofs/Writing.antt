@@ -2,7 +2,8 @@
 use mathlib.Core.Path.{◌≡◌, ◌∙◌, refl, sym, ap}
 use mathlib.Core.Bool.{true, false}
 use mathlib.Core.List.{List, [], ◌∷◌, ◌++◌, append-nil}
-use Prim.Native.Nat.{ℕ, zero, suc, ◌+◌, ◌*◌, ◌≤◌, ◌<◌}
+use Prim.Native.Nat.{ℕ, zero, suc, ◌+◌, ◌*◌, ◌/◌, ◌%◌, ◌≤◌, ◌<◌}
+use native.Mathlib.Nat.{div-one}
 use native.Mathlib.Omega.{arith}
 use lib.ListN.{length, take, drop, length-append}
 use Rattle.runs.specs.declared.Version.{Version}
@@ -25,6 +26,10 @@ use borrow.Author.Tests.{le-leb, lt-leb}
 -- b' is b with the bytes x from a place on
 abbrev pub Put : List ℕ → ℕ → List ℕ → List ℕ → Type 0
 Put b a x b' = b' ≡ take a b ++ x ++ drop (a + length x) b
+
+-- std's bytes of a word are those of the definition
+pub word_written : (w : ℕ) {x : List ℕ} → x ≡ (w / 256 % 256) ∷ (w % 256) ∷ [] → x ≡ bytes_of 2 w
+word_written w e = e ∙ rw (div-one w)
 
 stack_length : (c : Core) → ValidCore c → length (words_bytes c.flow.stack) ≡ 6
 stack_length c v = words_length c.flow.stack ∙ ap (λ (k : ℕ). 2 * k) v.stack.depth

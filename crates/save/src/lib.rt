@@ -10,12 +10,12 @@ ghost use Rattle.upd546.specs.TwoRunners.{chip, save_of};
 ghost use Rattle.laws.specs.Valid.{Scalars, ValidCore, ValidRam, Valid};
 ghost use Rattle.save.specs.Parts.{front_bytes, common_bytes, holds};
 
-use runs::{Outcome, Refusal, Version};
+use runs::{Refusal, Version};
 use upd546::layout::{
     CORE_AT, COUNT_AT, CYCLE_AT, IMAGE_MARK, IMAGE_MARK_AT, PC_AT, PORTS_AT, RAM_AT, RAM_BYTES,
     STACK_AT, VERSION_AT,
 };
-use upd546::{Core, RAM_WORDS, STACK_DEPTH, Sheet, State, layout};
+use upd546::{CYCLE_BYTES, Core, RAM_WORDS, STACK_DEPTH, Sheet, State, layout};
 
 // Whether an image of this version can hold this count.
 fn can_hold(version: Version, count: u8) -> bool
@@ -27,7 +27,7 @@ fn can_hold(version: Version, count: u8) -> bool
     }
 }
 
-// Copies a part into a buffer, from a place on.
+// Copies a part into a buffer, from a place on: eight calls below, each of which would be longer by the cut.
 fn put(buffer: &mut [u8], at: usize, bytes: &[u8])
     requires { at + length bytes.now ≤ length buffer.old }
     ensures { buffer.new ≡ take at buffer.old ++ bytes.now ++ drop (at + length bytes.now) buffer.old }
@@ -35,18 +35,12 @@ fn put(buffer: &mut [u8], at: usize, bytes: &[u8])
     copying::copy(bytes, &mut buffer[at..]);
 }
 
-fn word_bytes(w: u16) -> [u8; 2]
-    ensures { result ≡ bytes_of 2 w }
-{
-    [(w / 256) as u8, (w % 256) as u8]
-}
-
 fn stack_bytes(stack: [u16; STACK_DEPTH]) -> [u8; 6]
     ensures { result ≡ words_bytes stack }
 {
-    let first = word_bytes(stack[0]);
-    let second = word_bytes(stack[1]);
-    let third = word_bytes(stack[2]);
+    let first = stack[0].to_be_bytes();
+    let second = stack[1].to_be_bytes();
+    let third = stack[2].to_be_bytes();
     [first[0], first[1], second[0], second[1], third[0], third[1]]
 }
 
@@ -74,10 +68,9 @@ fn ram_bytes(words: [u8; RAM_WORDS]) -> [u8; RAM_BYTES]
     ensures { result ≡ packed words }
 {
     let mut bytes = [0; RAM_BYTES];
-    let mut i = 0;
-    while i < RAM_BYTES {
+    // By index: a `zip` would need the words as `as_chunks::<2>`, with a rest beside them that is always empty, which is no plainer.
+    for i in 0..RAM_BYTES {
         bytes[i] = 16 * words[2 * i] + words[2 * i + 1];
-        i += 1;
     }
     bytes
 }
@@ -90,7 +83,7 @@ fn write_core(c: Core, version: Version, buffer: &mut [u8])
     let stack = c.flow.stack;
     put(buffer, IMAGE_MARK_AT, &IMAGE_MARK);
     put(buffer, VERSION_AT, &layout::version_bytes(version));
-    put(buffer, PC_AT, &word_bytes(c.flow.pc));
+    put(buffer, PC_AT, &c.flow.pc.to_be_bytes());
     put(buffer, STACK_AT, &stack_bytes(stack));
     put(buffer, CORE_AT, &core_bytes(c));
 }
@@ -105,7 +98,7 @@ fn write_common(s: State, version: Version, buffer: &mut [u8])
     write_core(s.core, version, buffer);
     put(buffer, PORTS_AT, &ports);
     put(buffer, RAM_AT, &ram_bytes(words));
-    big_endian::put_six(&mut buffer[CYCLE_AT..], s.cycle.0);
+    big_endian::put_number::<CYCLE_BYTES>(&mut buffer[CYCLE_AT..], s.cycle.0);
 }
 
 // The image of a state that isn't refused, at the front of a buffer.
@@ -119,7 +112,7 @@ fn write(s: State, version: Version, buffer: &mut [u8])
     }
 }
 
-// The same state, copied part by part: a copy of the whole asks the linker for memcpy.
+// The same state, copied part by part: a copy of the whole asks the linker for memcpy, which the board's archive may not.
 fn copied(s: State) -> State
     ensures { result ≡ s }
 {
@@ -137,24 +130,18 @@ fn copied(s: State) -> State
 }
 
 // SAVE, as the version wanted: 71, then 34, then 54, then 1, and then the bytes of the image only.
-pub fn save(s: State, version: Version, buffer: &mut [u8], sheet: Sheet) -> Outcome
+pub fn save(s: State, version: Version, buffer: &mut [u8], sheet: Sheet) -> Result<(), Refusal>
     ensures { save_of result buffer.new ≡ save_answer (chip sheet) version s buffer.old }
 {
-    let by_sheet = fields::check_sheet(sheet);
-    if runs::outcome_number(by_sheet) != 0 {
-        return by_sheet;
-    }
+    fields::check_sheet(sheet)?;
     let given = copied(s);
-    let by_fields = fields::check(given, sheet);
-    if runs::outcome_number(by_fields) != 0 {
-        return by_fields;
-    }
+    fields::check(given, sheet)?;
     if !can_hold(version, s.count) {
-        return Outcome::Refused(Refusal::ResetCount);
+        return Err(Refusal::ResetCount);
     }
     if buffer.len() < layout::image_length(version) {
-        return Outcome::Refused(Refusal::BufferShort);
+        return Err(Refusal::BufferShort);
     }
     write(s, version, buffer);
-    Outcome::Done
+    Ok(())
 }

@@ -3,13 +3,13 @@
 #![tactic(auto)]
 
 ghost use Rattle.std.specs.Prelude.{◌≡◌, ◌+◌, ◌*◌, ◌/◌, ◌<◌, ◌≤◌, ◌^◌, ◌&&◌, eqb, leb};
-ghost use Rattle.runs.specs.Numbers.{outcome_number};
+ghost use Rattle.runs.specs.Numbers.{outcome_number, refusal_number};
 ghost use Rattle.runs.specs.Refusals.{cycle_limit};
 ghost use Rattle.upd546.specs.TheLineSchedule.{record_length, record_count, record_byte, record_cycle, record_lines, record_number, schedule_number};
 ghost use Rattle.schedule.specs.Checked.{last_cycle, FirstRefused};
 ghost use Rattle.schedule.specs.Cursor.{next_cycle, lines_after, Counted, Stands};
 
-use runs::{MachineCycles, Outcome, Refusal};
+use runs::{MachineCycles, Refusal};
 use upd546::{CYCLE_BYTES, Lines};
 
 // A record's bytes: 0 to 5 the cycle, 6 ports A and B, 7 ports C and D, 8 the INT level, 9 RES.
@@ -18,20 +18,22 @@ const RECORD_LENGTH: usize = 10;
 // 4,096 records.
 const MAX_LENGTH: usize = 40960;
 
-// u64's largest number; six bytes are below it.
-const NO_CYCLE: u64 = 18446744073709551615;
+// No cycle: six bytes are below it. A number, and no Option: `next_cycle` and `Stands` (specs/Cursor.antt), on which the proofs of
+// turns rest, have it as one, and a run takes the lesser of it and its end at each turn.
+const NO_CYCLE: u64 = u64::MAX;
 
 // Where a run stands in its schedule at a cycle.
 #[derive(Clone, Copy)]
 pub struct Cursor {
     // The number of records at or before the cycle.
     pub index: usize,
-    // The cycle of record `index`, or `NO_CYCLE` where there is none.
+    // The cycle of record `index`, or `NO_CYCLE` if there is none.
     pub next: u64,
     pub lines: Lines,
 }
 
-// Byte k of record i.
+// Byte k of record i. A record is named by its schedule and its number, and is no type of its own: the definitions (`record_byte`,
+// `record_cycle`, ..) speak of those two, and would be needed a second time for a record apart.
 fn byte_at(sched: &[u8], i: usize, k: usize) -> u8
     requires { (i < record_count sched.now) × (k < record_length) }
     ensures { result ≡ record_byte sched.now i k }
@@ -61,8 +63,8 @@ fn lines_at(sched: &[u8], i: usize) -> Lines
         b: ab % 16,
         c: cd / 16,
         d: cd % 16,
-        int: int,
-        res: res,
+        int,
+        res,
     }
 }
 
@@ -101,10 +103,7 @@ fn accepts(sched: &[u8], i: usize, head: u64, last: u64) -> bool
     if i == 0 {
         return true;
     }
-    if head <= last {
-        return false;
-    }
-    true
+    head > last
 }
 
 // The number of records before the first that is refused.
@@ -113,47 +112,47 @@ fn accepted(sched: &[u8]) -> usize
 {
     let count = sched.len() / RECORD_LENGTH;
     let mut last: u64 = 65535;
-    let mut i = 0;
-    while i < count {
+    for i in 0..count {
         let head = head_at(sched, i);
         if !accepts(sched, i, head, last) {
             return i;
         }
         last = head / 65536 * 65536 + 65535;
-        i += 1;
     }
-    i
+    count
 }
 
 // Why record i is refused.
-fn refusal_at(sched: &[u8], i: usize) -> Outcome
+fn refusal_at(sched: &[u8], i: usize) -> Refusal
     requires { (i < record_count sched.now) × (record_number sched.now i ≡ 0 → ⊥) }
-    ensures { outcome_number result ≡ record_number sched.now i }
+    ensures { refusal_number result ≡ record_number sched.now i }
 {
     if levels_sound(sched, i) {
-        return Outcome::Refused(Refusal::RecordOrder);
+        return Refusal::RecordOrder;
     }
-    Outcome::Refused(Refusal::RecordBytes)
+    Refusal::RecordBytes
 }
 
 // Whether a schedule is accepted, and if not, why.
-pub fn check(sched: &[u8]) -> Outcome
+pub fn check(sched: &[u8]) -> Result<(), Refusal>
     ensures { outcome_number result ≡ schedule_number sched.now }
 {
     if MAX_LENGTH < sched.len() {
-        return Outcome::Refused(Refusal::ScheduleLong);
+        return Err(Refusal::ScheduleLong);
     }
     if sched.len() % RECORD_LENGTH != 0 {
-        return Outcome::Refused(Refusal::ScheduleLength);
+        return Err(Refusal::ScheduleLength);
     }
     let i = accepted(sched);
     if i < sched.len() / RECORD_LENGTH {
-        return refusal_at(sched, i);
+        return Err(refusal_at(sched, i));
     }
-    Outcome::Done
+    Ok(())
 }
 
-// The number of records at or before cycle n, by halves: all before `low` are, and that at `high`, if there is one, isn't.
+// The number of records at or before cycle n, by halves: all before `low` are, and that at `high`, if there is one, isn't. std's
+// methods would be no plainer: `binary_search_by` answers one of two places, and `partition_point` needs the records as chunks, a
+// closure with a clause of its own, and the order shown once more of chunks (`IsPartitionedBy`), where `rises` has it of the bytes.
 fn records_until(sched: &[u8], n: u64) -> usize
     requires { schedule_number sched.now ≡ 0 }
     ensures { Counted sched.now n result }
@@ -171,7 +170,7 @@ fn records_until(sched: &[u8], n: u64) -> usize
     low
 }
 
-// The cycle of record i, or `NO_CYCLE` where there is none.
+// The cycle of record i, or `NO_CYCLE` if there is none.
 fn next_at(sched: &[u8], i: usize) -> u64
     ensures { result ≡ next_cycle sched.now i }
 {
@@ -201,7 +200,8 @@ fn lines_after(sched: &[u8], taken: usize) -> Lines
     }
 }
 
-// The cursor at cycle n.
+// The cursor at cycle n. It and `moved` take a schedule's bytes and ask that `check` accepts them, which is no type of its own: the
+// theorems of witness, and runner's refusals (`panel_number`), speak of those bytes by `schedule_number`, and so would say both.
 pub fn start(sched: &[u8], n: MachineCycles) -> Cursor
     requires { schedule_number sched.now ≡ 0 }
     ensures { Stands sched.now n.0 result }
@@ -213,7 +213,7 @@ pub fn start(sched: &[u8], n: MachineCycles) -> Cursor
 }
 
 // The cursor one cycle on. Cycles rise, so at most one record falls on it.
-// Structs are made field by field, so that the optimiser keeps the fields apart.
+// Structs are made field by field, so that the optimiser keeps the fields apart: a run is slower if they are copied whole.
 pub fn moved(sched: &[u8], cursor: Cursor, n: MachineCycles) -> Cursor
     requires { (schedule_number sched.now ≡ 0) × Stands sched.now n.0 cursor × (n.0 < cycle_limit) }
     ensures { Stands sched.now (n.0 + 1) result }
@@ -221,7 +221,7 @@ pub fn moved(sched: &[u8], cursor: Cursor, n: MachineCycles) -> Cursor
     let index = cursor.index;
     if n.0 + 1 < cursor.next {
         return Cursor {
-            index: index,
+            index,
             next: cursor.next,
             lines: Lines {
                 a: cursor.lines.a,
@@ -237,7 +237,7 @@ pub fn moved(sched: &[u8], cursor: Cursor, n: MachineCycles) -> Cursor
     let lines = lines_at(sched, index);
     Cursor {
         index: index + 1,
-        next: next,
+        next,
         lines: Lines {
             a: lines.a,
             b: lines.b,

@@ -1,11 +1,9 @@
 -- 31, 32, 33, and 34 of the flags. Assumes nothing.
 use mathlib.Core.Path.{◌∙◌, sym}
-use mathlib.Core.Bool.{true}
 use mathlib.Core.List.{List}
 use Prim.Native.Nat.{ℕ}
 use native.Mathlib.Omega.{arith}
 use Rattle.runs.specs.declared.Version.{Version}
-use Rattle.upd546.specs.StateImage.{image_length}
 use Rattle.restore.proofs.Reading.{by_length, by_mark, by_version, by_flags, by_none}
 use Rattle.std.proofs.lemmas.Grind.{common_steps}
 use Rattle.restore.proofs.head_check.Goals as goal

@@ -18,16 +18,15 @@ loop-i-preserved c =
     let here = part_at bytes 27 48 i c.loop-i-test.true in
     let even = ap (λ (b : ℕ). b / 16) (sym here) ∙ sym (unpacked-even p i (omega (arith, long, c.loop-i-test.true))) in
     let odd = ap (λ (b : ℕ). b % 16) (sym here) ∙ sym (unpacked-odd p i (omega (arith, long, c.loop-i-test.true))) in
-    let first = filled_next _ (unpacked p) (2 * i) c.loop-i.invariant.1 even (omega arith) (omega (arith, words_long, long)) in
+    let first = filled_next _ (unpacked p) (2 * i) c.loop-i.invariant even (omega arith) (omega (arith, words_long, long)) in
     let both = filled_next _ (unpacked p) (2 * i + 1) first odd (omega arith) (omega (arith, words_long, long)) in
     let up : 2 * i + 1 + 1 ≡ 2 * (i + 1) = omega arith in
-    (omega arith, both ∙ ap (filled _ (unpacked p)) up)
+    both ∙ ap (filled _ (unpacked p)) up
 
 pub returns : goal.returns
 returns c =
     let bytes = c.args.bytes.now in
-    let i = c.loop-i.i in
     let p = part bytes 27 48 in
     let long = length_part bytes 27 48 (omega (arith, c.requires)) in
-    let all : i ≡ 48 = omega (arith, c.loop-i.invariant.0, c.loop-i-test.false) in
-    c.loop-i.invariant.1 ∙ filled_all _ (unpacked p) (2 * i) (omega arith) (omega (arith, length-unpacked p, long))
+    let all : c.loop-i.i ≡ 48 = omega arith in
+    c.loop-i.invariant ∙ filled_all _ (unpacked p) (2 * c.loop-i.i) (omega arith) (omega (arith, length-unpacked p, long))

@@ -12,12 +12,12 @@ loop-i-preserved c =
     let i = c.loop-i.i in
     let long = length-packed 48 words valid.count in
     let now_is = sym (packed_at words i (omega (arith, valid.count, c.loop-i-test.true))) in
-    (omega arith, filled_next _ (packed words) i c.loop-i.invariant.1 now_is (omega arith) (omega (arith, long)))
+    filled_next _ (packed words) i c.loop-i.invariant now_is (omega arith) (omega (arith, long))
 
 pub returns : goal.returns
 returns c =
     let valid = c.requires in
     let words = c.args.words in
-    let all : c.loop-i.i ≡ 48 = omega (arith, c.loop-i.invariant.0, c.loop-i-test.false) in
     let long = length-packed 48 words valid.count in
-    c.loop-i.invariant.1 ∙ filled_all _ (packed words) c.loop-i.i (omega arith) (omega (arith, long))
+    let all : c.loop-i.i ≡ 48 = omega arith in
+    c.loop-i.invariant ∙ filled_all _ (packed words) c.loop-i.i (omega arith) (omega (arith, long))

@@ -1,12 +1,8 @@
 -- After i turns the first i bytes hold their words. Assumes nothing.
 use mathlib.Core.Path.{◌≡◌}
-use Prim.Native.Nat.{◌-◌, ◌≤◌}
 use Rattle.upd546.specs.StateImage.{packed}
 use Rattle.laws.proofs.Packing.{filled}
 use Rattle.save.proofs.ram_bytes.Given as goal
 
 abbrev pub invariant-loop-i : goal.invariant-loop-i
-invariant-loop-i l = (l.i ≤ 48) × (l.bytes ≡ filled l.initial.bytes (packed l.words) l.i)
-
-abbrev pub decreases-loop-i : goal.decreases-loop-i
-decreases-loop-i l = 48 - l.i
+invariant-loop-i l = l.bytes ≡ filled l.initial.bytes (packed l.words) l.i

@@ -9,4 +9,4 @@ returns c =
     let s = c.args.s in
     common_written c.args.version s c.requires.0 c.args.buffer.now c.write_core.ensures
     c.put.ensures (rw c.ram_bytes.ensures at c.put-2.ensures)
-    (put_front 75 c.put-2.new.buffer (bytes_of 6 s.cycle.0) c.put_six.ensures)
+    (put_front 75 c.put-2.new.buffer (bytes_of 6 s.cycle.0) c.put_number.ensures)

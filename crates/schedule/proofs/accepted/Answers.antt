@@ -6,7 +6,7 @@ use Rattle.std.proofs.lemmas.Grind.{common_steps}
 use Rattle.schedule.proofs.accepted.Goals as goal
 
 pub loop-i-init : goal.loop-i-init
-loop-i-init c = (omega arith, none_refused _, omega (arith, last_first c.args.sched.now))
+loop-i-init c = (none_refused _, omega (arith, last_first c.args.sched.now))
 
 pub loop-i-preserved : goal.loop-i-preserved
 loop-i-preserved c = grind (arith, common_steps, one_more, last_next)

@@ -10,8 +10,5 @@ returns-then-not-levels_sound c = grind (arith, common_steps, bad_bytes)
 pub returns-then-i-eq0 : goal.returns-then-i-eq0
 returns-then-i-eq0 c = grind (arith, common_steps, order_first, by_order)
 
-pub returns-then-head-last : goal.returns-then-head-last
-returns-then-head-last c = grind (arith, common_steps, order_not, by_order)
-
 pub returns : goal.returns
-returns c = grind (arith, common_steps, order_kept, by_order)
+returns c = grind (arith, common_steps, order_not, order_kept, by_order)
