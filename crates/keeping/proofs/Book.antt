@@ -21,7 +21,7 @@ use Rattle.upd546.specs.Sequences.{same_numbers}
 use Rattle.store.specs.Entries.{name_length, zero_name, legal_name, Entry, place_of, known, distinct, entry_length, capacity, kept, image_at, with_entry}
 use Rattle.store.specs.Entries.{kept_in, accepted, all_accepted, well_formed}
 use Rattle.store.specs.Answers.{StoreAnswer, judged_number, store_number, store_answer, recall_number}
-use Rattle.store.proofs.Entries.{span, span_cons, span_all, length-span, kept_entries}
+use Rattle.keeping.proofs.Spans.{span, span_cons, span_all, length-span, kept_entries}
 use Rattle.store.proofs.Answers.{by_images, judged_none, judged_fit, store_fit, stored_done}
 use Rattle.keeping.specs.Lists.{is_stored, put_in, laid_out}
 use Rattle.keeping.proofs.Names.{lookup, distinct-put, put_most, names, length-names, known_stored}

@@ -1,3 +1,4 @@
+mod Spans
 pub mod Names
 pub mod Laid
 pub mod Book

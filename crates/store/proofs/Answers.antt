@@ -8,11 +8,15 @@ use native.Mathlib.Omega.{arith}
 use lib.Dec.{eqb, ltb}
 use lib.ListN.{length}
 use borrow.Author.Tests.{eq-eqb, ne_eqb, eqb-true, lt-ltb, le-ltb, ltb-true, ltb-false, not-true}
+use Rattle.std.specs.Prelude.{Result, Ok, Err}
+use Rattle.std.specs.Result.{is_ok}
+use Rattle.runs.specs.declared.Refusal.{Refusal}
+use Rattle.runs.specs.Numbers.{refusal_number, outcome_number}
 use Rattle.runs.specs.declared.Version.TheVariants.{Two}
 use Rattle.runs.specs.Machine.{Machine}
 use Rattle.runs.specs.Refusals.{first_of}
 use Rattle.runs.specs.TwoRunners.{current_number}
-use Rattle.runs.proofs.Refusals.{first_at, passes}
+use Rattle.runs.proofs.Refusals.{first_at, passes, refusal-some}
 use Rattle.upd546.specs.Bytes.{part}
 use Rattle.upd546.specs.Sequences.{all_of, all_below}
 use Rattle.laws.proofs.Lists.{and_left, and_right}
@@ -130,6 +134,11 @@ module _ {S : Type 0} (M : Machine S) (store : List ℕ) where
           pub store_room : (place_in M store name ≡ capacity (M.image_length Two) store → ⊥) → store_number M store name image ≡ 0
           unfolding store_number first_of room
           store_room h = rw (judged, taken, some_room h)
+
+-- what has no number is done
+pub done_number : (r : Result (Unit {0}) Refusal) → is_ok r ≡ eqb (outcome_number r) 0
+done_number (Ok u) = refl
+done_number (Err why) = sym (ne_eqb (refusal_number why) 0 (refusal-some why))
 
 -- A STORE THAT ISN'T REFUSED
 

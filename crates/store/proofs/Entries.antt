@@ -2,22 +2,20 @@
 use mathlib.Core.Path.{◌≡◌, ◌∙◌, refl, sym, ap, subst}
 use mathlib.Core.Bool.{Bool, true, false, cond, not, ◌&&◌}
 use mathlib.Core.List.{List, [], ◌∷◌, ◌++◌}
-use Prim.Native.Nat.{ℕ, zero, suc, ◌+◌, ◌-◌, ◌*◌, ◌<◌, ◌≤◌}
-use native.Mathlib.Nat.{mul-le-mul_left, mul-zero, sub-zero}
+use Prim.Native.Nat.{ℕ, zero, suc, ◌+◌, ◌<◌, ◌≤◌}
+use native.Mathlib.Numerals.{add-one}
 use native.Mathlib.Omega.{arith}
-use lib.Dec.{eqb, ltb}
-use lib.ListN.{length, take, drop, length-append}
-use lib.Seq.{drop-drop}
-use borrow.Author.Tests.{eq-eqb, ne_eqb, lt-ltb, le-ltb, ltb-true, ltb-false}
-use Rattle.runs.specs.Laws.{Bytes}
+use lib.Dec.{ltb}
+use lib.ListN.{length, get_or, take, drop, length-append}
+use lib.Seq.{drop-cons}
+use Rattle.std.specs.Simd.{first_chunks}
+use Rattle.std.proofs.lemmas.List.{take-take, drop-take, drop_all}
+use borrow.Author.Tests.{lt-ltb, le-ltb}
 use Rattle.runs.specs.Machine.{Machine}
-use Rattle.upd546.specs.Bytes.{part, number_of, number_at}
 use Rattle.upd546.specs.Sequences.{same_numbers}
-use Rattle.laws.proofs.Parts.{length_part}
 use Rattle.laws.proofs.Tails.{put_more}
-use Rattle.store.specs.Entries.{name_length, zero_name, Entry, entry_bytes, used_of, place_of, distinct, entry_length, entries_of, capacity, kept, image_at}
+use Rattle.store.specs.Entries.{name_length, zero_name, Entry, entry_bytes, entry_in, entries_in, used_of, place_of, distinct, entry_length, entries_of, capacity, kept}
 use Rattle.store.specs.Entries.{accepted, all_accepted}
-use Rattle.store.proofs.Names.{compared, part_bytes, zero_compared}
 
 pub used_most : (es : List Entry) → length (used_of es) ≤ length es
 used_most [] = omega arith
@@ -40,129 +38,79 @@ module _ (long : ℕ) where
   length-entries zero bytes = refl
   length-entries (suc n) bytes = ap suc (length-entries n (drop (entry_length long) bytes))
 
-  -- the used ones are the first
-  used_first : (n : ℕ) (bytes : List ℕ) → used_of (entries_of long n bytes) ≡ entries_of long (length (used_of (entries_of long n bytes))) bytes
-  used_first zero bytes = refl
-  used_first (suc n) bytes = go (zero_name e.name) (used_first n (drop (entry_length long) bytes))
-    where
-      e : Entry
-      e = record { name = part bytes 0 name_length; image = part bytes name_length long }
-
-      rest : List Entry
-      rest = used_of (entries_of long n (drop (entry_length long) bytes))
-
-      go : (z : Bool) → rest ≡ entries_of long (length rest) (drop (entry_length long) bytes)
-          → cond z [] (e ∷ rest) ≡ entries_of long (length (cond z [] (e ∷ rest))) bytes
-      go true h = refl
-      go false h = ap (λ (es : List Entry). e ∷ es) h
-
-  pub kept_first : (store : List ℕ) → kept long store ≡ entries_of long (length (kept long store)) store
-  unfolding kept
-  kept_first store = used_first (capacity long store) store
-
   pub kept_most : (store : List ℕ) → length (kept long store) ≤ capacity long store
   unfolding kept
   kept_most store = omega (arith, used_most (entries_of long (capacity long store) store), length-entries (capacity long store) store)
 
-module _ (long : ℕ) (store : List ℕ) where
-  -- the entries from i on and before `to`
-  abbrev pub span : ℕ → ℕ → List Entry
-  span i to = entries_of long (to - i) (drop (entry_length long * i) store)
+  -- entries apart, as chunks of a store, are those that the store is cut into
+  pub entries_apart : (k : ℕ) (bytes : List ℕ) → entries_in (first_chunks (entry_length long) k bytes) ≡ entries_of long k bytes
+  entries_apart zero bytes = refl
+  entries_apart (suc k) bytes =
+      let name : take name_length (take (entry_length long) bytes) ≡ take name_length bytes = take-take name_length (entry_length long) bytes (omega arith) in
+      rw (name, drop-take name_length long bytes, entries_apart k (drop (entry_length long) bytes))
 
-  abbrev pub entry_at : ℕ → Entry
-  entry_at i = record { name = part store (entry_length long * i) name_length; image = part store (image_at long i) long }
+-- ENTRIES APART
 
-  pub span_none : (i to : ℕ) → to ≤ i → span i to ≡ []
-  span_none i to h =
-      let none : to - i ≡ 0 = omega arith in
-      rw none
+pub length-entries_in : (cs : List (List ℕ)) → length (entries_in cs) ≡ length cs
+length-entries_in [] = refl
+length-entries_in (c ∷ cs) = ap suc (length-entries_in cs)
 
-  pub span_all : (to : ℕ) → span 0 to ≡ entries_of long to store
-  span_all to = rw (sub-zero to, mul-zero (entry_length long))
+-- as many of them as are used
+pub used_take : (cs : List (List ℕ)) → entries_in (take (length (used_of (entries_in cs))) cs) ≡ used_of (entries_in cs)
+used_take [] = refl
+used_take (c ∷ cs) = go (zero_name (take name_length c)) (used_take cs)
+  where
+    go : (z : Bool) → entries_in (take (length (used_of (entries_in cs))) cs) ≡ used_of (entries_in cs)
+        → entries_in (take (length (cond z [] (entry_in c ∷ used_of (entries_in cs)))) (c ∷ cs)) ≡ cond z [] (entry_in c ∷ used_of (entries_in cs))
+    go true h = refl
+    go false h = ap (λ (es : List Entry). entry_in c ∷ es) h
 
-  pub span_cons : (i to : ℕ) → i < to → span i to ≡ entry_at i ∷ span (i + 1) to
-  span_cons i to h =
-      let more : to - i ≡ suc (to - (i + 1)) = omega arith in
-      let next : entry_length long * i + entry_length long ≡ entry_length long * (i + 1) = omega arith in
-      rw (
-        more,
-        drop-drop name_length (entry_length long * i) store,
-        drop-drop (entry_length long) (entry_length long * i) store,
-        next,
-      )
+-- those from i on
+abbrev pub from : ℕ → List (List ℕ) → List Entry
+from i cs = entries_in (drop i cs)
 
-  pub length-span : (i to : ℕ) → length (span i to) ≡ to - i
-  length-span i to = length-entries long (to - i) (drop (entry_length long * i) store)
-
-  -- the used entries, of which there are so many
-  module _ (used : ℕ) (all : used ≡ length (kept long store)) where
-    pub kept_entries : entries_of long used store ≡ kept long store
-    kept_entries = ap (λ (n : ℕ). entries_of long n store) all ∙ sym (kept_first long store)
-
-    pub found_place : (name : List ℕ) (i : ℕ) → i ≡ 0 + place_of name (span 0 used) → i ≡ place_of name (kept long store)
-    found_place name i e = omega (arith, e, ap (place_of name) (span_all used ∙ kept_entries))
+module _ (cs : List (List ℕ)) (i : ℕ) where
+  pub from_none : length cs ≤ i → from i cs ≡ []
+  from_none h = rw (drop_all i cs h)
 
   -- AT THE ENTRY i
-  module _ (i to : ℕ) (more : i < to) where
+  module _ (c : List ℕ) (more : i < length cs) (here : c ≡ get_or cs i []) where
+    from_cons : from i cs ≡ entry_in c ∷ from (i + 1) cs
+    from_cons = rw (drop-cons cs i [] more, here, add-one i)
+
     -- its image is taken
-    pub accepted_next : {S : Type 0} (M : Machine S) → accepted M (part store (image_at long i) long) ≡ true
-        → all_accepted M (span (i + 1) to) ≡ all_accepted M (span i to)
-    accepted_next M e = sym (ap (all_accepted M) (span_cons i to more) ∙ rw e)
+    pub accepted_next : {S : Type 0} (M : Machine S) → accepted M (drop name_length c) ≡ true → all_accepted M (from (i + 1) cs) ≡ all_accepted M (from i cs)
+    accepted_next M e = sym (ap (all_accepted M) from_cons ∙ rw e)
 
-    pub accepted_not : {S : Type 0} (M : Machine S) → accepted M (part store (image_at long i) long) ≡ false → false ≡ all_accepted M (span i to)
-    accepted_not M e = sym (ap (all_accepted M) (span_cons i to more) ∙ rw e)
+    pub accepted_not : {S : Type 0} (M : Machine S) → accepted M (drop name_length c) ≡ false → false ≡ all_accepted M (from i cs)
+    accepted_not M e = sym (ap (all_accepted M) from_cons ∙ rw e)
 
-    -- its name stands further on, at r, or doesn't
-    module _ (r : ℕ) (found : r ≡ i + 1 + place_of (part store (entry_length long * i) name_length) (span (i + 1) to)) where
-      place : ℕ
-      place = place_of (part store (entry_length long * i) name_length) (span (i + 1) to)
+    -- its name is zero, or isn't
+    pub used_end : zero_name (take name_length c) ≡ true → length (used_of (from i cs)) ≡ 0
+    used_end e = ap (λ (es : List Entry). length (used_of es)) from_cons ∙ rw e
 
-      known_by : (t : Bool) → ltb r to ≡ t → ltb place (length (span (i + 1) to)) ≡ t
-      unfolding place
-      known_by true e = lt-ltb place (length (span (i + 1) to)) (omega (arith, ltb-true r to e, length-span (i + 1) to))
-      known_by false e = le-ltb place (length (span (i + 1) to)) (omega (arith, ltb-false r to e, length-span (i + 1) to))
+    pub used_next : zero_name (take name_length c) ≡ false → length (used_of (from i cs)) ≡ suc (length (used_of (from (i + 1) cs)))
+    used_next e = ap (λ (es : List Entry). length (used_of es)) from_cons ∙ rw e
 
-      differs : distinct (span i to) ≡ (not (ltb r to) && distinct (span (i + 1) to))
-      unfolding place
+    -- it has the name, or hasn't
+    pub place_here : (name : List ℕ) → same_numbers name (take name_length c) ≡ true → place_of name (from i cs) ≡ 0
+    place_here name e = ap (place_of name) from_cons ∙ rw e
+
+    pub place_next : (name : List ℕ) → same_numbers name (take name_length c) ≡ false → place_of name (from i cs) ≡ suc (place_of name (from (i + 1) cs))
+    place_next name e = ap (place_of name) from_cons ∙ rw e
+
+    -- its name stands further on, or doesn't
+    module _ (later : List (List ℕ)) (rest : later ≡ drop (i + 1) cs) (r : ℕ) (found : r ≡ place_of (take name_length c) (entries_in later)) where
+      differs : distinct (from i cs) ≡ (not (ltb r (length later)) && distinct (from (i + 1) cs))
       differs =
-          ap distinct (span_cons i to more)
-          ∙ ap (λ (t : Bool). not t && distinct (span (i + 1) to)) (known_by (ltb r to) refl)
+          ap distinct from_cons
+          ∙ rw (← rest, ← found, length-entries_in later)
 
-      pub twice : r < to → false ≡ distinct (span i to)
-      twice h = sym (differs ∙ rw (lt-ltb r to h))
+      pub twice : r < length later → false ≡ distinct (from i cs)
+      twice h = sym (differs ∙ rw (lt-ltb r (length later) h))
 
-      pub once : to ≤ r → distinct (span (i + 1) to) ≡ distinct (span i to)
-      once h = sym (differs ∙ rw (le-ltb r to h))
-
-    module _ (b : Bytes store) (fits : entry_length long * to ≤ length store) where
-      name_fits : entry_length long * i + name_length ≤ length store
-      name_fits = omega (arith, mul-le-mul_left (entry_length long) more)
-
-      -- its name is zero, or isn't
-      used_here : length (used_of (span i to)) ≡ length (cond (eqb (number_at store (entry_length long * i) name_length) 0) [] (entry_at i ∷ used_of (span (i + 1) to)))
-      used_here = ap (λ (es : List Entry). length (used_of es)) (span_cons i to more) ∙ rw (zero_compared (part store (entry_length long * i) name_length) (part_bytes store (entry_length long * i) name_length b) (length_part store (entry_length long * i) name_length name_fits))
-
-      pub used_end : number_at store (entry_length long * i) name_length ≡ 0 → length (used_of (span i to)) ≡ 0
-      used_end e = used_here ∙ rw (eq-eqb (number_at store (entry_length long * i) name_length) 0 e)
-
-      pub used_next : (number_at store (entry_length long * i) name_length ≡ 0 → ⊥) → length (used_of (span i to)) ≡ suc (length (used_of (span (i + 1) to)))
-      used_next e = used_here ∙ rw (ne_eqb (number_at store (entry_length long * i) name_length) 0 e)
-
-      -- it has the name, or hasn't
-      module _ (name : List ℕ) (bytes : Bytes name) (eight : length name ≡ name_length) where
-        place_of_lem : place_of name (span i to) ≡ cond (eqb (number_of name) (number_at store (entry_length long * i) name_length)) 0 (suc (place_of name (span (i + 1) to)))
-        place_of_lem =
-            let same = compared name (part store (entry_length long * i) name_length) bytes (part_bytes store (entry_length long * i) name_length b)
-            (eight ∙ sym (length_part store (entry_length long * i) name_length name_fits)) in
-            ap (place_of name) (span_cons i to more) ∙ rw same
-
-        pub place_here : number_at store (entry_length long * i) name_length ≡ number_of name → place_of name (span i to) ≡ 0
-        place_here e = place_of_lem ∙ rw (eq-eqb (number_of name) (number_at store (entry_length long * i) name_length) (sym e))
-
-        pub place_next : (number_at store (entry_length long * i) name_length ≡ number_of name → ⊥) → place_of name (span i to) ≡ suc (place_of name (span (i + 1) to))
-        place_next e =
-            place_of_lem
-            ∙ rw (ne_eqb (number_of name) (number_at store (entry_length long * i) name_length) (λ (z : number_of name ≡ number_at store (entry_length long * i) name_length). e (sym z)))
+      pub once : length later ≤ r → distinct (from (i + 1) cs) ≡ distinct (from i cs)
+      once h = sym (differs ∙ rw (le-ltb r (length later) h))
 
 -- a name put at a place, and an image behind it
 pub entry_put : (long : ℕ) (store : List ℕ) (e : Entry) (at : ℕ) → at ≤ length store → length e.name ≡ name_length → length e.image ≡ long

@@ -1,6 +1,6 @@
 -- Request R-7, over any machine: what storing and recalling answer and leave. "A small sheet, given last to each call that takes states
 -- or images, a store .. too" (R-11), is the machine. Assumes nothing: these are definitions.
-use Rattle.std.specs.Prelude.{ℕ, zero, suc, ◌+◌, ◌≡◌, ◌||◌, List, [], ◌∷◌, ◌↔◌, ltb, length}
+use Rattle.std.specs.Prelude.{ℕ, zero, suc, ◌+◌, ◌≡◌, ◌||◌, List, [], ◌∷◌, ◌↔◌, Result, Ok, Err, ltb, length}
 use Rattle.std.specs.Borrow.{Bor}
 use Rattle.runs.specs.declared.Version.TheVariants.{Two}
 use Rattle.runs.specs.declared.Refusal.{Refusal}
@@ -8,8 +8,6 @@ use Rattle.runs.specs.Machine.{Machine}
 use Rattle.runs.specs.Refusals.{first_of, unless}
 use Rattle.runs.specs.Numbers.{refusal_number}
 use Rattle.upd546.specs.Bytes.{part}
-use Rattle.store.specs.declared.Place.{Place}
-use Rattle.store.specs.declared.Place.TheVariants.{At, Nowhere}
 use Rattle.store.specs.Entries.{legal_name, place_of, known, capacity, with_entry, image_at, kept_in, accepted, well_formed}
 
 -- What storing answers: 0 or its refusal's number, and the store as it stands when the call returns.
@@ -72,6 +70,6 @@ module _ {S : Type 0} (M : Machine S) where
         → back.ref_ptr ≡ (store.ref_ptr.0, store.ref_ptr.1 + image_at (M.image_length Two) (place_in store.now name))
 
 -- what a search for an entry finds: its place where the number is 0, else why not
-abbrev pub Finds : Place → (number place : ℕ) → Type 0
-Finds (At i) number place = (number ≡ 0) × (place ≡ i)
-Finds (Nowhere why) number place = number ≡ refusal_number why
+abbrev pub Finds : Result ℕ Refusal → (number place : ℕ) → Type 0
+Finds (Ok i) number place = (number ≡ 0) × (place ≡ i)
+Finds (Err why) number place = number ≡ refusal_number why

@@ -1,6 +1,6 @@
 -- Request R-7, "States to come back to", over any machine: what a store is. "A lent store keeps images under names of exactly eight
 -- bytes, in the order first stored, each entry name then image." Assumes nothing: these are definitions.
-use Rattle.std.specs.Prelude.{ℕ, zero, suc, ◌+◌, ◌*◌, ◌/◌, ◌%◌, Bool, true, false, cond, not, ◌&&◌, List, [], ◌∷◌, ◌++◌, eqb, ltb, length, take, drop, replicate}
+use Rattle.std.specs.Prelude.{ℕ, zero, suc, ◌+◌, ◌*◌, ◌/◌, ◌%◌, Bool, true, cond, not, ◌&&◌, List, [], ◌∷◌, ◌++◌, eqb, ltb, length, take, drop, replicate}
 use Rattle.runs.specs.declared.Version.TheVariants.{Two}
 use Rattle.runs.specs.Machine.{Machine}
 use Rattle.runs.specs.TwoRunners.{current_number}
@@ -27,6 +27,14 @@ pub record Entry : Type 0 where
 
 abbrev pub entry_bytes : Entry → List ℕ
 entry_bytes e = e.name ++ e.image
+
+-- the entry that these bytes are: a name, and an image behind it
+abbrev pub entry_in : List ℕ → Entry
+entry_in bytes = record { name = take name_length bytes; image = drop name_length bytes }
+
+abbrev pub entries_in : List (List ℕ) → List Entry
+entries_in [] = []
+entries_in (c ∷ cs) = entry_in c ∷ entries_in cs
 
 -- "a zero name .. begins the unused tail": the entries before the first one
 abbrev pub used_of : List Entry → List Entry

@@ -4,12 +4,13 @@
 #![tactic(auto)]
 
 ghost use Rattle.std.specs.Prelude.{◌≡◌};
+ghost use Rattle.runs.specs.Numbers.{outcome_number};
 ghost use Rattle.upd546.specs.TwoRunners.{chip};
 ghost use Rattle.store.specs.Answers.{store_answer};
 ghost use Rattle.store_calls.specs.Copy.{copy_answer};
 
 use runs::Refusal;
-use store::{ENTRY_LENGTH, NAME_LENGTH, Place};
+use store::{ENTRY_LENGTH, NAME_LENGTH};
 use upd546::Sheet;
 use upd546::layout::IMAGE_LENGTH;
 
@@ -32,6 +33,19 @@ pub fn wharfnettle_store(
     runs::outcome_number(store::keep(store, name, image, sheet))
 }
 
+// The image kept under a name, copied into the first bytes of a buffer.
+fn copy_kept(store: &[u8], name: &[u8], image: &mut [u8], sheet: Sheet) -> Result<(), Refusal>
+    ensures { record { number = outcome_number result; buffer = image.new } ≡ copy_answer (chip sheet) store.now name.now image.old }
+{
+    let i = store::find(store, name, sheet)?;
+    if image.len() < IMAGE_LENGTH {
+        return Err(Refusal::BufferShort);
+    }
+    let at = ENTRY_LENGTH * i + NAME_LENGTH;
+    copying::copy(&store[at..at + IMAGE_LENGTH], image);
+    Ok(())
+}
+
 // RECALLING: the image kept under a name, copied into the first bytes of a buffer: 71, 51, 52, then 1 of a buffer that is too short.
 pub fn wharfnettle_recall(
     store: &[u8],
@@ -48,16 +62,5 @@ pub fn wharfnettle_recall(
         rows,
         levels,
     };
-    let place = store::find(store, name, sheet);
-    match place {
-        Place::Nowhere(why) => runs::refusal_number(why),
-        Place::At(i) => {
-            if image.len() < IMAGE_LENGTH {
-                return runs::refusal_number(Refusal::BufferShort);
-            }
-            let at = ENTRY_LENGTH * i + NAME_LENGTH;
-            copying::copy(&store[at..at + IMAGE_LENGTH], image);
-            0
-        }
-    }
+    runs::outcome_number(copy_kept(store, name, image, sheet))
 }

@@ -2,28 +2,26 @@
 use mathlib.Core.Path.{◌≡◌, ◌∙◌, sym, ap}
 use mathlib.Core.Bool.{true}
 use native.Mathlib.Omega.{arith}
-use Rattle.runs.specs.Numbers.{outcome_number}
 use Rattle.runs.proofs.Refusals.{refusal-some}
 use Rattle.upd546.specs.TwoRunners.{chip}
-use Rattle.store.specs.Entries.{chip_image, accepted}
+use Rattle.store.specs.Entries.{place_of, accepted}
 use Rattle.store.specs.Answers.{place_in, judged_number}
-use Rattle.store.proofs.Entries.{kept_most, found_place}
 use Rattle.store.proofs.Answers.{store_judged, store_image, store_full, store_room, judged_fit}
 use Rattle.std.proofs.lemmas.Grind.{common_steps}
 use Rattle.store.proofs.find_room.Goals as goal
 use Rattle.store.proofs.find_room.Goals.{Else-not-is_accepted, Else-room-store, Then-not-is_accepted, Then-room-store}
 
 judged : (c : Then-not-is_accepted) → judged_number (chip c.args.sheet) c.args.store.now c.args.name.now ≡ 0
-judged c = sym c.check-judged.ensures ∙ ap outcome_number c.in_default.is
+judged c = sym c.in_ok-check.ensures
 
 judged-2 : (c : Else-not-is_accepted) → judged_number (chip c.args.sheet) c.args.store.now c.args.name.now ≡ 0
-judged-2 c = sym c.check-judged.ensures ∙ ap outcome_number c.in_default.is
+judged-2 c = sym c.in_ok-check.ensures
 
 judged-3 : (c : Then-room-store) → judged_number (chip c.args.sheet) c.args.store.now c.args.name.now ≡ 0
-judged-3 c = sym c.check-judged.ensures ∙ ap outcome_number c.in_default.is
+judged-3 c = sym c.in_ok-check.ensures
 
 judged-4 : (c : Else-room-store) → judged_number (chip c.args.sheet) c.args.store.now c.args.name.now ≡ 0
-judged-4 c = sym c.check-judged.ensures ∙ ap outcome_number c.in_default.is
+judged-4 c = sym c.in_ok-check.ensures
 
 taken : (c : Then-room-store) → accepted (chip c.args.sheet) c.args.image.now ≡ true
 taken c = sym c.is_accepted.ensures ∙ c.if-not-is_accepted.false
@@ -37,8 +35,7 @@ place : (c : Then-room-store)
     ≡ place_in (chip c.args.sheet) c.args.store.now c.args.name.now
 place c =
     let a = c.args in
-    found_place chip_image a.store.now c.used_entries-used.result c.used_entries-used.ensures a.name.now c.place_among-room.result
-    c.place_among-room.ensures
+    c.place_among-room.ensures ∙ ap (place_of a.name.now) c.used_entries-used.ensures
 
 -- what is found there
 place-2 : (c : Else-room-store)
@@ -46,11 +43,10 @@ place-2 : (c : Else-room-store)
     ≡ place_in (chip c.args.sheet) c.args.store.now c.args.name.now
 place-2 c =
     let a = c.args in
-    found_place chip_image a.store.now c.used_entries-used.result c.used_entries-used.ensures a.name.now c.place_among-room.result
-    c.place_among-room.ensures
+    c.place_among-room.ensures ∙ ap (place_of a.name.now) c.used_entries-used.ensures
 
-pub returns-in-Refused : goal.returns-in-Refused
-returns-in-Refused c = grind (arith, common_steps, store_judged, refusal-some)
+pub returns-in_err-check : goal.returns-in_err-check
+returns-in_err-check c = grind (arith, common_steps, store_judged, refusal-some)
 
 pub returns-then-not-is_accepted : goal.returns-then-not-is_accepted
 returns-then-not-is_accepted c =
@@ -60,11 +56,8 @@ returns-then-not-is_accepted c =
 
 pub place_among-room-requires : goal.place_among-room-requires
 place_among-room-requires c =
-    let a = c.args in (
-      omega arith,
-      omega (arith, c.used_entries-used.ensures, kept_most chip_image a.store.now),
-      (judged_fit (chip a.sheet) a.store.now a.name.now (judged-2 c)).eight,
-    )
+    let a = c.args in
+    (judged_fit (chip a.sheet) a.store.now a.name.now (judged-2 c)).eight
 
 pub returns-then-room-store : goal.returns-then-room-store
 returns-then-room-store c =

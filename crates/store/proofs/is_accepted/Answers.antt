@@ -1,4 +1,4 @@
--- The number of a restore where version 2 is due. Assumes nothing.
+-- A restore where version 2 is due answers no number. Assumes nothing.
 use mathlib.Core.Path.{◌∙◌, ap}
 use Prim.Native.Nat.{ℕ}
 use lib.Dec.{eqb}
@@ -7,6 +7,7 @@ use Rattle.runs.proofs.Calls.{got_number}
 use Rattle.upd546.specs.declared.State.{State}
 use Rattle.upd546.specs.StateImage.{of_image}
 use Rattle.upd546.specs.TwoRunners.{chip}
+use Rattle.store.proofs.Answers.{done_number}
 use Rattle.store.proofs.is_accepted.Goals as goal
 
 pub returns : goal.returns
@@ -14,7 +15,8 @@ unfolding current_answer
 returns c =
     let a = c.args in
     let image = a.image.now in
-    ap (λ (k : ℕ). eqb k 0)
-    (c.outcome_number.ensures
-    ∙ ap (λ (r : RestoreAnswer State). r.number) c.restore_current-restored.ensures
+    c.is_ok.ensures.value
+    ∙ done_number c.restore_current-restored.result.outcome
+    ∙ ap (λ (k : ℕ). eqb k 0)
+    (ap (λ (r : RestoreAnswer State). r.number) c.restore_current-restored.ensures
     ∙ got_number (chip a.sheet) (current_number (chip a.sheet) image) (of_image image))

@@ -14,21 +14,21 @@ use Rattle.store.proofs.keep.Goals as goal
 pub put_entry-requires : goal.put_entry-requires
 put_entry-requires c =
     let a = c.args in
-    let f = c.in-At.ensures in
+    let f = c.in_ok-i.ensures in
     let fit = store_fit (chip a.sheet) a.store.now a.name.now a.image.now f.0 in
-    let room : c.in-At.i < capacity chip_image a.store.now = omega (arith, fit.room, f.1) in (
+    let room : c.in_ok-i.i < capacity chip_image a.store.now = omega (arith, fit.room, f.1) in (
       entry_within chip_image a.store.now _ room,
       (judged_fit (chip a.sheet) a.store.now a.name.now fit.judged).eight,
       (current_fit (chip a.sheet) a.image.now fit.taken).long,
     )
 
-pub returns-in-Nowhere : goal.returns-in-Nowhere
-returns-in-Nowhere c = grind (arith, common_steps, stored_refused, refusal-some)
+pub returns-in_err-i : goal.returns-in_err-i
+returns-in_err-i c = grind (arith, common_steps, stored_refused, refusal-some)
 
-pub returns-in-At : goal.returns-in-At
-returns-in-At c =
+pub returns : goal.returns
+returns c =
     let a = c.args in
-    let f = c.in-At.ensures in
+    let f = c.in_ok-i.ensures in
     let entered = ap (λ (k : ℕ). with_entry chip_image k (record { name = a.name.now; image = a.image.now }) a.store.now) (sym f.1) in
     ap (λ (l : List ℕ). record { number = 0; store = l }) (c.put_entry.ensures ∙ entered)
     ∙ stored_done (chip a.sheet) a.store.now a.name.now a.image.now f.0

@@ -1,22 +1,23 @@
 -- Entry by entry, up to the first of that name. Assumes nothing.
-use mathlib.Core.Path.{◌∙◌, sym}
+use mathlib.Core.Path.{◌∙◌, refl, sym, ap}
 use native.Mathlib.Omega.{arith}
-use Rattle.store.specs.Entries.{chip_image}
-use Rattle.store.proofs.Entries.{place_here, place_next}
+use Rattle.store.specs.Entries.{place_of}
+use Rattle.store.proofs.Entries.{from_none, place_here, place_next}
 use Rattle.store.proofs.place_among.Goals as goal
 
-pub returns-then-name_of-number : goal.returns-then-name_of-number
-returns-then-name_of-number c =
-    let here = place_here chip_image c.args.store.now c.loop-i.i c.args.to c.loop-i-test.true
-    (λ k. omega (arith, c.type_inv.store k)) c.requires.1
-    c.args.name.now (λ k. omega (arith, c.type_inv.name k)) c.requires.2
-    (sym c.name_of.ensures ∙ c.if-name_of-number.true ∙ c.loop-i.invariant.2) in
-    omega (arith, here, c.loop-i.invariant.1)
+pub returns-then-has_name : goal.returns-then-has_name
+returns-then-has_name c =
+    let name = c.args.name.now in
+    let here = place_here _ c.loop-i.i _ c.loop-i-test.true refl name (sym c.has_name.ensures ∙ c.if-has_name.true) in
+    omega (arith, here, c.loop-i.invariant)
 
 pub loop-i-preserved : goal.loop-i-preserved
 loop-i-preserved c =
-    let further = place_next chip_image c.args.store.now c.loop-i.i c.args.to c.loop-i-test.true
-    (λ k. omega (arith, c.type_inv.store k)) c.requires.1
-    c.args.name.now (λ k. omega (arith, c.type_inv.name k)) c.requires.2
-    (λ e. c.if-name_of-number.false (c.name_of.ensures ∙ e ∙ sym c.loop-i.invariant.2)) in
-    (omega arith, omega (arith, further, c.loop-i.invariant.1), c.loop-i.invariant.2)
+    let name = c.args.name.now in
+    let next = place_next _ c.loop-i.i _ c.loop-i-test.true refl name (sym c.has_name.ensures ∙ c.if-has_name.false) in
+    omega (arith, next, c.loop-i.invariant)
+
+pub returns : goal.returns
+returns c =
+    let none = ap (place_of c.args.name.now) (from_none c.args.entries.now c.loop-i.i (omega (arith, c.loop-i-test.false))) in
+    omega (arith, none, c.loop-i.invariant)

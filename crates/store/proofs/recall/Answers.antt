@@ -12,13 +12,13 @@ use Rattle.store.proofs.Entries.{kept_most}
 use Rattle.store.proofs.Answers.{recall_place, entry_within, recalled-refused, recalled-done, recalled-length}
 use Rattle.std.proofs.lemmas.Grind.{common_steps}
 use Rattle.store.proofs.recall.Goals as goal
-use Rattle.store.proofs.recall.Goals.{In-At}
+use Rattle.store.proofs.recall.Goals.{In-Ok}
 
-within : (c : In-At) → entry_length chip_image * c.in-At.i + entry_length chip_image ≤ length c.args.store.now
+within : (c : In-Ok) → entry_length chip_image * c.in-Ok.i + entry_length chip_image ≤ length c.args.store.now
 within c =
     let a = c.args in
-    let f = c.in-At.ensures in
-    entry_within chip_image a.store.now c.in-At.i
+    let f = c.in-Ok.ensures in
+    entry_within chip_image a.store.now c.in-Ok.i
     (omega (arith, f.1, recall_place (chip a.sheet) a.store.now a.name.now f.0, kept_most chip_image a.store.now))
 
 pub returns-in_default : goal.returns-in_default
@@ -40,8 +40,8 @@ pub returns : goal.returns
 returns c =
     let a = c.args in
     let store = a.store.now in
-    let i = c.in-At.i in
-    let f = c.in-At.ensures in
+    let i = c.in-Ok.i in
+    let f = c.in-Ok.ensures in
     let all : image_at chip_image i + chip_image - image_at chip_image i ≡ chip_image = omega arith in
     let same : part store (image_at chip_image i) (image_at chip_image i + chip_image - image_at chip_image i) ≡ (recall_answer (chip a.sheet) store a.name.now).part
     = rw all (ap (λ (k : ℕ). part store (image_at chip_image k) chip_image) (sym f.1) ∙ recalled-done (chip a.sheet) store a.name.now f.0) in
