@@ -9,6 +9,8 @@ use native.Mathlib.Omega.{arith}
 use lib.Dec.{eqb, leb}
 use lib.ListN.{length, take, drop, length-append}
 use borrow.Author.Tests.{leb-true, leb-false, eqb-true, eqb-false, ne_eqb}
+use Rattle.std.specs.Prelude.{Option}
+use Rattle.runs.specs.declared.Stop.{Stop}
 use Rattle.runs.specs.Machine.{Out, stop, went}
 use Rattle.runs.specs.Refusals.{cycle_limit}
 use Rattle.runs.specs.TwoRunners.{still, within}
@@ -40,10 +42,10 @@ use Rattle.laws.proofs.Burst.{tm_stays, ticks_stopped, forward-none, forward-on,
 use Rattle.jump.specs.Boundary.{watch_code}
 use Rattle.jump.proofs.Lengths.{no_ttm, both_one, stopped, no_loop}
 use Rattle.effect.specs.declared.Started.{Started}
-use Rattle.effect.specs.Answer.{Answer, start_of, answer_on}
+use Rattle.effect.specs.Answer.{Answer, Told, start_of, answer_on}
 use Rattle.effect.specs.Endings.{Fits}
 use Rattle.cycle.specs.Ready.{Ready}
-use Rattle.burst.specs.Turn.{Turn, Due, Horizon, Moved, Bursts, may_be_due, nearest_of, stretch_of, ended_at, appended}
+use Rattle.burst.specs.Turn.{Turn, Due, Horizon, Moved, Bursts, may_be_due, nearest_of, number_of, stretch_of, ended_at, appended}
 use Rattle.burst.proofs.Lending.{lent_legal, lent_rom, lent_fits}
 use Rattle.burst.proofs.Moving.{Next, next}
 
@@ -101,8 +103,12 @@ pub record Riding (sheet : Sheet) (skips : Bool) (rom sched : List ℕ) (l : Lin
   pub state_is : (p.done ≡ s.cycle.0 → ⊥) → t ≡ state_of (forward (p.done - p.since) p.core) p.ram p.ports p.done
 
 -- what the code says of the instruction that is due at the state s, with this ROM, these rows and levels
-pub record Answers (rom rows : List ℕ) (levels : ℕ) (l : Lines) (s : State) (at : ℕ) (log : List ℕ) (r : Started) (ram ports log' : List ℕ) : Type 0 where
+pub record Answers (rom rows : List ℕ) (levels : ℕ) (l : Lines) (s : State) (at : ℕ) (log : List ℕ) (r : Told) (ram ports log' : List ℕ) : Type 0 where
   pub is : (sheet : Sheet) → Fits sheet rom rows levels → start_of r ram ports log' ≡ answer_on at (unticked sheet rom l s s.core) s log
+
+-- what `execute` answers of an instruction that is begun
+abbrev pub begun_of : Started → Told
+begun_of o = record { core = o.core; at = o.at; stop = 0 }
 
 -- after STM it doesn't matter by how many cycles a timer is brought forward
 forward-by : (a b : ℕ) (c : Core) → ((c.mark ≡ mark_stm → ⊥) → a ≡ b) → forward a c ≡ forward b c
@@ -113,7 +119,7 @@ forward-by a b c e = go (eqb c.mark mark_stm) refl
     go false q = ap (λ (d : ℕ). forward d c) (e (eqb-false c.mark mark_stm q))
 
 -- where the code stands after an instruction of which `execute` answers r
-abbrev pub stands_after : Standing → Started → (ram ports log : List ℕ) → (h since watch : ℕ) → Standing
+abbrev pub stands_after : Standing → Told → (ram ports log : List ℕ) → (h since watch : ℕ) → Standing
 stands_after p r ram ports log h since watch = record {
   core = set_owed 0 r.core;
   ram = ram;
@@ -287,7 +293,7 @@ module _ {sheet : Sheet} {skips : Bool} {rom sched table rows positions : List �
     outcome : steps_of sheet rom sched c.t ≡ brought_forward (suc late) (unticked sheet rom l here p.core)
     outcome = c.due_is ∙ execute-late sheet rom l c.t p.core late tm ∙ ap (brought_forward (suc late)) same_outcome
 
-    module _ {r : Started} {ram' ports' log' : List ℕ} (a : Answers rom rows levels l here p.at p.log r ram' ports' log') where
+    module _ {r : Told} {ram' ports' log' : List ℕ} (a : Answers rom rows levels l here p.at p.log r ram' ports' log') where
       -- IT ISN'T BEGUN
       record Unbegun : Type 0 where
         stops : within (ordinary sheet) rom sched (length log₀ - p.at) 1 c.t ≡ still c.t (some r.stop)
@@ -332,9 +338,9 @@ module _ {sheet : Sheet} {skips : Bool} {rom sched table rows positions : List �
                     log_is = ap (λ (y : Answer). y.log) z;
                   }
 
-      pub stops_here : (r.stop ≡ 0 → ⊥)
-          → Bursts sheet skips rom sched limit s log₀ at₀ begun₀ (record { stretch = stretch_of r.core p.done p.begun p.at r.stop; late = late }) ram' ports' log'
-      stops_here g =
+      pub stops_here : {x : Option Stop} → number_of x ≡ r.stop → (r.stop ≡ 0 → ⊥)
+          → Bursts sheet skips rom sched limit s log₀ at₀ begun₀ (record { stretch = stretch_of r.core p.done p.begun p.at x; late = late }) ram' ports' log'
+      stops_here same g =
           let o = unbegun g in
           rw o.core_is
           (record {
@@ -343,9 +349,9 @@ module _ {sheet : Sheet} {skips : Bool} {rom sched table rows positions : List �
                 let same_place : p.at ≡ at₀ = omega (arith, c.place, ap length e.1) in
                 record {
                   stops = ap₂ (λ (y : ℕ) (t : State). within (ordinary sheet) rom sched (length log₀ - y) 1 t) (sym same_place) (sym e.0) ∙ o.stops
-                      ∙ ap (λ (t : State). still t (some r.stop)) e.0;
-                  some_number = g;
-                  known = o.known;
+                      ∙ ap (λ (t : State). still t (some r.stop)) e.0 ∙ ap (λ (y : ℕ). still s (some y)) (sym same);
+                  some_number = λ z. g (sym same ∙ z);
+                  known = λ d. subst StopNumber (sym same) (o.known (λ z. d (same ∙ z)));
                   ram_is = o.ram_is ∙ ap (λ (t : State). t.ram) (sym c.parts ∙ e.0);
                   ports_is = o.ports_is ∙ ap (λ (t : State). t.ports) (sym c.parts ∙ e.0);
                   log_is = o.log_is ∙ c.log_is ∙ ap (appended log₀ at₀) e.1 ∙ put_none log₀ at₀;
@@ -679,6 +685,27 @@ pub record Follows (skips : Bool) (rom sched table rows positions : List ℕ) (l
   pub later : q.done ≤ p.done
   pub near_event : Near near p.horizon p.core.interrupt
 
+-- what stays the same, by what the burst asks
+pub setting_of : {sheet : Sheet} {skips : Bool} {rom sched table rows positions : List ℕ} {l : Lines} {limit : ℕ} {s : State} {log : List ℕ} {at begun : ℕ} {first : Core}
+    → Turn sheet skips rom sched table rows positions l limit s log at begun × Due s → first ≡ taken l s.core
+    → Setting sheet skips rom sched table rows positions sheet.levels l limit s log at begun first
+setting_of v e = record { turn = v.0; due = v.1; levels_is = refl; first_is = e }
+
+-- where both loops stand
+pub riding_of : {sheet : Sheet} {skips : Bool} {rom sched table rows positions : List ℕ} {levels : ℕ} {l : Lines} {limit n : ℕ} {ram₀ ports₀ log₀ : List ℕ}
+    {at₀ begun₀ near : ℕ} {first b : Core} {q p : Standing}
+    → Follows skips rom sched table rows positions levels l limit at₀ begun₀ q p near
+    → Rides skips rom sched table rows positions levels l limit n ram₀ ports₀ log₀ at₀ begun₀ first q
+    → Setting sheet skips rom sched table rows positions levels l limit (state_of b ram₀ ports₀ n) log₀ at₀ begun₀ first
+    → Riding sheet skips rom sched l limit (state_of b ram₀ ports₀ n) log₀ at₀ begun₀ p
+riding_of f o k = f.riding k (o.riding _ _ k)
+
+-- what `execute` says of an instruction that is begun
+pub answered : {rom rows : List ℕ} {levels : ℕ} {l : Lines} {s : State} {at : ℕ} {log : List ℕ} (o : Started) {ram ports log' : List ℕ}
+    → ((sheet : Sheet) → Fits sheet rom rows levels → start_of (begun_of o) ram ports log' ≡ answer_on at (unticked sheet rom l s s.core) s log)
+    → Answers rom rows levels l s at log (begun_of o) ram ports log'
+answered o e = record { is = e }
+
 -- before the first of them
 pub follows-none : {skips : Bool} {rom sched table rows positions : List ℕ} {levels : ℕ} {l : Lines} {limit at₀ begun₀ : ℕ} {p : Standing} {near : ℕ}
     → near ≡ nearest_of p.core.interrupt p.horizon → Follows skips rom sched table rows positions levels l limit at₀ begun₀ p p near
@@ -686,7 +713,7 @@ follows-none e = record { riding = λ k y. y; later = omega arith; near_event = 
 
 -- and from p to where an instruction leaves the code
 module _ {skips : Bool} {rom sched table rows positions : List ℕ} {levels : ℕ} {l : Lines} {limit at₀ begun₀ : ℕ} {q p : Standing} {near : ℕ}
-    (f : Follows skips rom sched table rows positions levels l limit at₀ begun₀ q p near) {r : Started} {ram' ports' log' : List ℕ}
+    (f : Follows skips rom sched table rows positions levels l limit at₀ begun₀ q p near) {r : Told} {ram' ports' log' : List ℕ}
     (a : Answers rom rows levels l (state_of p.core p.ram p.ports p.done) p.at p.log r ram' ports' log') (g : r.stop ≡ 0)
     {h' since' watch' : ℕ}
     (moved : Moved (set_owed 0 r.core) (p.done + 1 + r.core.owed) limit skips p.horizon p.since p.watch h' since' watch') where

@@ -16,6 +16,7 @@ use Rattle.upd546.specs.OneMachineCycle.{accepts, accepted, taken, paid, ticked,
 use Rattle.laws.specs.Ordinary.{steps_of}
 use Rattle.laws.proofs.Tails.{put_none}
 use Rattle.upd546.specs.Parts.{with_parts, onward}
+use Rattle.std.specs.Prelude.{None}
 use Rattle.burst.specs.Turn.{Turn, Turned, stretch_of}
 
 module _ {sheet : Sheet} {skips : Bool} {rom sched table rows positions : List ℕ} {l : Lines} {limit : ℕ} {s : State} {log : List ℕ} {at begun : ℕ}
@@ -24,7 +25,7 @@ module _ {sheet : Sheet} {skips : Bool} {rom sched table rows positions : List �
   lines_here = k.lines s.cycle.0 (omega arith) k.ahead
 
   single : (core : Core) → steps_of sheet rom sched s ≡ went (onward 1 s core s.ram s.ports) [] 0
-      → Turned sheet skips rom sched limit s log at begun (stretch_of core (s.cycle.0 + 1) begun at 0) s.ram s.ports log
+      → Turned sheet skips rom sched limit s log at begun (stretch_of core (s.cycle.0 + 1) begun at None) s.ram s.ports log
   single core q = record {
     held = λ n. absurd (n refl);
     went = λ z. record {
@@ -41,7 +42,7 @@ module _ {sheet : Sheet} {skips : Bool} {rom sched table rows positions : List �
   }
 
   pub accepts-turn : accepts s.core ≡ true → {core : Core} → core ≡ ticked (taken l (accepted sheet s.core))
-      → Turned sheet skips rom sched limit s log at begun (stretch_of core (s.cycle.0 + 1) begun at 0) s.ram s.ports log
+      → Turned sheet skips rom sched limit s log at begun (stretch_of core (s.cycle.0 + 1) begun at None) s.ram s.ports log
   unfolding ordinary_cycle
   accepts-turn a e =
       rw e
@@ -53,7 +54,7 @@ module _ {sheet : Sheet} {skips : Bool} {rom sched table rows positions : List �
   owes (suc o) n x = refl
 
   pub owed_turn : accepts s.core ≡ false → (s.core.owed ≡ 0 → ⊥) → {core : Core} → core ≡ ticked (paid (taken l s.core))
-      → Turned sheet skips rom sched limit s log at begun (stretch_of core (s.cycle.0 + 1) begun at 0) s.ram s.ports log
+      → Turned sheet skips rom sched limit s log at begun (stretch_of core (s.cycle.0 + 1) begun at None) s.ram s.ports log
   unfolding ordinary_cycle
   owed_turn a n e =
       rw e

@@ -1,6 +1,9 @@
 -- A turn of the loop: what it asks, and what it comes to. Assumes nothing: these are definitions.
 use Rattle.std.specs.Prelude.{◌≡◌, Bool, true, false, cond, ◌&&◌, List, ◌++◌, ℕ, ◌+◌, ◌-◌, ◌<◌, ◌≤◌, min, eqb, length, take, drop}
 use Rattle.std.proofs.Math.Option.{some}
+use Rattle.std.specs.Prelude.{Option, Some, None}
+use Rattle.runs.specs.declared.Stop.{Stop}
+use Rattle.runs.specs.Numbers.{stop_number}
 use Rattle.runs.specs.Refusals.{cycle_limit}
 use Rattle.runs.specs.TwoRunners.{still, within}
 use Rattle.runs.specs.OneByOne.{OneByOne}
@@ -15,7 +18,7 @@ use Rattle.upd546.specs.TheMachine.{mark_stm}
 use Rattle.upd546.specs.Parts.{set_owed}
 use Rattle.upd546.specs.TheLineSchedule.{lines_at}
 use Rattle.upd546.specs.Timer.{ticks_left}
-use Rattle.upd546.specs.OneMachineCycle.{blocks, accepts}
+use Rattle.upd546.specs.OneMachineCycle.{accepts}
 use Rattle.upd546.specs.TwoRunners.{wait_length}
 use Rattle.laws.specs.Ordinary.{ordinary}
 use Rattle.laws.specs.Burst.{forward}
@@ -110,10 +113,15 @@ pub record Went (sheet : Sheet) (skips : Bool) (rom sched : List ℕ) (limit : �
   pub at_is : at' ≡ at + length w
   pub log_is : log' ≡ appended log at w
 
+-- the number of a stop; 0 where there is none
+abbrev pub number_of : Option Stop → ℕ
+number_of None = 0
+number_of (Some s) = stop_number s
+
 -- what a turn comes to
 pub record Turned (sheet : Sheet) (skips : Bool) (rom sched : List ℕ) (limit : ℕ) (s : State) (log : List ℕ) (at begun : ℕ) (r : Stretch) (ram ports log' : List ℕ) : Type 0 where
-  pub held : (r.stop ≡ 0 → ⊥) → Held sheet rom sched s log at r.stop ram ports log'
-  pub went : r.stop ≡ 0 → Went sheet skips rom sched limit s log at begun r.core r.cycle r.begun r.at ram ports log'
+  pub held : (number_of r.stop ≡ 0 → ⊥) → Held sheet rom sched s log at (number_of r.stop) ram ports log'
+  pub went : number_of r.stop ≡ 0 → Went sheet skips rom sched limit s log at begun r.core r.cycle r.begun r.at ram ports log'
 
 -- a timer that may be brought forward by so many cycles
 pub record Forwards (core : Core) (cycles : ℕ) : Type 0 where
@@ -122,15 +130,15 @@ pub record Forwards (core : Core) (cycles : ℕ) : Type 0 where
 
 -- what a burst comes to: the same, with the timer behind
 pub record Bursts (sheet : Sheet) (skips : Bool) (rom sched : List ℕ) (limit : ℕ) (s : State) (log : List ℕ) (at begun : ℕ) (r : Late) (ram ports log' : List ℕ) : Type 0 where
-  pub held : r.stretch.cycle ≡ s.cycle.0 → Held sheet rom sched s log at r.stretch.stop ram ports log'
+  pub held : r.stretch.cycle ≡ s.cycle.0 → Held sheet rom sched s log at (number_of r.stretch.stop) ram ports log'
   pub went : (r.stretch.cycle ≡ s.cycle.0 → ⊥)
       → Went sheet skips rom sched limit s log at begun (forward r.late r.stretch.core) r.stretch.cycle r.stretch.begun r.stretch.at ram ports log'
   pub forwards : Forwards r.stretch.core r.late
 
-abbrev pub stretch_of : Core → (n begun at stop : ℕ) → Stretch
+abbrev pub stretch_of : Core → (n begun at : ℕ) → Option Stop → Stretch
 stretch_of c n begun at stop = record { core = c; cycle = n; begun = begun; at = at; stop = stop }
 
 -- where a burst ends whose last instruction ends before cycle `done`: at the event h, with the rest owed; the timer was set in cycle
 -- `since`
 abbrev pub ended_at : Core → (done begun at h since : ℕ) → Late
-ended_at c done begun at h since = record { stretch = stretch_of (set_owed (done - h) c) (min done h) begun at 0; late = min done h - since }
+ended_at c done begun at h since = record { stretch = stretch_of (set_owed (done - h) c) (min done h) begun at None; late = min done h - since }

@@ -7,21 +7,19 @@ ghost use Rattle.std.specs.Prelude.{◌≡◌, ◌+◌, ◌≤◌, length};
 ghost use Rattle.upd546.specs.declared.Sheet.{Sheet};
 ghost use Rattle.laws.specs.Burst.{unticked};
 ghost use Rattle.upd546.specs.Parts.{state_of};
-ghost use Rattle.effect.specs.Answer.{answer_on, start_of};
+ghost use Rattle.effect.specs.Answer.{answer_on, start_of, told};
 ghost use Rattle.effect.specs.Endings.{Fits};
 ghost use Rattle.cycle.specs.Ready.{Ready};
 
-use effect::Started;
+use effect::{Chip, Started};
 use instructions::Inputs;
-use tables::{InstructionTable, RowTable};
+use runs::Stop;
 use upd546::{Core, LATCHES, Lines, RAM_WORDS};
 
 // The instruction at PC, with the lines taken, begun in cycle `number`, with the log empty from `at` on. The log is lent whole, so
 // that instructions that write no port needn't work out its rest.
 pub fn execute(
-    rom: &[u8],
-    table: &InstructionTable,
-    rows: &RowTable,
+    chip: Chip,
     c: Core,
     ram: &mut [u8; RAM_WORDS],
     ports: &mut [u8; LATCHES],
@@ -29,15 +27,12 @@ pub fn execute(
     at: usize,
     lines: Lines,
     number: u64,
-    levels: u8,
-) -> Started
-    requires { Ready rom.now table.now rows.now levels lines (state_of c ram.old ports.old number) × (at ≤ length log.old) }
-    ensures { (sheet : Sheet) → Fits sheet rom.now rows.now levels → start_of result ram.new ports.new log.new ≡ answer_on at (unticked sheet rom.now lines (state_of c ram.old ports.old number) c) (state_of c ram.old ports.old number) log.old }
+) -> Result<Started, Stop>
+    requires { Ready chip.rom.now chip.table.now chip.rows.now chip.levels lines (state_of c ram.old ports.old number) × (at ≤ length log.old) }
+    ensures { (sheet : Sheet) → Fits sheet chip.entry.rom.now chip.entry.rows.now chip.entry.levels → start_of (told c at result) ram.new ports.new log.new ≡ answer_on at (unticked sheet chip.entry.rom.now lines (state_of c ram.old ports.old number) c) (state_of c ram.old ports.old number) log.old }
 {
-    let f = fetch::fetch_at(rom, table, c.flow.pc);
-    if f.stop != 0 {
-        return effect::held(c, at, f.stop);
-    }
+    let f = fetch::fetch_at(chip.rom, chip.table, c.flow.pc)?;
+    // `Fetched` isn't handed on whole: its cycles are for the ends alone, and the groups don't read them.
     let g = Inputs {
         core: c,
         after: f.after,
@@ -45,7 +40,5 @@ pub fn execute(
         second: f.second,
         lines,
     };
-    effect::outcome(
-        rom, table, rows, g, f.cycles, ram, ports, log, at, number, levels,
-    )
+    effect::outcome(chip, g, f.cycles, ram, ports, log, at, number)
 }

@@ -146,6 +146,8 @@ pub enum Decoded {
     Ports(Port),
 }
 
+// The rows of NEC's opcode map, a function each. They are alike in form alone: each lists codes of its own, so one function for all would
+// be the same list. `low` is the low half of a code, which only `decode` makes: a type for it would be unpacked in each row.
 // Codes 00 to 0F, by their low half.
 fn row0(low: u8) -> Decoded
     requires { low < 16 }

@@ -16,8 +16,7 @@ use Rattle.upd546.specs.OneMachineCycle.{leaving, on_stop}
 use Rattle.laws.specs.Burst.{owing, started}
 use Rattle.instructions.specs.declared.Inputs.{Inputs}
 use Rattle.instructions.specs.Groups.{given_of}
-use Rattle.effect.specs.declared.Started.{Started}
-use Rattle.effect.specs.Answer.{Answer, start_of, answer_on}
+use Rattle.effect.specs.Answer.{Answer, Told, start_of, answer_on}
 use Rattle.effect.specs.Endings.{effect_on, skip_stop, on_skip, kept_on, outcome_of, Begins, Outputs, EndsAs, EndsOn, EndsWith}
 
 -- what the code stands for
@@ -56,11 +55,11 @@ module _ (sheet : Sheet) (rom : List ℕ) (at : ℕ) (g : Inputs) (ram ports : L
       go (suc k) = refl
 
   module _ {i : Instruction} (named : i ≡ instruction g.code) where
-    pub on_answers : {d : Started} {ram' : List ℕ} → EndsOn sheet rom at i g ram ports d ram' → start_of d ram' ports log ≡ answer_of (instruction g.code)
+    pub on_answers : {d : Told} {ram' : List ℕ} → EndsOn sheet rom at i g ram ports d ram' → start_of d ram' ports log ≡ answer_of (instruction g.code)
     on_answers e = (λ j. start_of (e.is j) (e.ram_is j) ports log) ∙ quiet_answer i e.no_writes ∙ ap answer_of named
 
     -- the RAM is as it was where the word is stored back
-    pub as_answers : {d : Started} → ((word : ℕ) (ports : List ℕ) → EndsAs sheet rom at i g word ports d) → start_of d ram ports log ≡ answer_of (instruction g.code)
+    pub as_answers : {d : Told} → ((word : ℕ) (ports : List ℕ) → EndsAs sheet rom at i g word ports d) → start_of d ram ports log ≡ answer_of (instruction g.code)
     as_answers f =
         let e = f (word_at sheet ram (i.address g.core)) ports in
         on_answers (record { is = e.is; ram_is = kept (skip_stop sheet (effect_on sheet i g ram ports)) ∙ ap (λ (w : ℕ). kept_on (skip_stop sheet (effect_on sheet i g ram ports)) sheet ram (i.address g.core) w) (sym e.word_is); no_writes = e.no_writes })
@@ -69,7 +68,7 @@ module _ (sheet : Sheet) (rom : List ℕ) (at : ℕ) (g : Inputs) (ram ports : L
         kept zero = sym (set-get_or ram (place_in sheet (i.address g.core)) 0)
         kept (suc k) = refl
 
-    pub with_answers : {d : Started} {ports' log' : List ℕ} → ((word : ℕ) (ram : List ℕ) → EndsWith sheet rom at i g word n ram ports log d ports' log')
+    pub with_answers : {d : Told} {ports' log' : List ℕ} → ((word : ℕ) (ram : List ℕ) → EndsWith sheet rom at i g word n ram ports log d ports' log')
         → start_of d ram ports' log' ≡ answer_of (instruction g.code)
     with_answers f =
         let a = i.address g.core in

@@ -15,8 +15,7 @@ use Rattle.laws.specs.Valid.{Scalars, ValidPorts, ValidRam}
 use Rattle.laws.specs.Writes.{All, ValidWrite}
 use Rattle.instructions.specs.declared.Inputs.{Inputs}
 use Rattle.instructions.specs.Groups.{given_of}
-use Rattle.effect.specs.declared.Started.{Started}
-use Rattle.effect.specs.Answer.{Answer, start_of, held_back, answer_on}
+use Rattle.effect.specs.Answer.{Told, start_of, held_back, answer_on}
 
 -- what a group asks of the instruction i that is begun at the core c
 pub record Begins (table : List ℕ) (cycles : ℕ) (i : Instruction) (c : Core) : Type 0 where
@@ -45,11 +44,11 @@ abbrev pub skip_stop : Sheet → Effect → ℕ
 skip_stop sheet e = cond e.skip (needs sheet e.core.flow.pc) 0
 
 -- an instruction that writes no port: held back by what it skips, or begun
-abbrev pub on_skip : ℕ → List ℕ → (at : ℕ) → Instruction → Core → Effect → Started
+abbrev pub on_skip : ℕ → List ℕ → (at : ℕ) → Instruction → Core → Effect → Told
 on_skip zero rom at i c e = record { core = owing rom i e; at = at; stop = 0 }
 on_skip (suc k) rom at i c e = held_back c at (suc k)
 
-abbrev pub ended : Sheet → List ℕ → (at : ℕ) → Instruction → Core → Effect → Started
+abbrev pub ended : Sheet → List ℕ → (at : ℕ) → Instruction → Core → Effect → Told
 ended sheet rom at i c e = on_skip (skip_stop sheet e) rom at i c e
 
 -- and its RAM, if it works on a word of it
@@ -58,13 +57,13 @@ kept_on zero sheet ram address word = with_word sheet ram address word
 kept_on (suc k) sheet ram address word = ram
 
 -- a group that touches neither the RAM nor a port
-pub record EndsAs (sheet : Sheet) (rom : List ℕ) (at : ℕ) (i : Instruction) (g : Inputs) (word : ℕ) (ports : List ℕ) (d : Started) : Type 0 where
+pub record EndsAs (sheet : Sheet) (rom : List ℕ) (at : ℕ) (i : Instruction) (g : Inputs) (word : ℕ) (ports : List ℕ) (d : Told) : Type 0 where
   pub is : d ≡ ended sheet rom at i g.core (effect_of sheet i g word ports)
   pub word_is : (effect_of sheet i g word ports).word ≡ word
   pub no_writes : (effect_of sheet i g word ports).writes ≡ []
 
 -- a group that works on a RAM word
-pub record EndsOn (sheet : Sheet) (rom : List ℕ) (at : ℕ) (i : Instruction) (g : Inputs) (ram ports : List ℕ) (d : Started) (ram' : List ℕ) : Type 0 where
+pub record EndsOn (sheet : Sheet) (rom : List ℕ) (at : ℕ) (i : Instruction) (g : Inputs) (ram ports : List ℕ) (d : Told) (ram' : List ℕ) : Type 0 where
   pub is : d ≡ ended sheet rom at i g.core (effect_on sheet i g ram ports)
   pub ram_is : ram' ≡ kept_on (skip_stop sheet (effect_on sheet i g ram ports)) sheet ram (i.address g.core) (effect_on sheet i g ram ports).word
   pub no_writes : (effect_on sheet i g ram ports).writes ≡ []
@@ -80,7 +79,7 @@ abbrev pub port_outcome : Sheet → List ℕ → Instruction → Effect → Stat
 port_outcome sheet rom i e s = on_stop (skip_stop sheet e) (leaving e (owing rom i e) s.ram s)
 
 -- a group that reads and writes ports in cycle n
-pub record EndsWith (sheet : Sheet) (rom : List ℕ) (at : ℕ) (i : Instruction) (g : Inputs) (word n : ℕ) (ram ports log : List ℕ) (d : Started) (ports' log' : List ℕ) : Type 0 where
+pub record EndsWith (sheet : Sheet) (rom : List ℕ) (at : ℕ) (i : Instruction) (g : Inputs) (word n : ℕ) (ram ports log : List ℕ) (d : Told) (ports' log' : List ℕ) : Type 0 where
   pub is : start_of d ram ports' log' ≡ answer_on at (port_outcome sheet rom i (effect_of sheet i g word ports) (state_of g.core ram ports n)) (state_of g.core ram ports n) log
   pub word_is : (effect_of sheet i g word ports).word ≡ word
 
@@ -106,7 +105,7 @@ pub record Fits (sheet : Sheet) (rom rows : List ℕ) (levels : ℕ) : Type 0 wh
   pub rows_is : rows ≡ row_table sheet
   pub levels_is : sheet.levels ≡ levels
 
-abbrev pub ComesTo : Sheet → (rom : List ℕ) (g : Inputs) (ram ports log : List ℕ) (at n : ℕ) → Started → (ram' ports' log' : List ℕ) → Type 0
+abbrev pub ComesTo : Sheet → (rom : List ℕ) (g : Inputs) (ram ports log : List ℕ) (at n : ℕ) → Told → (ram' ports' log' : List ℕ) → Type 0
 ComesTo sheet rom g ram ports log at n r ram' ports' log' =
     let s = state_of g.core ram ports n in
     start_of r ram' ports' log' ≡ answer_on at (outcome_of sheet rom (instruction g.code) g s) s log

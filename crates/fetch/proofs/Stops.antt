@@ -1,10 +1,10 @@
 -- Why an instruction can't be begun, case by case, and what is fetched. Assumes nothing.
-use mathlib.Core.Path.{◌≡◌, ◌∙◌, sym, ap}
+use mathlib.Core.Path.{◌≡◌, ◌∙◌, refl, sym, ap}
 use mathlib.Core.Bool.{true, false}
 use mathlib.Core.List.{List}
-use Prim.Native.Nat.{ℕ, suc, ◌<◌, ◌≤◌}
-use native.Mathlib.Omega.{arith}
-use lib.ListN.{length}
+use Prim.Native.Nat.{ℕ, ◌<◌, ◌≤◌}
+use Rattle.std.specs.Prelude.{length, Ok, Err}
+use Rattle.runs.specs.declared.Stop.TheVariants.{RomEnd, NoInstruction}
 use borrow.Author.Tests.{lt-ltb, le-ltb}
 use Rattle.runs.specs.Refusals.{first_of}
 use Rattle.upd546.specs.declared.Sheet.{Sheet}
@@ -16,7 +16,7 @@ use Rattle.tables.specs.Tables.{size_of}
 use Rattle.laws.proofs.Instructions.{keeps}
 use Rattle.fetch.specs.declared.Fetched.{Fetched}
 use Rattle.fetch.specs.declared.Passed.{Passed}
-use Rattle.fetch.specs.Fetching.{instruction_at, fetch_stop, held_fetch, FetchedAs, held_pass, PassedAs}
+use Rattle.fetch.specs.Fetching.{instruction_at, fetch_stop, FetchedAs, PassedAs}
 
 -- a byte that is there, and one that isn't
 module _ (sheet : Sheet) (rom : List ℕ) (same : sheet.rom ≡ length rom) (a : ℕ) where
@@ -38,65 +38,55 @@ bytes_at rom pc = ((keeps (byte_at rom pc)).one_byte, (keeps (byte_at rom pc)).t
 
 -- FETCHING
 
-stops : (sheet : Sheet) (rom : List ℕ) (pc k : ℕ) (f : Fetched) → f ≡ held_fetch (suc k) → fetch_stop sheet rom pc ≡ suc k → FetchedAs sheet rom pc f
-stops sheet rom pc k f e q =
-    let number : f.stop ≡ suc k = ap (λ (x : Fetched). x.stop) e in
-    record { stop = number ∙ sym q; begins = λ z. absurd (omega arith); held = λ n. e ∙ ap held_fetch (sym number) }
-
-module _ (sheet : Sheet) (rom : List ℕ) (same : sheet.rom ≡ length rom) (pc : ℕ) (f : Fetched) where
-  pub stops_past : length rom ≤ pc → f ≡ held_fetch 22 → FetchedAs sheet rom pc f
+module _ (sheet : Sheet) (rom : List ℕ) (same : sheet.rom ≡ length rom) (pc : ℕ) where
+  pub stops_past : length rom ≤ pc → FetchedAs sheet rom pc (Err RomEnd)
   unfolding fetch_stop first_of
-  stops_past h e = stops sheet rom pc 21 f e (rw (needs_22 sheet rom same pc h))
+  stops_past h = record { stop = sym (rw (needs_22 sheet rom same pc h)); begins = tt }
 
   module _ (h : pc < length rom) where
-    pub stops_none : (instruction_at rom pc).cycles ≡ 0 → f ≡ held_fetch 23 → FetchedAs sheet rom pc f
+    pub stops_none : (instruction_at rom pc).cycles ≡ 0 → FetchedAs sheet rom pc (Err NoInstruction)
     unfolding fetch_stop first_of
-    stops_none z e = stops sheet rom pc 22 f e (rw (needs_none sheet rom same pc h, z))
+    stops_none z = record { stop = sym (rw (needs_none sheet rom same pc h, z)); begins = tt }
 
     module _ (p : 0 < (instruction_at rom pc).cycles) where
       -- an instruction of one byte
-      pub begins_one : (instruction_at rom pc).bytes ≡ 1 → f.stop ≡ 0 → f.code ≡ byte_at rom pc → f.second ≡ 0 → f.after ≡ follows pc
-          → f.cycles ≡ (instruction_at rom pc).cycles → FetchedAs sheet rom pc f
+      pub begins_one : {f : Fetched} → (instruction_at rom pc).bytes ≡ 1 → f.code ≡ byte_at rom pc → f.second ≡ 0 → f.after ≡ follows pc
+          → f.cycles ≡ (instruction_at rom pc).cycles → FetchedAs sheet rom pc (Ok f)
       unfolding fetch_stop first_of past
-      begins_one b e c s a k =
+      begins_one b c s a k =
           record {
-            stop = e ∙ sym (rw (needs_none sheet rom same pc h, lt-ltb 0 (instruction_at rom pc).cycles p, b));
-            begins = λ z. record { code = c; second = rw b s; after = rw b a; cycles = k };
-            held = λ n. absurd (n e);
+            stop = sym (rw (needs_none sheet rom same pc h, lt-ltb 0 (instruction_at rom pc).cycles p, b));
+            begins = record { code = c; second = rw b s; after = rw b a; cycles = k };
           }
 
       -- one whose second byte isn't there
-      pub stops_second : (instruction_at rom pc).bytes ≡ 2 → length rom ≤ follows pc → f ≡ held_fetch 22 → FetchedAs sheet rom pc f
+      pub stops_second : (instruction_at rom pc).bytes ≡ 2 → length rom ≤ follows pc → FetchedAs sheet rom pc (Err RomEnd)
       unfolding fetch_stop first_of
-      stops_second b g e = stops sheet rom pc 21 f e (rw (needs_none sheet rom same pc h, lt-ltb 0 (instruction_at rom pc).cycles p, b, needs_22 sheet rom same (follows pc) g))
+      stops_second b g =
+          record {
+            stop = sym (rw (needs_none sheet rom same pc h, lt-ltb 0 (instruction_at rom pc).cycles p, b, needs_22 sheet rom same (follows pc) g));
+            begins = tt;
+          }
 
       -- an instruction of two bytes
-      pub begins_two : (instruction_at rom pc).bytes ≡ 2 → follows pc < length rom → f.stop ≡ 0 → f.code ≡ byte_at rom pc → f.second ≡ byte_at rom (follows pc)
-          → f.after ≡ follows (follows pc) → f.cycles ≡ (instruction_at rom pc).cycles → FetchedAs sheet rom pc f
+      pub begins_two : {f : Fetched} → (instruction_at rom pc).bytes ≡ 2 → follows pc < length rom → f.code ≡ byte_at rom pc → f.second ≡ byte_at rom (follows pc)
+          → f.after ≡ follows (follows pc) → f.cycles ≡ (instruction_at rom pc).cycles → FetchedAs sheet rom pc (Ok f)
       unfolding fetch_stop first_of past
-      begins_two b g e c s a k =
+      begins_two b g c s a k =
           record {
-            stop = e ∙ sym (rw (needs_none sheet rom same pc h, lt-ltb 0 (instruction_at rom pc).cycles p, b, needs_none sheet rom same (follows pc) g));
-            begins = λ z. record { code = c; second = rw b s; after = rw b a; cycles = k };
-            held = λ n. absurd (n e);
+            stop = sym (rw (needs_none sheet rom same pc h, lt-ltb 0 (instruction_at rom pc).cycles p, b, needs_none sheet rom same (follows pc) g));
+            begins = record { code = c; second = rw b s; after = rw b a; cycles = k };
           }
 
 -- PASSING OVER
 
-module _ (sheet : Sheet) (rom : List ℕ) (same : sheet.rom ≡ length rom) (to : ℕ) (p : Passed) where
-  pub passes_none : p.stop ≡ 0 → p.pc ≡ to → p.over ≡ 0 → PassedAs sheet rom false to p
+module _ (sheet : Sheet) (rom : List ℕ) (same : sheet.rom ≡ length rom) (to : ℕ) where
+  pub passes_none : {p : Passed} → p.pc ≡ to → p.over ≡ 0 → PassedAs sheet rom false to (Ok p)
   unfolding past
-  passes_none e q o = record { stop = e; over = λ z. o; pc = λ z. rw o q; held = λ n. absurd (n e) }
+  passes_none q o = record { stop = refl; over = o; pc = rw o q }
 
-  pub passes_past : length rom ≤ to → p ≡ held_pass 22 → PassedAs sheet rom true to p
-  passes_past h e =
-      let number : p.stop ≡ 22 = ap (λ (x : Passed). x.stop) e in
-      record {
-        stop = number ∙ sym (needs_22 sheet rom same to h);
-        over = λ z. absurd (omega arith);
-        pc = λ z. absurd (omega arith);
-        held = λ n. e ∙ ap held_pass (sym number);
-      }
+  pub passes_past : length rom ≤ to → PassedAs sheet rom true to (Err RomEnd)
+  passes_past h = record { stop = sym (needs_22 sheet rom same to h); over = tt; pc = tt }
 
-  pub passes_one : to < length rom → p.stop ≡ 0 → p.over ≡ (instruction_at rom to).bytes → p.pc ≡ past p.over to → PassedAs sheet rom true to p
-  passes_one h e o q = record { stop = e ∙ sym (needs_none sheet rom same to h); over = λ z. o; pc = λ z. q; held = λ n. absurd (n e) }
+  pub passes_one : {p : Passed} → to < length rom → p.over ≡ (instruction_at rom to).bytes → p.pc ≡ past p.over to → PassedAs sheet rom true to (Ok p)
+  passes_one h o q = record { stop = sym (needs_none sheet rom same to h); over = o; pc = q }

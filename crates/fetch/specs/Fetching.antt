@@ -1,5 +1,7 @@
 -- What is fetched and passed over, in the terms of the machine cycle's definitions. Assumes nothing: these are definitions.
-use Rattle.std.specs.Prelude.{ℕ, ◌≡◌, Bool, cond, List, [], ◌∷◌, eqb, ltb}
+use Rattle.std.specs.Prelude.{ℕ, ◌≡◌, Bool, cond, List, [], ◌∷◌, Result, Ok, Err, IfOk, eqb, ltb}
+use Rattle.runs.specs.declared.Stop.{Stop}
+use Rattle.runs.specs.Numbers.{stop_number}
 use Rattle.runs.specs.Refusals.{first_of, unless}
 use Rattle.upd546.specs.declared.Sheet.{Sheet}
 use Rattle.upd546.specs.TheMachine.{byte_at, follows, past}
@@ -27,21 +29,17 @@ pub record Begins (rom : List ℕ) (pc : ℕ) (f : Fetched) : Type 0 where
   pub after : f.after ≡ past (instruction_at rom pc).bytes pc
   pub cycles : f.cycles ≡ (instruction_at rom pc).cycles
 
--- what is answered where it can't be: the number, and nothing else
-abbrev pub held_fetch : ℕ → Fetched
-held_fetch k = record { after = 0; stop = k; code = 0; second = 0; cycles = 0 }
+-- the number of the stop that is answered; 0 where none is
+abbrev pub stop_in : {A : Type 0} → Result A Stop → ℕ
+stop_in (Ok a) = 0
+stop_in (Err s) = stop_number s
 
-pub record FetchedAs (sheet : Sheet) (rom : List ℕ) (pc : ℕ) (f : Fetched) : Type 0 where
-  pub stop : f.stop ≡ fetch_stop sheet rom pc
-  pub begins : f.stop ≡ 0 → Begins rom pc f
-  pub held : (f.stop ≡ 0 → ⊥) → f ≡ held_fetch f.stop
+pub record FetchedAs (sheet : Sheet) (rom : List ℕ) (pc : ℕ) (r : Result Fetched Stop) : Type 0 where
+  pub stop : stop_in r ≡ fetch_stop sheet rom pc
+  pub begins : IfOk r (Begins rom pc)
 
 -- likewise of a skip
-abbrev pub held_pass : ℕ → Passed
-held_pass k = record { stop = k; pc = 0; over = 0 }
-
-pub record PassedAs (sheet : Sheet) (rom : List ℕ) (skip : Bool) (to : ℕ) (p : Passed) : Type 0 where
-  pub stop : p.stop ≡ cond skip (needs sheet to) 0
-  pub over : p.stop ≡ 0 → p.over ≡ cond skip (instruction_at rom to).bytes 0
-  pub pc : p.stop ≡ 0 → p.pc ≡ past p.over to
-  pub held : (p.stop ≡ 0 → ⊥) → p ≡ held_pass p.stop
+pub record PassedAs (sheet : Sheet) (rom : List ℕ) (skip : Bool) (to : ℕ) (r : Result Passed Stop) : Type 0 where
+  pub stop : stop_in r ≡ cond skip (needs sheet to) 0
+  pub over : IfOk r (λ (p : Passed). p.over ≡ cond skip (instruction_at rom to).bytes 0)
+  pub pc : IfOk r (λ (p : Passed). p.pc ≡ past p.over to)

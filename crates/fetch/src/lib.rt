@@ -7,25 +7,23 @@ ghost use Rattle.std.specs.Prelude.{◌≡◌, ◌<◌, ◌≤◌, length};
 ghost use Rattle.upd546.specs.declared.Sheet.{Sheet};
 ghost use Rattle.upd546.specs.TheMachine.{byte_at, past};
 ghost use Rattle.tables.specs.Tables.{instruction_table};
-ghost use Rattle.fetch.specs.Fetching.{held_fetch, FetchedAs, PassedAs};
+ghost use Rattle.fetch.specs.Fetching.{FetchedAs, PassedAs};
 
+use runs::Stop;
 use tables::InstructionTable;
 
-// The instruction at an address: its code and second byte (0: it has none), the address after it, its base cycles; or `stop`,
-// the number why it can't be begun (22 or 23; 0: it can).
+// The instruction at an address: its code and second byte (0: it has none), the address after it, its base cycles.
 #[derive(Clone, Copy)]
 pub struct Fetched {
     pub after: u16,
-    pub stop: u8,
     pub code: u8,
     pub second: u8,
     pub cycles: u8,
 }
 
-// Where a skip leads and how many bytes it passes over; or `stop`.
+// Where a skip leads and how many bytes it passes over.
 #[derive(Clone, Copy)]
 pub struct Passed {
-    pub stop: u8,
     pub pc: u16,
     pub over: u8,
 }
@@ -62,75 +60,53 @@ fn past_bytes(bytes: u8, a: u16) -> u16
     steps::follows(next)
 }
 
-fn stopped(stop: u8) -> Fetched
-    ensures { result ≡ held_fetch stop }
-{
-    Fetched {
-        stop,
-        code: 0,
-        second: 0,
-        after: 0,
-        cycles: 0,
-    }
-}
-
-pub fn fetch_at(rom: &[u8], table: &InstructionTable, pc: u16) -> Fetched
+// The instruction at PC, or why it can't be begun: RomEnd or NoInstruction.
+pub fn fetch_at(rom: &[u8], table: &InstructionTable, pc: u16) -> Result<Fetched, Stop>
     requires { table.now ≡ instruction_table }
     ensures { (sheet : Sheet) → sheet.rom ≡ length rom.now → FetchedAs sheet rom.now pc result }
 {
     if rom.len() <= pc as usize {
-        return stopped(22);
+        return Err(Stop::RomEnd);
     }
     let code = byte_in(rom, pc);
     let size = tables::size_of(table, code);
     if size.cycles == 0 {
-        return stopped(23);
+        return Err(Stop::NoInstruction);
     }
     let next = steps::follows(pc);
     if size.bytes < 2 {
-        return Fetched {
-            stop: 0,
+        return Ok(Fetched {
+            after: next,
             code,
             second: 0,
-            after: next,
             cycles: size.cycles,
-        };
+        });
     }
     if rom.len() <= next as usize {
-        return stopped(22);
+        return Err(Stop::RomEnd);
     }
-    Fetched {
-        stop: 0,
+    Ok(Fetched {
+        after: steps::follows(next),
         code,
         second: byte_in(rom, next),
-        after: steps::follows(next),
         cycles: size.cycles,
-    }
+    })
 }
 
-// A skip passes over the instruction at `to`, and only its first byte is read.
-pub fn pass_over(rom: &[u8], table: &InstructionTable, skip: bool, to: u16) -> Passed
+// A skip passes over the instruction at `to`, and only its first byte is read: where that is past the ROM, it stops.
+pub fn pass_over(rom: &[u8], table: &InstructionTable, skip: bool, to: u16) -> Result<Passed, Stop>
     requires { table.now ≡ instruction_table }
     ensures { (sheet : Sheet) → sheet.rom ≡ length rom.now → PassedAs sheet rom.now skip to result }
 {
     if !skip {
-        return Passed {
-            stop: 0,
-            pc: to,
-            over: 0,
-        };
+        return Ok(Passed { pc: to, over: 0 });
     }
     if rom.len() <= to as usize {
-        return Passed {
-            stop: 22,
-            pc: 0,
-            over: 0,
-        };
+        return Err(Stop::RomEnd);
     }
     let size = tables::size_of(table, byte_in(rom, to));
-    Passed {
-        stop: 0,
+    Ok(Passed {
         pc: past_bytes(size.bytes, to),
         over: size.bytes,
-    }
+    })
 }

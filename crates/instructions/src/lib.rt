@@ -23,7 +23,8 @@ use upd546::{
     PORT_I, STACK_DEPTH, Timer,
 };
 
-// What an instruction is given besides the RAM and the latches.
+// What an instruction is given besides the RAM and the latches. That its core keeps the chip's widths (`Scalars`) stays a clause of the
+// groups, and so does that a word is below 16: a state that is wider is lawful to give, and refused with 34 (`fields::check`).
 #[derive(Clone, Copy)]
 pub struct Inputs {
     pub core: Core,
@@ -49,6 +50,7 @@ pub struct Summed {
     pub skip: bool,
 }
 
+// `mark` here and in `Controlled` is the core's and no enum: it is a byte of the state's image, and above 4 it is refused with 34.
 #[derive(Clone, Copy)]
 pub struct Moved {
     pub acc: u8,
@@ -113,7 +115,7 @@ pub struct Output {
     pub value: u8,
 }
 
-// Bit b of x.
+// Bit b of x. A type for b below 4 would be no plainer: each caller has it as `code % 4`, and each use takes a number.
 fn bit(x: u8, b: u8) -> u8
     requires { b < 4 }
     ensures { result ≡ bit_at x b }
@@ -264,6 +266,7 @@ pub fn sum_group(op: Sum, g: Inputs, word: u8) -> Summed
     }
 }
 
+// It and `pointer_left` differ in what goes with the registers, the mark or the RAM word; made generic they wouldn't say which.
 fn move_left(acc: u8, dph: u8, dpl: u8, mark: u8, skip: bool) -> Moved
     ensures { result ≡ record { acc = acc; dph = dph; dpl = dpl; mark = mark; skip = skip } }
 {

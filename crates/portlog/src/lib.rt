@@ -4,6 +4,7 @@
 #![tactic(auto)]
 
 ghost use Rattle.std.specs.Prelude.{◌≡◌, ◌++◌, ℕ, ◌-◌, ◌*◌, ◌≤◌, length, drop, set};
+ghost use Rattle.upd546.specs.Bytes.{bytes_of};
 ghost use Rattle.upd546.specs.Ports.{port_c, port_i, reset_record, log_record, log_record_length, log_bytes};
 ghost use Rattle.laws.specs.Writes.{All, ValidWrite};
 ghost use Rattle.portlog.specs.Appending.{writes_of, Written};
@@ -11,6 +12,7 @@ ghost use Rattle.portlog.specs.Appending.{writes_of, Written};
 use upd546::{LATCHES, LOG_RECORD, PORT_C, PORT_D, PORT_RESET};
 
 // What stands for a port where C and D are written, from the halves of a value, and where none is: no port has these numbers.
+// They are numbers beside the ports', and not an Option or an enum, since `writes_of` in the clauses of `room` and `output` reads them.
 pub const PORTS_C_AND_D: u8 = 9;
 
 pub const NO_PORT: u8 = 10;
@@ -18,12 +20,26 @@ pub const NO_PORT: u8 = 10;
 // OCD appends two records.
 const OCD_LENGTH: usize = 2 * LOG_RECORD;
 
+// The six bytes of a cycle number. They are written out, and not by `big_endian::put_number`: with that in the loop of a run a short wait
+// takes 12.7 machine instructions a cycle, 1.452 of what Rust's takes, above the limit of 1.45 (docs/MEASUREMENTS.md).
+fn put_cycle(log: &mut [u8], n: u64)
+    requires { 6 ≤ length log.old }
+    ensures { log.new ≡ bytes_of 6 n ++ drop 6 log.old }
+{
+    log[0] = (n / 1099511627776 % 256) as u8;
+    log[1] = (n / 4294967296 % 256) as u8;
+    log[2] = (n / 16777216 % 256) as u8;
+    log[3] = (n / 65536 % 256) as u8;
+    log[4] = (n / 256 % 256) as u8;
+    log[5] = (n % 256) as u8;
+}
+
 // One record, at the front of the part of the log that is still empty.
 fn put_record(log: &mut [u8], n: u64, port: u8, value: u8)
     requires { log_record_length ≤ length log.old }
     ensures { log.new ≡ log_record n (record { port = port; value = value }) ++ drop log_record_length log.old }
 {
-    big_endian::put_six(log, n);
+    put_cycle(log, n);
     log[6] = port;
     log[7] = value;
 }

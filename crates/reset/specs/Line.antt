@@ -1,5 +1,5 @@
 -- What looking at the reset line comes to. Assumes nothing: these are definitions.
-use Rattle.std.specs.Prelude.{ℕ, ◌+◌, ◌-◌, Bool, true, false, cond, List, ◌++◌, eqb, leb, length, take, drop, replicate}
+use Rattle.std.specs.Prelude.{ℕ, ◌+◌, ◌-◌, Bool, true, false, Option, Some, None, cond, List, ◌++◌, eqb, leb, length, take, drop, replicate}
 use Rattle.upd546.specs.declared.Core.{Core}
 use Rattle.upd546.specs.declared.Lines.{Lines}
 use Rattle.upd546.specs.TheMachine.{latches, reset_count}
@@ -26,9 +26,11 @@ pub record Seen : Type 0 where
   pub ports : List ℕ
   pub log : List ℕ
 
-abbrev pub seen_of : Looked → (ports log : List ℕ) → Seen
-seen_of r ports log = record {
-  full = r.full;
+-- where the log is full, the core, its place, the cycle, the limit and the count are those before
+abbrev pub seen_of : Core → (at n limit count : ℕ) → Option Looked → (ports log : List ℕ) → Seen
+seen_of core at n limit count None ports log = record { full = true; core = core; at = at; number = n; limit = limit; count = count; ports = ports; log = log }
+seen_of core at n limit count (Some r) ports log = record {
+  full = false;
   core = r.core;
   at = r.at;
   number = r.number;

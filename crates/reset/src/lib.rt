@@ -4,16 +4,15 @@
 
 ghost use Rattle.std.specs.Prelude.{◌≡◌, ◌+◌, ◌<◌, ◌≤◌, length, replicate};
 ghost use Rattle.upd546.specs.TheMachine.{latches};
-ghost use Rattle.upd546.specs.OneMachineCycle.{counted as countedOf, cleared as clearedOf};
+ghost use Rattle.upd546.specs.OneMachineCycle.{counted, cleared};
 ghost use Rattle.reset.specs.Line.{records, appended, seen_of, looked_at};
 
 use upd546::{Core, LATCHES, LOG_RECORD, Lines, MARK_OTHER, RESET_COUNT, Timer};
 
 // Where a run stands once the line was looked at: the next cycle, the limit up to which lines and count stay, and the count after
-// the next cycle. `full`: the log lacks the bytes of a reset's record, and all is as it was.
+// the next cycle.
 #[derive(Clone, Copy)]
 pub struct Looked {
-    pub full: bool,
     pub core: Core,
     pub at: usize,
     pub number: u64,
@@ -23,7 +22,7 @@ pub struct Looked {
 
 // The count after a cycle with this RES: how many cycles it has been high, at most 4.
 fn counted(res: u8, count: u8) -> u8
-    ensures { result ≡ countedOf res count }
+    ensures { result ≡ counted res count }
 {
     if res == 0 {
         return 0;
@@ -36,7 +35,7 @@ fn counted(res: u8, count: u8) -> u8
 
 // What a reset leaves of a core, once the lines are taken: registers, stack and the INT level.
 fn cleared(c: Core) -> Core
-    ensures { result ≡ clearedOf c }
+    ensures { result ≡ cleared c }
 {
     let stopped = Timer {
         tm: 0,
@@ -72,7 +71,8 @@ fn recorded(log: &mut [u8], at: usize, n: u64, count: u8) -> usize
 }
 
 // Looks at RES before cycle n. A reset cycle that finds the count at 4 changes nothing more, so all of them up to the limit are
-// done at once; any other cycle is alone, as the count changes with it.
+// done at once; any other cycle is alone, as the count changes with it. None: the log lacks the bytes of a reset's record, and all is
+// as it was.
 pub fn look(
     before: Core,
     ports: &mut [u8; LATCHES],
@@ -82,40 +82,31 @@ pub fn look(
     n: u64,
     limit: u64,
     count: u8,
-) -> Looked
+) -> Option<Looked>
     requires { (n < limit) × (at ≤ length log.old) }
-    ensures { seen_of result ports.new log.new ≡ looked_at before ports.old log.old at lines n limit count }
+    ensures { seen_of before at n limit count result ports.new log.new ≡ looked_at before ports.old log.old at lines n limit count }
 {
     let after = counted(lines.res, count);
     if after != RESET_COUNT {
-        return Looked {
-            full: false,
+        return Some(Looked {
             core: before,
             at,
             number: n,
             limit: n + 1,
             count: after,
-        };
+        });
     }
     if (count != RESET_COUNT) & (log.len() - at < LOG_RECORD) {
-        return Looked {
-            full: true,
-            core: before,
-            at,
-            number: n,
-            limit,
-            count,
-        };
+        return None;
     }
     let end = recorded(log, at, n, count);
     clear(ports);
     let core = cleared(steps::taken(lines, before));
-    Looked {
-        full: false,
+    Some(Looked {
         core,
         at: end,
         number: limit,
         limit,
         count: after,
-    }
+    })
 }

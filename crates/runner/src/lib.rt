@@ -7,33 +7,31 @@ ghost use Rattle.runs.specs.TwoRunners.{refused_run, run_number, plain, skipping
 ghost use Rattle.upd546.specs.TwoRunners.{chip, answer_of};
 ghost use Rattle.turns.specs.Either.{run_by};
 
-use runs::{ClockCycles, MachineCycles, Outcome, Refusal, RunEnd};
+use burst::Panel;
+use runs::{ClockCycles, MachineCycles, Refusal, RunEnd};
 use upd546::{RunAnswer, Sheet, State};
 
 // What refuses a run: 71, then 21, then the schedule, then the state, then 2.
-fn refusal(rom: &[u8], sched: &[u8], s: State, n: MachineCycles, sheet: Sheet) -> Outcome
+fn refusal(
+    rom: &[u8],
+    sched: &[u8],
+    s: State,
+    n: MachineCycles,
+    sheet: Sheet,
+) -> Result<(), Refusal>
     ensures { outcome_number result ≡ run_number (chip sheet) rom.now sched.now s n.0 }
 {
-    let by_sheet = fields::check_sheet(sheet);
-    if runs::outcome_number(by_sheet) != 0 {
-        return by_sheet;
-    }
+    fields::check_sheet(sheet)?;
     if rom.len() as u64 != sheet.rom {
-        return Outcome::Refused(Refusal::RomLength);
+        return Err(Refusal::RomLength);
     }
-    let by_schedule = schedule::check(sched);
-    if runs::outcome_number(by_schedule) != 0 {
-        return by_schedule;
-    }
-    let by_fields = fields::check(s, sheet);
-    if runs::outcome_number(by_fields) != 0 {
-        return by_fields;
-    }
+    schedule::check(sched)?;
+    fields::check(s, sheet)?;
     let cycle = s.cycle;
     if fields::within_limit(cycle, n) {
-        return Outcome::Done;
+        return Ok(());
     }
-    Outcome::Refused(Refusal::CycleLimit)
+    Err(Refusal::CycleLimit)
 }
 
 // The cycles of a run that isn't refused, by either runner. The tables are made once in a run.
@@ -54,9 +52,17 @@ fn run_accepted(
     let positions = tables::position_table();
     let registers = tables::register_table();
     let first = schedule::start(sched, s.cycle);
-    turns::run_loop(
-        rom, sched, &table, &rows, &positions, &registers, s, first, log, n, skips, sheet,
-    )
+    let panel = Panel {
+        rom,
+        sched,
+        table: &table,
+        rows: &rows,
+        positions: &positions,
+        registers: &registers,
+        skips,
+        sheet,
+    };
+    turns::run_loop(panel, s, first, log, n)
 }
 
 // The answer of a refused run: the state given, and all counts 0.
@@ -74,7 +80,9 @@ pub fn refused(why: Refusal, s: State) -> RunAnswer
     }
 }
 
-// Either runner: refused, or run.
+// Either runner: refused, or run. The two below stay two functions, as README and docs/ name them and document 01 has them; so do their
+// parameters, which are what callers write. `skips` stays a bool, and no enum or type parameter: one loop serves both runners, as a
+// second place where the cycle is compiled in would make both slower (docs/DECISIONS.md), and `run_by` takes it so.
 fn run(
     rom: &[u8],
     sched: &[u8],
@@ -86,8 +94,7 @@ fn run(
 ) -> RunAnswer
     ensures { answer_of result log.new ≡ run_by skips sheet rom.now sched.now s log.old n.0 }
 {
-    let by = refusal(rom, sched, s, n, sheet);
-    if let Outcome::Refused(why) = by {
+    if let Err(why) = refusal(rom, sched, s, n, sheet) {
         return refused(why, s);
     }
     run_accepted(rom, sched, s, log, n.0, skips, sheet)

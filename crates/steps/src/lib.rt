@@ -5,9 +5,9 @@
 
 ghost use Rattle.std.specs.Prelude.{◌≡◌, ◌≤◌};
 ghost use Rattle.upd546.specs.declared.Sheet.{Sheet};
-ghost use Rattle.upd546.specs.TheMachine.{stack_depth, follows as followsOf, pushed as pushedOf, popped as poppedOf};
-ghost use Rattle.upd546.specs.Timer.{step_register, tick as tickOf};
-ghost use Rattle.upd546.specs.OneMachineCycle.{blocks as blocksOf, accepts as acceptsOf, accepted as acceptedOf, taken as taken_of, paid as paidOf, ticked as tickedOf};
+ghost use Rattle.upd546.specs.TheMachine.{stack_depth, follows, pushed, popped};
+ghost use Rattle.upd546.specs.Timer.{step_register, tick};
+ghost use Rattle.upd546.specs.OneMachineCycle.{blocks, accepts, accepted, taken, paid, ticked};
 
 use upd546::{
     Core, Flow, Lines, MARK_EI, MARK_LDI, MARK_LI, MARK_OTHER, MARK_STM, STACK_DEPTH, Timer,
@@ -18,7 +18,7 @@ const INTERRUPT_ADDRESS: u16 = 0x03C;
 
 // The address that follows: only the low 8 bits count up.
 pub fn follows(a: u16) -> u16
-    ensures { result ≡ followsOf a }
+    ensures { result ≡ follows a }
 {
     a / 256 * 256 + (a % 256 + 1) % 256
 }
@@ -31,22 +31,14 @@ fn step_register(r: u8) -> u8
 }
 
 fn tick(t: Timer) -> Timer
-    ensures { result ≡ tickOf t }
+    ensures { result ≡ tick t }
 {
     if t.register == 0 {
-        return Timer {
-            tm: t.tm,
-            register: t.register,
-            counter: t.counter,
-        };
+        return t;
     }
     let register = step_register(t.register);
     if register != 1 {
-        return Timer {
-            tm: t.tm,
-            register,
-            counter: t.counter,
-        };
+        return Timer { register, ..t };
     }
     if t.counter == 0 {
         return Timer {
@@ -56,15 +48,15 @@ fn tick(t: Timer) -> Timer
         };
     }
     Timer {
-        tm: t.tm,
         register: 1,
         counter: t.counter - 1,
+        ..t
     }
 }
 
 // Step d: unless the mark is STM, a running timer steps.
 pub fn ticked(c: Core) -> Core
-    ensures { result ≡ tickedOf c }
+    ensures { result ≡ ticked c }
 {
     if c.mark == MARK_STM {
         return c;
@@ -78,7 +70,7 @@ pub fn ticked(c: Core) -> Core
 
 // Step b: the lines are taken, and a fall of INT sets its flip-flop.
 pub fn taken(l: Lines, c: Core) -> Core
-    ensures { result ≡ taken_of l c }
+    ensures { result ≡ taken l c }
 {
     let mut d = c;
     d.interrupt.level = l.int;
@@ -91,7 +83,7 @@ pub fn taken(l: Lines, c: Core) -> Core
 
 // An owed cycle. Where none is owed, none is paid.
 pub fn paid(c: Core) -> Core
-    ensures { result ≡ paidOf c }
+    ensures { result ≡ paid c }
 {
     if c.owed == 0 {
         return c;
@@ -103,23 +95,25 @@ pub fn paid(c: Core) -> Core
 
 // Whether a mark keeps an interrupt back.
 pub fn blocks(mark: u8) -> bool
-    ensures { result ≡ blocksOf mark }
+    ensures { result ≡ blocks mark }
 {
     (mark == MARK_EI) | (mark == MARK_LDI) | (mark == MARK_LI)
 }
 
 // Step a: whether an interrupt is accepted.
 pub fn accepts(c: Core) -> bool
-    ensures { result ≡ acceptsOf c }
+    ensures { result ≡ accepts c }
 {
     let kept = blocks(c.mark);
     (c.owed == 0) & (c.interrupt.inte == 1) & (c.interrupt.int == 1) & !kept
 }
 
+// The levels stay a number with two bounds: they are the sheet's, and a sheet with others is refused with 71 (`fields::check_sheet`), so
+// `Sheet` has no invariant.
 // The stack with an address pushed: the oldest of its levels is lost, and what doesn't exist stays as it is.
 pub fn pushed(levels: u8, a: u16, stack: [u16; STACK_DEPTH]) -> [u16; STACK_DEPTH]
     requires { (1 ≤ levels) × (levels ≤ stack_depth) }
-    ensures { result ≡ pushedOf levels a stack }
+    ensures { result ≡ pushed levels a stack }
 {
     if levels == 3 {
         return [a, stack[0], stack[1]];
@@ -133,7 +127,7 @@ pub fn pushed(levels: u8, a: u16, stack: [u16; STACK_DEPTH]) -> [u16; STACK_DEPT
 // The stack with its newest address taken: the lowest of its levels keeps its value.
 pub fn popped(levels: u8, stack: [u16; STACK_DEPTH]) -> [u16; STACK_DEPTH]
     requires { (1 ≤ levels) × (levels ≤ stack_depth) }
-    ensures { result ≡ poppedOf levels stack }
+    ensures { result ≡ popped levels stack }
 {
     if levels == 3 {
         return [stack[1], stack[2], stack[2]];
@@ -146,7 +140,7 @@ pub fn popped(levels: u8, stack: [u16; STACK_DEPTH]) -> [u16; STACK_DEPTH]
 
 pub fn accepted(c: Core, levels: u8) -> Core
     requires { (1 ≤ levels) × (levels ≤ stack_depth) }
-    ensures { (sheet : Sheet) → sheet.levels ≡ levels → result ≡ acceptedOf sheet c }
+    ensures { (sheet : Sheet) → sheet.levels ≡ levels → result ≡ accepted sheet c }
 {
     let stack = c.flow.stack;
     let flow = Flow {

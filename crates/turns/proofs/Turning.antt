@@ -26,7 +26,6 @@ use Rattle.upd546.specs.TwoRunners.{may_jump, on_jump, jump_length, wait_length,
 use Rattle.laws.specs.Ordinary.{ordinary}
 use Rattle.laws.specs.Jump.{core_after_jump, state_after_jump}
 use Rattle.laws.specs.Valid.{Valid}
-use Rattle.laws.specs.Stops.{StopNumber}
 use Rattle.laws.proofs.Sound.{accepted-valid}
 use Rattle.laws.proofs.Sheets.{legal_sheet}
 use Rattle.laws.proofs.Lines.{panel_schedule}
@@ -42,11 +41,10 @@ use Rattle.schedule.specs.Cursor.{Stands}
 use Rattle.schedule.proofs.Standing.{next_record, next_some, stays, no_record_is, some_record}
 use Rattle.jump.specs.Boundary.{Boundary, JumpsBy, Jumpable, jump_by}
 use Rattle.upd546.specs.Parts.{with_count, state_of}
-use Rattle.reset.specs.declared.Looked.{Looked}
-use Rattle.reset.specs.Line.{records, appended, Seen, seen_of, reset_to, reset_full, ordinary_next, looked_at}
+use Rattle.reset.specs.Line.{records, appended, Seen, reset_to, reset_full, ordinary_next, looked_at}
 use Rattle.reset.proofs.Seeing.{records-none, records-one}
 use Rattle.burst.specs.declared.Stretch.{Stretch}
-use Rattle.burst.specs.Turn.{Turn, Turned}
+use Rattle.burst.specs.Turn.{Turn, Turned, number_of}
 use Rattle.turns.specs.Either.{run_by}
 use Rattle.turns.proofs.Taken.{Taken, run_taken}
 
@@ -610,25 +608,26 @@ module _ {sheet : Sheet} {skips : Bool} {rom sched log₀ : List ℕ} {n : ℕ} 
       module _ {r : Stretch} {ram ports log' : List ℕ}
           (k : Turned sheet skips rom sched limit (bare p) p.log p.at p.begun r ram ports log') where
         -- that is begun not at all
-        module _ (g : r.stop ≡ 0 → ⊥) where
+        module _ (g : number_of r.stop ≡ 0 → ⊥) where
           -- the answer of a run that stops here
-          pub stops : {state : State} → state ≡ with_count c (state_of p.core ram ports p.number)
-              → record { end = end_with (some r.stop); state = state; cycles = done; clocks = 4 * done; begun = p.begun; written = p.at; steps = done - p.spared; log = log' }
+          pub stops : {j : ℕ} → number_of r.stop ≡ j → {state : State} → state ≡ with_count c (state_of p.core ram ports p.number)
+              → record { end = end_with (some j); state = state; cycles = done; clocks = 4 * done; begun = p.begun; written = p.at; steps = done - p.spared; log = log' }
               ≡ run_by skips sheet rom sched s log₀ n
-          stops q =
+          stops e {state} q =
               let o = k.held g in
-              answer_stopped in_run jump_none r.stop
-              (counted-stops sheet rom sched (bare p) c none_due (length p.log - p.at) r.stop o.stops) q o.ram_is o.ports_is
-              o.log_is
+              subst
+              (λ (i : ℕ). record { end = end_with (some i); state = state; cycles = done; clocks = 4 * done; begun = p.begun; written = p.at; steps = done - p.spared; log = log' }
+              ≡ run_by skips sheet rom sched s log₀ n)
+              e
+              (answer_stopped in_run jump_none (number_of r.stop)
+              (counted-stops sheet rom sched (bare p) c none_due (length p.log - p.at) (number_of r.stop) o.stops) q o.ram_is o.ports_is
+              o.log_is)
 
           -- the log is as long as it was
           pub stop_length : length log' ≡ length log₀
           stop_length = ap length (k.held g).log_is ∙ log_length
 
-          pub stop_known : (r.stop ≡ 3 → ⊥) → StopNumber r.stop
-          stop_known = (k.held g).known
-
-        module _ (g : r.stop ≡ 0) where
+        module _ (g : number_of r.stop ≡ 0) where
           abbrev here : Place
           here = record { core = r.core; ram = ram; ports = ports; log = log'; at = r.at; number = r.cycle; begun = r.begun; spared = p.spared }
 
@@ -798,8 +797,8 @@ module _ {sheet : Sheet} {skips : Bool} {rom sched log₀ : List ℕ} {n : ℕ} 
       same true = refl
       same false = refl
 
-  module _ (z : Quiet cursor.lines c → ⊥) {r : Looked} {ports log : List ℕ}
-      (g : seen_of r ports log ≡ looked_at p.core p.ports p.log p.at cursor.lines p.number limit c) where
+  module _ (z : Quiet cursor.lines c → ⊥) {v : Seen}
+      (g : v ≡ looked_at p.core p.ports p.log p.at cursor.lines p.number limit c) where
     abbrev k : ℕ
     k = counted cursor.lines.res c
 
@@ -833,7 +832,7 @@ module _ {sheet : Sheet} {skips : Bool} {rom sched log₀ : List ℕ} {n : ℕ} 
       most = omega (arith, e);
     }
 
-    pub looks : r.full ≡ false → Leaves (seen_of r ports log)
+    pub looks : v.full ≡ false → Leaves v
     unfolding looked_at
     looks f = subst Leaves (sym g) (go (eqb k reset_count) refl (leb (length (records p.number c)) (length p.log - p.at)) refl (sym f ∙ ap (λ (o : Seen). o.full) g))
       where
@@ -848,15 +847,15 @@ module _ {sheet : Sheet} {skips : Bool} {rom sched log₀ : List ℕ} {n : ℕ} 
     record Full : Type 0 where
       due : k ≡ reset_count
       lacks : length p.log - p.at < length (records p.number c)
-      ports_is : ports ≡ p.ports
-      log_is : log ≡ p.log
+      ports_is : v.ports ≡ p.ports
+      log_is : v.log ≡ p.log
 
-    full : r.full ≡ true → Full
+    full : v.full ≡ true → Full
     unfolding looked_at
     full f = go (eqb k reset_count) refl (leb (length (records p.number c)) (length p.log - p.at)) refl g
       where
         go : (x : Bool) → eqb k reset_count ≡ x → (y : Bool) → leb (length (records p.number c)) (length p.log - p.at) ≡ y
-            → seen_of r ports log ≡ cond x (cond y (reset_to p.core p.ports p.log p.at cursor.lines p.number limit c)
+            → v ≡ cond x (cond y (reset_to p.core p.ports p.log p.at cursor.lines p.number limit c)
             (reset_full p.core p.ports p.log p.at cursor.lines p.number limit c))
             (ordinary_next p.core p.ports p.log p.at cursor.lines p.number limit c k) → Full
         go false a y b h = absurd (differ (sym (ap (λ (o : Seen). o.full) h) ∙ f))
@@ -868,7 +867,7 @@ module _ {sheet : Sheet} {skips : Bool} {rom sched log₀ : List ℕ} {n : ℕ} 
           log_is = ap (λ (o : Seen). o.log) h;
         }
 
-    pub look_full : r.full ≡ true → {state : State} → state ≡ with_count c (state_of p.core p.ram ports p.number)
+    pub look_full : v.full ≡ true → {state : State} → state ≡ with_count c (state_of p.core p.ram v.ports p.number)
         → record {
           end = end_with (some 3);
           state = state;
@@ -877,12 +876,12 @@ module _ {sheet : Sheet} {skips : Bool} {rom sched log₀ : List ℕ} {n : ℕ} 
           begun = p.begun;
           written = p.at;
           steps = p.number - s.cycle.0 - p.spared;
-          log = log;
+          log = v.log;
         }
         ≡ run_by skips sheet rom sched s log₀ n
     look_full f q = let o = full f in reset_stopped i.at o.due look_ahead (omega (arith, e)) lines_to o.lacks q refl o.ports_is o.log_is
 
-    pub full_length : r.full ≡ true → length log ≡ length log₀
+    pub full_length : v.full ≡ true → length v.log ≡ length log₀
     full_length f = ap length (full f).log_is ∙ log_length i.at
 
 -- up to the limit: from q, where the loop by records stood, to p
@@ -942,7 +941,7 @@ module _ {sheet : Sheet} {skips : Bool} {rom sched : List ℕ} {l : Lines} {n st
   }
 
   pub turns_to : {r : Stretch} {ram ports log : List ℕ} → 0 ≡ jump_by skips sheet rom sched (bare p) (limit - p.number)
-      → Turned sheet skips rom sched limit (bare p) p.log p.at p.begun r ram ports log → r.stop ≡ 0 → p.number < r.cycle
+      → Turned sheet skips rom sched limit (bare p) p.log p.at p.begun r ram ports log → number_of r.stop ≡ 0 → p.number < r.cycle
       → r.cycle ≤ limit
       → ToLimit sheet skips rom sched l n start limit before after q (record {
         core = r.core;

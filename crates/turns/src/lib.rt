@@ -4,31 +4,18 @@
 #![tactic(auto)]
 
 ghost use Rattle.std.specs.Prelude.{◌≡◌, ◌-◌, ◌*◌, ◌≤◌};
-ghost use Rattle.runs.specs.Numbers.{stop_number};
+ghost use Rattle.runs.specs.Laws.{Bytes};
 ghost use Rattle.runs.specs.Refusals.{cycle_limit};
 ghost use Rattle.runs.specs.Reports.{clocks_per_cycle, clocks_of};
 ghost use Rattle.upd546.specs.TwoRunners.{answer_of};
 ghost use Rattle.upd546.specs.Parts.{with_count, state_of};
-ghost use Rattle.laws.specs.Stops.{StopNumber};
 ghost use Rattle.laws.specs.Valid.{Scalars};
 ghost use Rattle.turns.specs.Either.{Set, run_by};
 
+use burst::Panel;
 use runs::{ClockCycles, MachineCycles, RunEnd, Stop};
 use schedule::Cursor;
-use tables::{InstructionTable, PositionTable, RegisterTable, RowTable};
-use upd546::{Core, LAST_MARK, LATCHES, RAM_WORDS, RunAnswer, Sheet, State};
-
-// The stop of a number.
-fn stop_of(k: u8) -> Stop
-    requires { (k ≡ 3 → ⊥) → StopNumber k }
-    ensures { stop_number result ≡ k }
-{
-    match k {
-        3 => Stop::LogFull,
-        22 => Stop::RomEnd,
-        _ => Stop::NoInstruction,
-    }
-}
+use upd546::{Core, LAST_MARK, LATCHES, RAM_WORDS, RunAnswer, State};
 
 // The core as it is: nothing in a run's core is wider than in the chip. LLVM can't know that, so it doesn't hold bytes of the core in
 // vectors throughout the loop, which would take 15 to 27 machine instructions more for each cycle (docs/MEASUREMENTS.md).
@@ -85,25 +72,20 @@ fn answer(
     }
 }
 
-// The loop of both runners, from the state s on with its cursor and the tables. `spared` counts the cycles that took no step of
-// their own.
-pub fn run_loop(
-    rom: &[u8],
-    sched: &[u8],
-    table: &InstructionTable,
-    rows: &RowTable,
-    positions: &PositionTable,
-    registers: &RegisterTable,
-    s: State,
-    first: Cursor,
-    log: &mut [u8],
-    n: u64,
-    skips: bool,
-    sheet: Sheet,
-) -> RunAnswer
-    requires { Set sheet rom.now sched.now table.now rows.now positions.now registers.now s first n }
-    ensures { answer_of result log.new ≡ run_by skips sheet rom.now sched.now s log.old n }
+// What the types of ROM and schedule say: the check knows it of slices that are parameters, and not of slices within a struct.
+fn bytes_alone(rom: &[u8], sched: &[u8])
+    ensures { Bytes rom.now × Bytes sched.now }
+{}
+
+// The loop of both runners, from the state s on with its cursor. `spared` counts the cycles that took no step of their own.
+pub fn run_loop(panel: Panel, s: State, first: Cursor, log: &mut [u8], n: u64) -> RunAnswer
+    requires { Set panel.sheet panel.rom.now panel.sched.now panel.table.now panel.rows.now panel.positions.now panel.registers.now s first n }
+    ensures { answer_of result log.new ≡ run_by panel.entry.skips panel.entry.sheet panel.entry.rom.now panel.entry.sched.now s log.old n }
 {
+    let rom = panel.rom;
+    let sched = panel.sched;
+    let positions = panel.positions;
+    bytes_alone(rom, sched);
     let start = s.cycle.0;
     let end = start + n;
     let mut core = s.core;
@@ -117,15 +99,17 @@ pub fn run_loop(
     let mut count = s.count;
     while number < end {
         let lines = cursor.lines;
-        let mut limit = jump::lesser(end, cursor.next);
+        let mut limit = end.min(cursor.next);
         let before = count;
         if (lines.res != 0) | (count != 0) {
-            let r = reset::look(core, &mut ports, log, at, lines, number, limit, before);
-            if r.full {
-                let stop = RunEnd::Stopped(Stop::LogFull);
-                let state = state_of(within_widths(core), ram, ports, before, number);
-                return answer(stop, state, number - start, begun, at, spared);
-            }
+            let r = match reset::look(core, &mut ports, log, at, lines, number, limit, before) {
+                Some(r) => r,
+                None => {
+                    let full = RunEnd::Stopped(Stop::LogFull);
+                    let same = state_of(within_widths(core), ram, ports, before, number);
+                    return answer(full, same, number - start, begun, at, spared);
+                }
+            };
             core = r.core;
             at = r.at;
             number = r.number;
@@ -136,7 +120,7 @@ pub fn run_loop(
             let j = jump::jump_length(
                 rom,
                 positions,
-                skips,
+                panel.skips,
                 core.flow.pc,
                 core.owed,
                 core.interrupt,
@@ -145,19 +129,24 @@ pub fn run_loop(
                 limit - number,
             );
             if j != 0 {
-                core = jump::core_after_jump(positions, registers, core, j);
+                core = jump::core_after_jump(positions, panel.registers, core, j);
                 begun = begun + j;
                 spared = spared + (j - 1);
                 number = number + j;
             } else {
                 let o = burst::turn(
-                    rom, sched, table, rows, positions, registers, core, &mut ram, &mut ports, log,
-                    at, lines, number, limit, begun, skips, sheet,
+                    panel, core, &mut ram, &mut ports, log, at, lines, number, limit, begun,
                 );
-                if o.stop != 0 {
-                    let stop = RunEnd::Stopped(stop_of(o.stop));
+                if let Some(stop) = o.stop {
                     let state = state_of(within_widths(core), ram, ports, before, number);
-                    return answer(stop, state, number - start, begun, at, spared);
+                    return answer(
+                        RunEnd::Stopped(stop),
+                        state,
+                        number - start,
+                        begun,
+                        at,
+                        spared,
+                    );
                 }
                 core = o.core;
                 at = o.at;

@@ -19,7 +19,7 @@ overflow_add-last c =
 pub returns : goal.returns
 returns c =
     let v = c.requires in
-    let few = c.lesser.ensures in
+    let few = c.min.ensures in
     let ticks = c.ticks_left.ensures in
     let one = tick_left c.args.timer v.1 (omega (arith, c.if-timer-eq0.false)) in
     record { some = omega (arith, few, ticks, one, v.2); in_limit = omega (arith, few); before_tick = λ p. omega (arith, few, ticks) }

@@ -9,12 +9,12 @@ use Rattle.effect.proofs.accs.Goals as goal
 
 pub overflow_add-cycles : goal.overflow_add-cycles
 overflow_add-cycles c =
-    omega (arith, c.requires.two_cycles, over_small (sized c.args.rom.now) c.args.rom.now _ _ _ (c.pass_over-p.ensures (sized c.args.rom.now) refl) c.if-p-ne0.false)
+    omega (arith, c.requires.two_cycles, over_small (sized c.args.chip.rom.now) c.args.chip.rom.now _ _ _ (c.in_ok-p.ensures (sized c.args.chip.rom.now) refl))
 
 pub returns : goal.returns
 returns c sheet same word ports =
     let a = c.args in
     let r = c.acc_group-r.result in
     begun_as (acc_effect (given_of sheet a.g word ports) r) (c.acc_group-r.ensures sheet word ports) refl refl
-    (c.pass_over-p.ensures sheet same) a.at c.if-p-ne0.false a.cycles c.requires.cycles_are
+    a.at (c.in_ok-p.ensures sheet same) a.cycles c.requires.cycles_are
     (ap (λ (x : Core). set_carry r.carry (set_acc r.acc x)) c.begun-c.ensures)

@@ -5,6 +5,7 @@ use mathlib.Core.List.{List}
 use Prim.Native.Nat.{ℕ, ◌+◌, ◌-◌}
 use native.Mathlib.Nat.{add-zero}
 use native.Mathlib.Omega.{arith}
+use Rattle.std.specs.Prelude.{Ok}
 use Rattle.upd546.specs.declared.Core.{Core}
 use Rattle.upd546.specs.declared.Sheet.{Sheet}
 use Rattle.upd546.specs.TheMachine.{past, mark_other}
@@ -40,9 +41,9 @@ stays_stack jumps.Cal g e = cc
 stays_stack jumps.Czp g e = cc
 stays_stack jumps.Jcp g e = refl
 
-plain_pass : (sheet : Sheet) (rom : List ℕ) (to : ℕ) → PassedAs sheet rom false to (record { stop = 0; pc = to; over = 0 })
+plain_pass : (sheet : Sheet) (rom : List ℕ) (to : ℕ) → PassedAs sheet rom false to (Ok (record { pc = to; over = 0 }))
 unfolding past
-plain_pass sheet rom to = record { stop = refl; over = λ z. refl; pc = λ z. refl; held = λ n. absurd (n refl) }
+plain_pass sheet rom to = record { stop = refl; over = refl; pc = refl }
 
 ends_plainly : {rom : List ℕ} (sheet : Sheet) (op : Jump) {g : Inputs} {r : Jumped} (word : ℕ) (ports : List ℕ) (at cycles : ℕ) → stays_of op ≡ true
     → (named_jump op).effect (given_of sheet g word ports) ≡ jump_effect (given_of sheet g word ports) r → cycles ≡ (named_jump op).cycles
@@ -52,9 +53,9 @@ ends_plainly {rom} sheet op {g} {r} word ports at cycles s e n d =
     let x = given_of sheet g word ports in
     let none : r.skip ≡ false = sym (ap (λ (y : Effect). y.skip) e) ∙ stays_skip op x s in
     let stack : g.core.flow.stack ≡ r.flow.stack = sym (stays_stack op x s) ∙ ap (λ (y : Effect). y.core.flow.stack) e in
-    let q : PassedAs sheet rom r.skip r.flow.pc (record { stop = 0; pc = r.flow.pc; over = 0 }) = rw none (plain_pass sheet rom r.flow.pc) in
+    let q : PassedAs sheet rom r.skip r.flow.pc (Ok (record { pc = r.flow.pc; over = 0 })) = rw none (plain_pass sheet rom r.flow.pc) in
     let owed : cycles - 1 ≡ cycles - 1 + 0 = sym (add-zero (cycles - 1)) in
-    begun_as (jump_effect x r) e refl refl q at refl cycles n
+    begun_as (jump_effect x r) e refl refl at q cycles n
     (d ∙ λ i. set_owed (owed i) (set_mark mark_other (with_flow g.core (record { pc = r.flow.pc; stack = stack i }))))
 
 pub returns-then-stays : goal.returns-then-stays
@@ -64,7 +65,7 @@ returns-then-stays c sheet same levels word ports =
 
 pub overflow_add-cycles : goal.overflow_add-cycles
 overflow_add-cycles c =
-    omega (arith, c.requires.0.two_cycles, over_small (sized c.args.rom.now) c.args.rom.now _ _ _ (c.pass_over-p.ensures (sized c.args.rom.now) refl) c.if-p-ne0.false)
+    omega (arith, c.requires.0.two_cycles, over_small (sized c.args.chip.rom.now) c.args.chip.rom.now _ _ _ (c.in_ok-p.ensures (sized c.args.chip.rom.now) refl))
 
 pub returns : goal.returns
 returns c sheet same levels word ports =
@@ -74,5 +75,5 @@ returns c sheet same levels word ports =
     let stack : c.settled-stack.result ≡ after sheet.levels = c.settled-stack.ensures ∙ ap after (sym levels) in
     let b = c.begun-c.ensures in
     begun_as (jump_effect (given_of sheet a.g word ports) (with_stack (after sheet.levels) r)) (c.jump_group-r.ensures.effect_is sheet word ports) refl refl
-    (c.pass_over-p.ensures sheet same) a.at c.if-p-ne0.false a.cycles c.requires.0.cycles_are
-    (λ i. with_flow (b i) (record { pc = c.pass_over-p.result.pc; stack = stack i }))
+    a.at (c.in_ok-p.ensures sheet same) a.cycles c.requires.0.cycles_are
+    (λ i. with_flow (b i) (record { pc = c.in_ok-p.p.pc; stack = stack i }))

@@ -10,5 +10,5 @@ returns c sheet same word ports =
     let a = c.args in
     let r = c.test_group-skip.result in
     begun_as (test_effect (given_of sheet a.g word ports) r) (c.test_group-skip.ensures sheet word ports) refl refl
-    (c.pass_over-p.ensures sheet same) a.at c.if-p-ne0.false a.cycles c.requires.cycles_are
+    a.at (c.in_ok-p.ensures sheet same) a.cycles c.requires.cycles_are
     (ap (λ (x : Core). x) c.begun-c.ensures)

@@ -7,37 +7,36 @@ use Rattle.fetch.proofs.fetch_at.Goals as goal
 
 pub returns-then-rom-pc : goal.returns-then-rom-pc
 returns-then-rom-pc c sheet same =
-    stops_past sheet c.args.rom.now same c.args.pc c.stopped.result c.if-rom-pc.true c.stopped.ensures
+    stops_past sheet c.args.rom.now same c.args.pc c.if-rom-pc.true
 
 pub returns-then-size-eq0 : goal.returns-then-size-eq0
 returns-then-size-eq0 c sheet same =
     let s = size_at c.args.rom.now c.args.pc c.byte_in-code.ensures
     c.size_of-size.ensures in
-    stops_none sheet c.args.rom.now same c.args.pc c.stopped-then-size-eq0.result c.if-rom-pc.false
-    (sym s.1 ∙ c.if-size-eq0.true) c.stopped-then-size-eq0.ensures
+    stops_none sheet c.args.rom.now same c.args.pc c.if-rom-pc.false (sym s.1 ∙ c.if-size-eq0.true)
 
 pub returns-then-size-lt2 : goal.returns-then-size-lt2
 returns-then-size-lt2 c sheet same =
     let s = size_at c.args.rom.now c.args.pc c.byte_in-code.ensures
     c.size_of-size.ensures in
-    begins_one sheet c.args.rom.now same c.args.pc _ c.if-rom-pc.false (omega (arith, s.1, c.if-size-eq0.false))
-    (omega (arith, s.0, bytes_at c.args.rom.now c.args.pc, c.if-size-lt2.true)) refl c.byte_in-code.ensures refl c.follows-next.ensures s.1
+    begins_one sheet c.args.rom.now same c.args.pc c.if-rom-pc.false (omega (arith, s.1, c.if-size-eq0.false))
+    (omega (arith, s.0, bytes_at c.args.rom.now c.args.pc, c.if-size-lt2.true)) c.byte_in-code.ensures refl c.follows-next.ensures s.1
 
 pub returns-then-rom-next : goal.returns-then-rom-next
 returns-then-rom-next c sheet same =
     let s = size_at c.args.rom.now c.args.pc c.byte_in-code.ensures
     c.size_of-size.ensures in
-    stops_second sheet c.args.rom.now same c.args.pc c.stopped-then-rom-next.result c.if-rom-pc.false
+    stops_second sheet c.args.rom.now same c.args.pc c.if-rom-pc.false
     (omega (arith, s.1, c.if-size-eq0.false))
     (omega (arith, s.0, bytes_at c.args.rom.now c.args.pc, c.if-size-lt2.false))
-    (rw c.follows-next.ensures at c.if-rom-next.true) c.stopped-then-rom-next.ensures
+    (rw c.follows-next.ensures at c.if-rom-next.true)
 
 pub returns : goal.returns
 returns c sheet same =
     let s = size_at c.args.rom.now c.args.pc c.byte_in-code.ensures
     c.size_of-size.ensures in
     let f = c.follows-next.ensures in
-    begins_two sheet c.args.rom.now same c.args.pc _ c.if-rom-pc.false (omega (arith, s.1, c.if-size-eq0.false))
+    begins_two sheet c.args.rom.now same c.args.pc c.if-rom-pc.false (omega (arith, s.1, c.if-size-eq0.false))
     (omega (arith, s.0, bytes_at c.args.rom.now c.args.pc, c.if-size-lt2.false))
-    (rw f at c.if-rom-next.false) refl c.byte_in-code.ensures
+    (rw f at c.if-rom-next.false) c.byte_in-code.ensures
     (c.byte_in.ensures ∙ ap (byte_at c.args.rom.now) f) (c.follows.ensures ∙ ap follows f) s.1

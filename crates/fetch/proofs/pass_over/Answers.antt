@@ -6,7 +6,7 @@ use Rattle.fetch.proofs.pass_over.Goals as goal
 pub returns-then-not-skip : goal.returns-then-not-skip
 returns-then-not-skip c sheet same =
     rw (c.if-not-skip.true)
-    (passes_none sheet c.args.rom.now same c.args.to _ refl refl refl)
+    (passes_none sheet c.args.rom.now same c.args.to refl refl)
 
 pub past_bytes-requires : goal.past_bytes-requires
 past_bytes-requires c =
@@ -18,4 +18,4 @@ returns c sheet same =
     let s = size_at c.args.rom.now c.args.to c.byte_in.ensures
     c.size_of-size.ensures in
     rw (c.if-not-skip.false)
-    (passes_one sheet c.args.rom.now same c.args.to _ c.if-rom-to.false refl s.0 c.past_bytes.ensures)
+    (passes_one sheet c.args.rom.now same c.args.to c.if-rom-to.false s.0 c.past_bytes.ensures)

@@ -27,4 +27,4 @@ pub returns : goal.returns
 returns c =
     jumps (c.if-not-skips.false) c.if-owed-ne0.false c.if-timer-ne0.false (omega (arith, c.if-timer-eq0.false)) c.if-interrupt.false
     (λ sheet same. sym (c.waits.ensures sheet same) ∙ c.if-not-waits.false) c.if-level-interrupt.false
-    c.lesser.result c.even_below.result (omega (arith, c.lesser.ensures, c.ticks_left-ticks.ensures)) c.even_below.ensures
+    c.min.result c.even_below.result (omega (arith, c.min.ensures, c.ticks_left-ticks.ensures)) c.even_below.ensures

@@ -6,7 +6,7 @@ use Rattle.turns.proofs.run_loop.Given as goal
 
 abbrev pub invariant-loop-number-2 : goal.invariant-loop-number-2
 invariant-loop-number-2 l =
-    ToLimit l.sheet l.skips l.rom l.sched l.lines l.n l.start l.limit l.before l.count
+    ToLimit l.panel.sheet l.panel.skips l.panel.rom.now l.panel.sched.now l.lines l.n l.start l.limit l.before l.count
     (record { core = l.initial.core; ram = l.initial.ram; ports = l.initial.ports; log = l.initial.log; at = l.initial.at; number = l.initial.number; begun = l.initial.begun; spared = l.initial.spared })
     (record { core = l.core; ram = l.ram; ports = l.ports; log = l.log; at = l.at; number = l.number; begun = l.begun; spared = l.spared })
 
@@ -16,7 +16,7 @@ decreases-loop-number-2 l =
 
 abbrev pub invariant-loop-number : goal.invariant-loop-number
 invariant-loop-number l =
-    ByRecords l.sheet l.skips l.rom l.sched l.initial.log l.n (with_count l.initial.count (state_of l.initial.core l.initial.ram l.initial.ports l.start)) l.cursor
+    ByRecords l.panel.sheet l.panel.skips l.panel.rom.now l.panel.sched.now l.initial.log l.n (with_count l.initial.count (state_of l.initial.core l.initial.ram l.initial.ports l.start)) l.cursor
     (record { core = l.core; ram = l.ram; ports = l.ports; log = l.log; at = l.at; number = l.number; begun = l.begun; spared = l.spared }) l.count
 
 abbrev pub decreases-loop-number : goal.decreases-loop-number
