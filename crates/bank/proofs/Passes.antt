@@ -1,14 +1,14 @@
 -- A round as the two loops make it: panel i of the whole row is noted, and then replaced, for i from 0 up. It is the round of the
 -- definitions. Assumes nothing.
-use mathlib.Core.Path.{◌≡◌, refl, sym, ◌∙◌, ap}
+use mathlib.Core.Path.{◌≡◌, refl, sym, ◌∙◌, ap, subst}
 use Prim.Native.Nat.{ℕ, zero, suc, ◌+◌, ◌-◌, ◌<◌, ◌≤◌}
 use native.Mathlib.Omega.{arith}
 use mathlib.Core.Bool.{Bool, true, false, cond}
 use mathlib.Core.List.{List, [], ◌∷◌, ◌++◌}
 use lib.Dec.{eqb, leb}
 use borrow.Author.Tests.{leb-true, ne_eqb}
-use lib.ListN.{length, get_or, set, take, length-append, length-set}
-use Rattle.std.proofs.lemmas.List.{get_or_default}
+use lib.ListN.{length, get_or, set, take, length-append, length-set, get_or-append}
+use Rattle.std.proofs.lemmas.List.{get_or_default, get_or-take, length-take-le, set-append_left}
 use Rattle.runs.specs.Machine.{Machine}
 use Rattle.runs.specs.EveryRun.{EveryRunCountsWithin}
 use Rattle.runs.specs.Refusals.{first_of, unless}
@@ -185,6 +185,17 @@ noted_more n i zs x c d start w h e =
       same = ap (noting (n - (i + 1)) (i + 1) zs) (e ∙ ap (λ (z : Panel). note_of c z.needs) read) ∙ ap (λ (k : ℕ). noting k i zs c) (sym left) ∙ w.same;
     }
 
+-- panel i of the first n
+pub noted_next : (n i : ℕ) (zs : List Panel) (x : Panel) (c d start : Course) → Noted n i zs c start → i < length (take n zs)
+    → d ≡ note_of c (get_or (take n zs) i x).needs → Noted n (i + 1) zs d start
+noted_next n i zs x c d start w h e =
+    let more : i < n = omega (arith, h, length-take-le n zs w.within) in
+    noted_more n i zs x c d start w more (e ∙ ap (λ (z : Panel). note_of c z.needs) (get_or-take n zs i x more))
+
+-- all of the first n are noted
+pub all_noted : (n i : ℕ) (zs : List Panel) (c start : Course) → Noted n i zs c start → length (take n zs) ≤ i → n ≤ i
+all_noted n i zs c start w h = omega (arith, h, length-take-le n zs w.within)
+
 pub noted_all : (n i : ℕ) (zs : List Panel) (c start : Course) → Noted n i zs c start → n ≤ i → c ≡ noting n 0 zs start
 noted_all n i zs c start w h =
     let none : n - i ≡ 0 = omega arith in
@@ -210,6 +221,10 @@ module _ (M : Machine State) (roms scheds : List ℕ) where
         same = let all : d.count - 0 ≡ d.count = omega arith in ap (λ (k : ℕ). serving M roms scheds k 0 ps logs d) all;
       }
 
+  pub served_start : (n i : ℕ) (ps : List Panel) (logs : List ℕ) (c d start : Course) → Noted n i ps c start → length (take n ps) ≤ i → start.count ≡ n
+      → d ≡ plan_of c → Served d.count 0 ps logs d ps logs d
+  served_start n i ps logs c d start w h = served_none n i ps logs c d start w (all_noted n i ps c start w h)
+
   pub served_more : (n i : ℕ) (zs : List Panel) (ls : List ℕ) (c : Course) (ps : List Panel) (logs : List ℕ) (start : Course) → Served n i zs ls c ps logs start → i < n
       → (x p : Panel) (ls' : List ℕ) (d : Course) → p ≡ panel_after (get_or zs i x) (turn_run M roms scheds ls (get_or zs i x) c)
       → d ≡ after_of c (get_or zs i x).needs → ls' ≡ turn_logs M roms scheds ls (get_or zs i x) c
@@ -224,6 +239,20 @@ module _ (M : Machine State) (roms scheds : List ℕ) where
         so_far = omega arith;
         same = on ∙ ap (λ (k : ℕ). serving M roms scheds k i zs ls c) (sym left) ∙ w.same;
       }
+
+  -- panel i of the first n, whose row is `items`; those behind them are `rest`
+  pub served_next : (n i : ℕ) (items rest : List Panel) (ls : List ℕ) (c : Course) (ps : List Panel) (logs : List ℕ) (start : Course)
+      → Served n i (items ++ rest) ls c ps logs start → length items ≡ n → i < length items
+      → (x p : Panel) (ls' : List ℕ) (d : Course) → p ≡ panel_after (get_or items i x) (turn_run M roms scheds ls (get_or items i x) c)
+      → d ≡ after_of c (get_or items i x).needs → ls' ≡ turn_logs M roms scheds ls (get_or items i x) c
+      → Served n (i + 1) (set items i p ++ rest) ls' d ps logs start
+  served_next n i items rest ls c ps logs start w l h x p ls' d e f g =
+      let read : get_or (items ++ rest) i x ≡ get_or items i x = get_or-append items rest x i h in
+      subst (λ (row : List Panel). Served n (i + 1) row ls' d ps logs start) (set-append_left items rest i p h)
+      (served_more n i (items ++ rest) ls c ps logs start w (omega (arith, h, l)) x p ls' d
+      (e ∙ ap (λ (z : Panel). panel_after z (turn_run M roms scheds ls z c)) (sym read))
+      (f ∙ ap (λ (z : Panel). after_of c z.needs) (sym read))
+      (g ∙ ap (λ (z : Panel). turn_logs M roms scheds ls z c) (sym read)))
 
   pub served_all : (n i : ℕ) (zs : List Panel) (ls : List ℕ) (c : Course) (ps : List Panel) (logs : List ℕ) (start : Course) → Served n i zs ls c ps logs start → n ≤ i
       → record { panels = zs; logs = ls; number = c.number } ≡ serving M roms scheds n 0 ps logs start

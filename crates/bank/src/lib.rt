@@ -10,7 +10,8 @@ use panels::{MOST_PANELS, Panel, begin, panel_noted, planned, turn};
 use runs::MachineCycles;
 use upd546::Sheet;
 
-// A round of t cycles for all panels of the row: 0, or the number of its refusal, which changes nothing.
+// A round of t cycles for all panels of the row: 0, or the number of its refusal, which changes nothing. Its parameters are what docs/ has
+// callers write.
 pub fn round(
     bank: &mut [Panel],
     roms: &[u8],
@@ -29,27 +30,20 @@ pub fn round(
         t,
         sheet,
     );
-    let mut n = course.count;
-    let mut i: usize = 0;
-    while i < n {
-        let p = bank[i];
-        course = panel_noted(course, p);
-        i = i + 1;
+    for panel in bank[..course.count].iter() {
+        course = panel_noted(course, *panel);
     }
     course = planned(course);
-    n = course.count;
-    i = 0;
-    while i < n {
-        let p = bank[i];
-        let d = turn(p, roms, schedules, logs, course, sheet);
-        bank[i] = d.panel;
-        course = d.course;
-        i = i + 1;
+    for lent in bank[..course.count].iter_mut() {
+        let turned = turn(*lent, roms, schedules, logs, course, sheet);
+        *lent = turned.panel;
+        course = turned.course;
     }
     course.number
 }
 
-// A row of panels after a round, and the round's number.
+// A row of panels after a round, and the round's number, beside a row that a refusal leaves as it was: `row_answer`, the definition, has
+// both, so it is no Result.
 #[derive(Clone, Copy)]
 pub struct Rounded {
     pub row: [Panel; 16],
@@ -71,11 +65,7 @@ fn kept_round(
 {
     let mut row = start;
     let number = round(&mut row[..count], roms, schedules, logs, t, sheet);
-    let end = row;
-    Rounded {
-        row: end,
-        number: number,
-    }
+    Rounded { row, number }
 }
 
 // The same for any count, with a row by value.

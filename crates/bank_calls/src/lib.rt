@@ -29,7 +29,8 @@ const NUMBER_AT: usize = REPORT_AT + REPORT_LENGTH;
 
 pub const ENTRY_LENGTH: usize = NUMBER_AT + 1;
 
-// What a call tells, in the entry: its report and its number.
+// What a call tells, in the entry: its report and its number. Here and below an entry is a slice of 147 bytes, and no array: the bank is
+// bytes that C lends, of which std gives an array only in an `Option`, and none of these calls has what to do with a `None`.
 fn put_told(entry: &mut [u8], report: &[u8], number: u8)
     requires { (length entry.old ≡ entry_length) × (length report.now ≡ report_length) }
     ensures { entry.new ≡ take report_at entry.old ++ report.now ++ number ∷ [] }
@@ -73,19 +74,16 @@ fn needs_of(entry: &[u8]) -> Needs
     }
 }
 
-// The entries that are gone through are noted, one after another.
+// The entries that are gone through are noted, one after another, by their places, as `serve` goes through them.
 fn noted_all(bank: &[u8], begun: Course) -> Course
     requires { entry_length * begun.count ≤ length bank.now }
     ensures { result ≡ note_all begun (needs_in (entries_of begun.count bank.now)) }
 {
-    let count = begun.count;
     let mut course = begun;
-    let mut i = 0;
-    while i < count {
+    for i in 0..begun.count {
         let at = ENTRY_LENGTH * i;
         let needs = needs_of(&bank[at..at + ENTRY_LENGTH]);
         course = panels::noted(course, needs);
-        i += 1;
     }
     course
 }
@@ -107,24 +105,19 @@ fn serve_one(
     let needs = needs_of(entry);
     let lot = panels::lot_of(c, needs);
     let next = panels::after(c, needs);
-    let rom = c.at.rom;
-    let rom_end = next.at.rom;
-    let schedule = c.at.schedule;
-    let schedule_end = next.at.schedule;
-    let log = c.at.log;
-    let log_end = next.at.log;
     turn(
         entry,
-        &roms[rom..rom_end],
-        &schedules[schedule..schedule_end],
-        &mut logs[log..log_end],
+        &roms[c.at.rom..next.at.rom],
+        &schedules[c.at.schedule..next.at.schedule],
+        &mut logs[c.at.log..next.at.log],
         lot.grant.0,
         sheet,
     );
     next
 }
 
-// The entries have their turns, one after another.
+// The entries have their turns, one after another. They are lent by their places: of what a bank ends as behind `chunks_exact_mut` or
+// `as_chunks_mut` std promises nothing, and the contract equates the whole bank.
 fn serve(
     bank: &mut [u8],
     roms: &[u8],
@@ -136,10 +129,8 @@ fn serve(
     requires { (entry_length * planned.count ≡ length bank.old) × Within planned roms.now schedules.now logs.old }
     ensures { record { bank = bank.new; logs = logs.new } ≡ in_turn chip sheet roms.now schedules.now logs.old planned (entries_of planned.count bank.old) }
 {
-    let count = planned.count;
     let mut course = planned;
-    let mut i = 0;
-    while i < count {
+    for i in 0..planned.count {
         let at = ENTRY_LENGTH * i;
         course = serve_one(
             &mut bank[at..at + ENTRY_LENGTH],
@@ -149,11 +140,11 @@ fn serve(
             course,
             sheet,
         );
-        i += 1;
     }
 }
 
-// A ROUND of t cycles for all panels of a bank of some entries of 147 bytes, under a sheet: 71, 61, 62, 63.
+// A ROUND of t cycles for all panels of a bank of some entries of 147 bytes, under a sheet: 71, 61, 62, 63. Its parameters are those of
+// its function in C.
 pub fn wharfnettle_round(
     bank: &mut [u8],
     roms: &[u8],

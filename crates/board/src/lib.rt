@@ -11,7 +11,7 @@ ghost use Rattle.upd546.specs.TwoRunners.{upd546, chip, answer_of};
 ghost use Rattle.calls.specs.Call.{kind_of, report_length, count_bytes, reported, image_run, board_answer};
 ghost use Rattle.calls.specs.EveryCall.{ran_by};
 
-use runs::{MachineCycles, Outcome, RunEnd, Version};
+use runs::{MachineCycles, RunEnd, Version};
 use upd546::{RunAnswer, Sheet};
 
 // The bytes of a report.
@@ -22,10 +22,11 @@ fn put_count(report: &mut [u8], at: usize, n: u64)
     requires { at + 8 ≤ length report.old }
     ensures { report.new ≡ take at report.old ++ bytes_of 8 n ++ drop (at + 8) report.old }
 {
-    big_endian::put_eight(&mut report[at..], n);
+    big_endian::put_number::<8>(&mut report[at..], n);
 }
 
-// The four counts of a run, in the first bytes of the report.
+// The four counts of a run, in the first bytes of the report. The report is bytes that C lends, and no struct, so each
+// count is put at its place, as `count_bytes` has them.
 fn put_counts(report: &mut [u8], cycles: MachineCycles, begun: u64, written: usize, steps: u64)
     requires { report_length ≤ length report.old }
     ensures { report.new ≡ reported (count_bytes cycles.0 begun written steps) report.old }
@@ -36,7 +37,8 @@ fn put_counts(report: &mut [u8], cycles: MachineCycles, begun: u64, written: usi
     put_count(report, 24, steps);
 }
 
-// The run of an image: refused where a restore refuses the sheet or the image, version 2 being due, else what the runner answers.
+// The run of an image: refused where a restore refuses the sheet or the image, version 2 being due, else what the runner answers. `runner`
+// stays the number that C hands in, as `kind_of` reads it: 0 is the plain one, and every other the timer-skipping one.
 fn run_image(
     image: &[u8],
     rom: &[u8],
@@ -49,9 +51,8 @@ fn run_image(
     ensures { answer_of result log.new ≡ image_run (chip sheet) (kind_of runner) image.now rom.now schedule.now log.old n }
 {
     let restored = restore::restore_current(image, sheet);
-    let outcome = restored.outcome;
     let state = restored.state;
-    if let Outcome::Refused(why) = outcome {
+    if let Err(why) = restored.outcome {
         return runner::refused(why, state);
     }
     if runner == 0 {
@@ -60,7 +61,8 @@ fn run_image(
     runner::run_skipping(rom, schedule, state, log, MachineCycles(n), sheet)
 }
 
-// THE BOARD'S CALL: 1 of a short report, 71, the image's refusals, the run's; then the image is saved over.
+// THE BOARD'S CALL: 1 of a short report, 71, the image's refusals, the run's; then the image is saved over. Its parameters are those of its
+// function in C.
 pub fn wharfnettle_call(
     image: &mut [u8],
     rom: &[u8],
@@ -91,7 +93,8 @@ pub fn wharfnettle_call(
     if let RunEnd::Refused(why) = end {
         return runs::refusal_number(why);
     }
-    save::save(state, Version::Two, image, sheet);
+    // The image had its 82 bytes and its sheet was taken, so this save isn't refused.
+    let _ = save::save(state, Version::Two, image, sheet);
     runs::end_number(end)
 }
 

@@ -28,17 +28,15 @@ pub fn wharfnettle_convert(
         levels,
     };
     let restored = restore::restore(from, sheet);
-    let outcome = restored.outcome;
     let state = restored.state;
-    let number = runs::outcome_number(outcome);
-    if number != 0 {
-        return number;
+    if let Err(why) = restored.outcome {
+        return runs::refusal_number(why);
     }
-    if version == 1 {
-        return runs::outcome_number(save::save(state, Version::One, to, sheet));
-    }
-    if version == 2 {
-        return runs::outcome_number(save::save(state, Version::Two, to, sheet));
-    }
-    runs::refusal_number(Refusal::ImageVersion)
+    // C passes the version as a number of 64 bits, which `convert_answer` reads whole.
+    let wanted = match version {
+        1 => Version::One,
+        2 => Version::Two,
+        _ => return runs::refusal_number(Refusal::ImageVersion),
+    };
+    runs::outcome_number(save::save(state, wanted, to, sheet))
 }

@@ -18,7 +18,7 @@ pub struct KeptMachine {
 }
 
 // Which of the two runners a run goes by.
-#[derive(Clone, Copy)]
+#[derive(Clone, Copy, PartialEq, Eq)]
 pub enum Runner {
     Plain,
     Skipping,
@@ -46,16 +46,12 @@ pub struct DriveAnswer {
 fn told(a: RunAnswer) -> DriveAnswer
     ensures { (log : List ℕ) → brought_to result.report result.machine log ≡ answer_of a log }
 {
-    let state = a.state;
-    let end = a.end;
-    let cycles = a.cycles;
-    let clocks = a.clocks;
     DriveAnswer {
-        machine: KeptMachine { state },
+        machine: KeptMachine { state: a.state },
         report: Report {
-            end,
-            cycles,
-            clocks,
+            end: a.end,
+            cycles: a.cycles,
+            clocks: a.clocks,
             begun: a.begun,
             written: a.written,
             steps: a.steps,
@@ -64,7 +60,7 @@ fn told(a: RunAnswer) -> DriveAnswer
 }
 
 // A run of n cycles by this runner brings the machine forward; a refused one leaves it as it was. The machine goes in by value and
-// comes back by value.
+// comes back by value. The parameters of this and the two below are what docs/LIBRARIES.md has callers write, so they are no struct.
 pub fn advance(
     machine: KeptMachine,
     kind: Runner,
@@ -97,11 +93,8 @@ pub fn advance_from(
 ) -> DriveAnswer
     ensures { brought_to result.report result.machine log.new ≡ kept_before at log.old (run_answer (chip sheet) (runner_kind kind) rom.now sched.now machine.state (drop at log.old) n.0) }
 {
-    let end = log.len();
-    if end < at {
-        return advance(machine, kind, rom, sched, &mut log[end..], n, sheet);
-    }
-    advance(machine, kind, rom, sched, &mut log[at..], n, sheet)
+    let from = at.min(log.len());
+    advance(machine, kind, rom, sched, &mut log[from..], n, sheet)
 }
 
 // A run of n cycles by this runner brings the lent machine forward; a refused one leaves it as it was.
@@ -116,8 +109,7 @@ pub fn drive(
 ) -> Report
     ensures { brought_to result machine.new log.new ≡ run_answer (chip sheet) (runner_kind kind) rom.now sched.now machine.old.state log.old n.0 }
 {
-    let m = *machine;
-    let a = advance(m, kind, rom, sched, log, n, sheet);
+    let a = advance(*machine, kind, rom, sched, log, n, sheet);
     *machine = a.machine;
     a.report
 }

@@ -27,10 +27,6 @@ use Rattle.panels.specs.Places.{most_panels}
 use Rattle.panels.specs.Courses.{past_of}
 use Rattle.panels.specs.Round.{own_run, with_part}
 
--- with no panel nothing is divided
-pub share_none : (t m : ℕ) → m ≡ 0 → 0 ≡ share_of t m
-share_none t m e = sym (ap (λ (k : ℕ). t / k) e ∙ div-zero t)
-
 -- the number of a run's end, in the terms of the definitions
 pub end_number_lem : (e : RunEnd) → end_number e ≡ number_of_end (end_of e)
 end_number_lem Finished = refl

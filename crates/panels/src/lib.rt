@@ -34,6 +34,7 @@ pub struct Last {
     pub begun: u64,
     pub written: usize,
     pub steps: u64,
+    // A number and no `RunEnd`: `last_of` says so, and it is what the bank of the board's C program holds.
     pub number: u8,
 }
 
@@ -53,6 +54,13 @@ pub struct Places {
     pub log: usize,
 }
 
+// Where the buffers begin.
+const FIRST: Places = Places {
+    rom: 0,
+    schedule: 0,
+    log: 0,
+};
+
 // What a round carries from panel to panel: how many are gone through, the share of each and what is left of T, where the next parts
 // begin, where the buffers end, and the round's number.
 #[derive(Clone, Copy)]
@@ -62,6 +70,7 @@ pub struct Course {
     pub left: u64,
     pub at: Places,
     pub ends: Places,
+    // A number and no `Result`: so `begin_of`, `note_of` and `plan_of` carry it, and so a round and its call in C answer it.
     pub number: u8,
 }
 
@@ -79,38 +88,19 @@ pub struct Turned {
     pub course: Course,
 }
 
-// The smaller of two numbers.
-fn smaller(a: u64, b: u64) -> u64
-    ensures { result ≡ min a b }
-{
-    if a < b { a } else { b }
-}
-
-// What is left of one number after another is taken; 0 where there is not so much.
-fn less(a: u64, b: u64) -> u64
-    ensures { result ≡ a - b }
-{
-    if a < b { 0 } else { a - b }
-}
-
 // T divided by m, rounded down.
 fn share_of(t: u64, m: usize) -> u64
     ensures { result ≡ share_of t m }
 {
-    if m == 0 {
-        return 0;
-    }
-    t / (m as u64)
+    t.checked_div(m as u64).unwrap_or(0)
 }
 
 // 71, then 61.
 fn first_number(m: usize, sheet: Sheet) -> u8
     ensures { result ≡ first_of (sheet_number sheet ∷ unless (leb m most_panels) 61 ∷ []) }
 {
-    let by_sheet = fields::check_sheet(sheet);
-    let number = runs::outcome_number(by_sheet);
-    if number != 0 {
-        return number;
+    if let Err(why) = fields::check_sheet(sheet) {
+        return runs::refusal_number(why);
     }
     if m <= MOST_PANELS { 0 } else { 61 }
 }
@@ -123,6 +113,7 @@ fn counted(number: u8, m: usize) -> usize
 }
 
 // The start of a round of m panels with t cycles for all, where the buffers have so many bytes.
+#[tactic(auto, unfolding(crate::specs::Courses::begin_of))]
 pub fn begin(
     m: usize,
     roms: usize,
@@ -134,37 +125,25 @@ pub fn begin(
     ensures { result ≡ begin_of (sheet_number sheet) m (record { rom = roms; schedule = schedules; log = logs }) t.0 }
 {
     let number = first_number(m, sheet);
-    let count = counted(number, m);
-    let share = share_of(t.0, m);
     Course {
-        count: count,
-        share: share,
+        count: counted(number, m),
+        share: share_of(t.0, m),
         left: t.0,
-        at: Places {
-            rom: 0,
-            schedule: 0,
-            log: 0,
-        },
+        at: FIRST,
         ends: Places {
             rom: roms,
             schedule: schedules,
             log: logs,
         },
-        number: number,
+        number,
     }
 }
 
-// A place moved on by so many bytes, but not past the end. Their sum may not fit, so it isn't made.
+// A place moved on by so many bytes, but not past the end.
 fn past(at: usize, length: usize, end: usize) -> usize
     ensures { result ≡ past_of at length end }
 {
-    if end <= at {
-        return end;
-    }
-    if end - at < length {
-        return end;
-    }
-    at + length
+    at.saturating_add(length).min(end)
 }
 
 fn past_all(at: Places, ends: Places, n: Needs) -> Places
@@ -181,10 +160,7 @@ fn past_all(at: Places, ends: Places, n: Needs) -> Places
 fn is_short(at: usize, length: usize, end: usize) -> bool
     ensures { result ≡ ltb (end - at) length }
 {
-    if end <= at {
-        return 0 < length;
-    }
-    end - at < length
+    end.saturating_sub(at) < length
 }
 
 // 62 where a panel's parts don't fit.
@@ -198,22 +174,16 @@ fn number_after(at: Places, ends: Places, n: Needs, number: u8) -> u8
 }
 
 // A panel is noted before the first turn: its first share and its parts of the buffers.
+#[tactic(auto, unfolding(crate::specs::Courses::note_of))]
 pub fn noted(c: Course, n: Needs) -> Course
     ensures { result ≡ note_of c n }
 {
-    let at = c.at;
-    let ends = c.ends;
-    let first = smaller(n.wish.0, c.share);
-    let left = less(c.left, first);
-    let number = number_after(at, ends, n, c.number);
-    let next = past_all(at, ends, n);
+    let first = n.wish.0.min(c.share);
     Course {
-        count: c.count,
-        share: c.share,
-        left: left,
-        at: next,
-        ends: ends,
-        number: number,
+        left: c.left.saturating_sub(first),
+        at: past_all(c.at, c.ends, n),
+        number: number_after(c.at, c.ends, n, c.number),
+        ..c
     }
 }
 
@@ -221,27 +191,18 @@ pub fn noted(c: Course, n: Needs) -> Course
 pub fn panel_noted(c: Course, p: Panel) -> Course
     ensures { result ≡ note_of c p.needs }
 {
-    let needs = p.needs;
-    noted(c, needs)
+    noted(c, p.needs)
 }
 
 // All panels are noted: with a number none has a turn.
+#[tactic(auto, unfolding(crate::specs::Courses::plan_of))]
 pub fn planned(c: Course) -> Course
     ensures { result ≡ plan_of c }
 {
-    let count = counted(c.number, c.count);
-    let ends = c.ends;
     Course {
-        count: count,
-        share: c.share,
-        left: c.left,
-        at: Places {
-            rom: 0,
-            schedule: 0,
-            log: 0,
-        },
-        ends: ends,
-        number: c.number,
+        count: counted(c.number, c.count),
+        at: FIRST,
+        ..c
     }
 }
 
@@ -249,43 +210,37 @@ pub fn planned(c: Course) -> Course
 fn more(wish: u64, share: u64, left: u64) -> u64
     ensures { result ≡ more_of share left wish }
 {
-    smaller(left, less(wish, share))
+    left.min(wish.saturating_sub(share))
 }
 
 // The sum is at most the wish.
 fn grant(wish: u64, share: u64, left: u64) -> u64
     ensures { result ≡ grant_of share left wish }
 {
-    smaller(wish, share) + more(wish, share, left)
+    wish.min(share) + more(wish, share, left)
 }
 
 // What the panel whose turn it is has: its grant, and where its parts begin.
+#[tactic(auto, unfolding(crate::specs::Courses::lot_of))]
 pub fn lot_of(c: Course, n: Needs) -> Lot
     ensures { result ≡ lot_of c n }
 {
-    let at = c.at;
     Lot {
         grant: MachineCycles(grant(n.wish.0, c.share, c.left)),
-        at: at,
+        at: c.at,
     }
 }
 
 // What the round carries on behind it, however its run ends.
+#[tactic(auto, unfolding(crate::specs::Courses::after_of))]
 pub fn after(c: Course, n: Needs) -> Course
     ensures { result ≡ after_of c n }
 {
-    let at = c.at;
-    let ends = c.ends;
     let taken = more(n.wish.0, c.share, c.left);
-    let left = less(c.left, taken);
-    let next = past_all(at, ends, n);
     Course {
-        count: c.count,
-        share: c.share,
-        left: left,
-        at: next,
-        ends: ends,
-        number: c.number,
+        left: c.left.saturating_sub(taken),
+        at: past_all(c.at, c.ends, n),
+        ..c
     }
 }
 
@@ -307,13 +262,12 @@ pub fn run_lot(
     let s1 = past(lot.at.schedule, n.schedule, schedules.len());
     let l0 = past(lot.at.log, 0, logs.len());
     let l1 = past(lot.at.log, n.log, logs.len());
-    let grant = lot.grant;
     run_skipping(
         &roms[r0..r1],
         &schedules[s0..s1],
         s,
         &mut logs[l0..l1],
-        grant,
+        lot.grant,
         sheet,
     )
 }
@@ -322,14 +276,12 @@ pub fn run_lot(
 pub fn last_of(a: RunAnswer) -> Last
     ensures { (log : List ℕ) → result ≡ last_of (answer_of a log) }
 {
-    let cycles = a.cycles;
-    let end = a.end;
     Last {
-        cycles: cycles,
+        cycles: a.cycles,
         begun: a.begun,
         written: a.written,
         steps: a.steps,
-        number: runs::end_number(end),
+        number: runs::end_number(a.end),
     }
 }
 
@@ -337,17 +289,14 @@ pub fn last_of(a: RunAnswer) -> Last
 fn kept(p: Panel, a: RunAnswer) -> Panel
     ensures { (log : List ℕ) → result ≡ panel_after p (answer_of a log) }
 {
-    let state = a.state;
-    let needs = p.needs;
-    let last = last_of(a);
     Panel {
-        state: state,
-        needs: needs,
-        last: last,
+        state: a.state,
+        needs: p.needs,
+        last: last_of(a),
     }
 }
 
-// One panel's turn.
+// One panel's turn. The buffers stay parameters, here and above: docs/DECISIONS.md has it as a function of values and slices.
 pub fn turn(
     p: Panel,
     roms: &[u8],
@@ -358,14 +307,10 @@ pub fn turn(
 ) -> Turned
     ensures { (result.panel ≡ panel_after p (turn_run (chip sheet) roms.now schedules.now logs.old p c)) × ((result.course ≡ after_of c p.needs) × (logs.new ≡ turn_logs (chip sheet) roms.now schedules.now logs.old p c)) }
 {
-    let needs = p.needs;
-    let state = p.state;
-    let lot = lot_of(c, needs);
-    let a = run_lot(state, needs, lot, roms, schedules, logs, sheet);
-    let panel = kept(p, a);
-    let course = after(c, needs);
+    let lot = lot_of(c, p.needs);
+    let a = run_lot(p.state, p.needs, lot, roms, schedules, logs, sheet);
     Turned {
-        panel: panel,
-        course: course,
+        panel: kept(p, a),
+        course: after(c, p.needs),
     }
 }

@@ -13,7 +13,9 @@ use Rattle.runs.specs.Numbers.{refusal_number}
 use Rattle.runs.specs.TwoRunners.{log_bound, run_number}
 use Rattle.runs.proofs.Refusals.{numbered}
 use Rattle.shortest.specs.declared.Shortest.{Shortest}
-use Rattle.shortest.specs.declared.Shortest.TheVariants.{Refused, LogShort}
+use Rattle.shortest.specs.declared.Unfound.{Unfound}
+use Rattle.shortest.specs.declared.Unfound.TheVariants.{Refused, LogShort}
+use Rattle.std.specs.Prelude.{Result, Err}
 use Rattle.shortest.specs.Search.{finishes, trial_end, untried_number, error_number, on_error, shortest_answer, LogLeft, found_of, Answers}
 use Rattle.shortest.proofs.Order.{untried_refused, untried_short, untried_none, answer_untried}
 
@@ -22,7 +24,7 @@ module _ {S : Type 0} (M : Machine S) (rom sched : List ℕ) (s : S) (n : ℕ) (
   untouched : LogLeft M rom sched s n log log
   untouched = record { untried = λ h. refl; long = refl; rest = refl }
 
-  pub refused-answers : (why : Refusal) → refusal_number why ≡ run_number M rom sched s n → Answers M rom sched s n log (Refused why) log
+  pub refused-answers : (why : Refusal) → refusal_number why ≡ run_number M rom sched s n → Answers M rom sched s n log (Err (Refused why)) log
   refused-answers why e =
       let k = numbered why in
       record {
@@ -31,14 +33,14 @@ module _ {S : Type 0} (M : Machine S) (rom sched : List ℕ) (s : S) (n : ℕ) (
         left = untouched;
       }
 
-  pub short_answers : run_number M rom sched s n ≡ 0 → length log < log_bound n → Answers M rom sched s n log LogShort log
+  pub short_answers : run_number M rom sched s n ≡ 0 → length log < log_bound n → Answers M rom sched s n log (Err LogShort) log
   short_answers e h = record {
     found = sym (answer_untried M rom sched s n log 80 (untried_short M rom sched s n log e h));
     left = untouched;
   }
 
   -- a longer log is lent with its first 16n bytes
-  pub tried_answers : run_number M rom sched s n ≡ 0 → log_bound n ≤ length log → (a : Shortest) (part : List ℕ)
+  pub tried_answers : run_number M rom sched s n ≡ 0 → log_bound n ≤ length log → (a : Result Shortest Unfound) (part : List ℕ)
       → found_of a ≡ shortest_answer M rom sched s n (take (log_bound n) log) → length part ≡ log_bound n
       → Answers M rom sched s n log a (part ++ drop (log_bound n) log)
   unfolding shortest_answer error_number

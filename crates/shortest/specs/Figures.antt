@@ -3,7 +3,7 @@ use Rattle.std.specs.Prelude.{ℕ, ◌*◌, ◌≡◌, List, [], ◌∷◌, ◌+
 use Rattle.upd546.specs.declared.Sheet.{Sheet}
 use Rattle.upd546.specs.TheMachine.{fresh}
 use Rattle.upd546.specs.TwoRunners.{chip}
-use Rattle.shortest.specs.Search.{Found, shortest_answer}
+use Rattle.shortest.specs.Search.{shortest_answer}
 
 -- three bytes of ROM, row 7 alone, one level
 abbrev pub small : Sheet

@@ -1,13 +1,14 @@
 -- Request R-12, "The shortest schedule that still stops", over any machine: which k is found, and what is answered. "A small sheet, given
 -- last to each call that takes states" (R-11), is the machine. Assumes nothing: these are definitions.
-use Rattle.std.specs.Prelude.{ℕ, zero, suc, ◌*◌, ◌≡◌, Bool, true, false, cond, List, [], ◌∷◌, eqb, leb, length, take, drop, replicate}
+use Rattle.std.specs.Prelude.{ℕ, zero, suc, ◌*◌, ◌≡◌, Bool, true, false, cond, List, [], ◌∷◌, Result, Ok, Err, eqb, leb, length, take, drop, replicate}
 use Rattle.runs.specs.Machine.{Machine}
 use Rattle.runs.specs.Refusals.{first_of, unless}
-use Rattle.runs.specs.TwoRunners.{log_bound, End, finished, stopped, refused, number_of_end, RunAnswer, run_number, plain}
+use Rattle.runs.specs.TwoRunners.{log_bound, End, finished, stopped, refused, number_of_end, run_number, plain}
 use Rattle.runs.specs.Numbers.{stop_number, refusal_number}
 use Rattle.upd546.specs.TheLineSchedule.{record_length, record_count}
 use Rattle.shortest.specs.declared.Shortest.{Shortest}
-use Rattle.shortest.specs.declared.Shortest.TheVariants.{Stops, Refused, LogShort, Finishes}
+use Rattle.shortest.specs.declared.Unfound.{Unfound}
+use Rattle.shortest.specs.declared.Unfound.TheVariants.{Refused, LogShort, Finishes}
 
 -- "with only the first k records"
 abbrev pub first_records : ℕ → List ℕ → List ℕ
@@ -75,13 +76,13 @@ module _ {S : Type 0} (M : Machine S) (rom sched : List ℕ) (s : S) (n : ℕ) w
     pub rest : drop (log_bound n) after ≡ drop (log_bound n) log
 
 -- the number and k of each case of what the function answers
-abbrev pub found_of : Shortest → Found
-found_of (Stops k why) = record { number = stop_number why; records = k }
-found_of (Refused why) = record { number = refusal_number why; records = 0 }
-found_of LogShort = record { number = 81; records = 0 }
-found_of Finishes = record { number = 82; records = 0 }
+abbrev pub found_of : Result Shortest Unfound → Found
+found_of (Ok a) = record { number = stop_number a.stop; records = a.records }
+found_of (Err (Refused why)) = record { number = refusal_number why; records = 0 }
+found_of (Err LogShort) = record { number = 81; records = 0 }
+found_of (Err Finishes) = record { number = 82; records = 0 }
 
 -- what the function promises: its number and k, and the log as it stands when it returns
-pub record Answers {S : Type 0} (M : Machine S) (rom sched : List ℕ) (s : S) (n : ℕ) (log : List ℕ) (a : Shortest) (after : List ℕ) : Type 0 where
+pub record Answers {S : Type 0} (M : Machine S) (rom sched : List ℕ) (s : S) (n : ℕ) (log : List ℕ) (a : Result Shortest Unfound) (after : List ℕ) : Type 0 where
   pub found : found_of a ≡ shortest_answer M rom sched s n log
   pub left : LogLeft M rom sched s n log after

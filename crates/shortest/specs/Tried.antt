@@ -2,7 +2,7 @@
 -- nothing: these are definitions.
 use Rattle.std.specs.Prelude.{ℕ, ◌+◌, ◌<◌, ◌≤◌, ◌≡◌, List, length}
 use Rattle.runs.specs.Machine.{Machine}
-use Rattle.runs.specs.TwoRunners.{log_bound, End, stopped, run_number}
+use Rattle.runs.specs.TwoRunners.{log_bound, stopped, run_number}
 use Rattle.upd546.specs.TheLineSchedule.{record_count, record_cycle}
 use Rattle.shortest.specs.Search.{first_records, trial_end}
 

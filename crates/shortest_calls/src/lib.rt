@@ -8,8 +8,8 @@ ghost use Rattle.upd546.specs.TwoRunners.{chip};
 ghost use Rattle.shortest.specs.Search.{found_of};
 ghost use Rattle.shortest_calls.specs.Call.{Called, FoundIn};
 
-use runs::{MachineCycles, Outcome};
-use shortest::Shortest;
+use runs::MachineCycles;
+use shortest::{Shortest, Unfound};
 use upd546::Sheet;
 
 // The bytes of k.
@@ -23,19 +23,16 @@ fn find_in(
     n: u64,
     log: &mut [u8],
     sheet: Sheet,
-) -> Shortest
+) -> Result<Shortest, Unfound>
     ensures { FoundIn (chip sheet) image.now rom.now schedule.now n log.old (found_of result) log.new }
 {
     let restored = restore::restore_current(image, sheet);
-    let outcome = restored.outcome;
-    let state = restored.state;
-    if let Outcome::Refused(why) = outcome {
-        return Shortest::Refused(why);
-    }
-    shortest::find(rom, schedule, state, MachineCycles(n), log, sheet)
+    restored.outcome?;
+    shortest::find(rom, schedule, restored.state, MachineCycles(n), log, sheet)
 }
 
-// THE CALL: 1 of a short buffer, 71, the image's refusals, the run's, 81, 82; k in the first 8 bytes of `found`.
+// THE CALL: 1 of a short buffer, 71, the image's refusals, the run's, 81, 82; k in the first 8 bytes of `found`. Its parameters are
+// those of its function in C.
 pub fn wharfnettle_shortest(
     image: &[u8],
     rom: &[u8],
@@ -58,6 +55,6 @@ pub fn wharfnettle_shortest(
         levels,
     };
     let a = find_in(image, rom, schedule, n, log, sheet);
-    big_endian::put_eight(found, shortest::records_of(a) as u64);
+    big_endian::put_number::<FOUND_LENGTH>(found, shortest::records_of(a) as u64);
     shortest::number_of(a)
 }

@@ -5,7 +5,8 @@ use Prim.Native.Nat.{ℕ, ◌+◌, ◌≤◌}
 use native.Mathlib.Omega.{arith}
 use lib.ListN.{length, take, drop, length-drop}
 use lib.Seq.{take_all}
-use Rattle.runs.specs.declared.Outcome.{Outcome}
+use Rattle.std.specs.Prelude.{Result}
+use Rattle.runs.specs.declared.Refusal.{Refusal}
 use Rattle.runs.specs.declared.Version.TheVariants.{Two}
 use Rattle.runs.specs.Numbers.{end_of}
 use Rattle.runs.specs.TwoRunners.{RunAnswer, SaveAnswer, RestoreAnswer, log_bound, unbroken, save_answer, restore_answer}
@@ -28,7 +29,7 @@ use Rattle.witness.specs.Day.{buffer, image_in, SliceOf, OneSlice, NoneRefused, 
 
 -- ONE SLICE, where the run answers a: what driver, save and restore answer makes it up
 pub slice_of : (sheet : Sheet) (a : RunAnswer State) (log log' : List ℕ) (at : ℕ) (report : Report) (machine : KeptMachine)
-    (saved : Outcome) (bytes : List ℕ) (back : Restored)
+    (saved : Result (Unit {0}) Refusal) (bytes : List ℕ) (back : Restored)
     → brought_to report machine log' ≡ kept_before at log a → length bytes ≡ 82
     → save_of saved bytes ≡ save_answer (chip sheet) Two machine.state buffer
     → restore_of back ≡ restore_answer (chip sheet) bytes → length log' ≡ length log

@@ -9,7 +9,7 @@ ghost use Rattle.driver.specs.Lending.{runner_kind};
 ghost use Rattle.witness.specs.Day.{OneSlice, TwoSlices};
 
 use driver::{KeptMachine, Report, Runner};
-use runs::{MachineCycles, Outcome, Version};
+use runs::{MachineCycles, Refusal, Version};
 use upd546::layout::IMAGE_LENGTH;
 use upd546::{Sheet, State};
 
@@ -17,8 +17,8 @@ use upd546::{Sheet, State};
 #[derive(Clone, Copy)]
 pub struct SliceEnd {
     pub report: Report,
-    pub saved: Outcome,
-    pub restored: Outcome,
+    pub saved: Result<(), Refusal>,
+    pub restored: Result<(), Refusal>,
     pub state: State,
 }
 
@@ -57,13 +57,11 @@ fn one_slice(
     let mut bytes = [0u8; IMAGE_LENGTH];
     let saved = save::save(machine.state, Version::Two, &mut bytes, sheet);
     let back = restore::restore(&bytes, sheet);
-    let restored = back.outcome;
-    let state = back.state;
     SliceEnd {
         report,
         saved,
-        restored,
-        state,
+        restored: back.outcome,
+        state: back.state,
     }
 }
 

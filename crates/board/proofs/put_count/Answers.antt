@@ -6,4 +6,4 @@ use Rattle.board.proofs.put_count.Goals as goal
 pub returns : goal.returns
 returns c =
     let a = c.args in
-    put_front a.at a.report.now (bytes_of 8 a.n) c.put_eight.ensures
+    put_front a.at a.report.now (bytes_of 8 a.n) c.put_number.ensures

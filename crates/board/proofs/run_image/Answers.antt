@@ -1,6 +1,7 @@
 -- An image that is refused, and the run of one that isn't, by each of the runners. Assumes nothing.
 use mathlib.Core.Path.{◌∙◌, sym, ap}
-use Rattle.runs.specs.declared.Outcome.{Outcome}
+use Rattle.std.specs.Prelude.{Result}
+use Rattle.runs.specs.declared.Refusal.{Refusal}
 use Rattle.runs.specs.Numbers.{refusal_number}
 use Rattle.upd546.specs.TwoRunners.{chip, restore_of}
 use Rattle.runs.specs.Lists.{Kind, run_answer}
@@ -10,20 +11,20 @@ use Rattle.runs.proofs.Refusals.{refusal-some}
 use Rattle.board.proofs.Ends.{plain_kind, skipping-kind}
 use Rattle.board.proofs.run_image.Goals as goal
 
-pub returns-in-Refused : goal.returns-in-Refused
-returns-in-Refused c =
+pub returns-in-Err : goal.returns-in-Err
+returns-in-Err c =
     let a = c.args in
-    let same = sym (ap (λ (o : Outcome). restore_of (record { outcome = o; state = c.restore_current-restored.result.state })) c.in-Refused.is) ∙ c.restore_current-restored.ensures in
+    let same = sym (ap (λ (o : Result (Unit {0}) Refusal). restore_of (record { outcome = o; state = c.restore_current-restored.result.state })) c.in-Err.is) ∙ c.restore_current-restored.ensures in
     c.refused.ensures a.log.now
-    ∙ refused-image (chip a.sheet) (refusal_number c.in-Refused.why) _ (kind_of a.runner) a.image.now a.rom.now a.schedule.now
+    ∙ refused-image (chip a.sheet) (refusal_number c.in-Err.why) _ (kind_of a.runner) a.image.now a.rom.now a.schedule.now
     a.log.now a.n
-    (refusal-some c.in-Refused.why) same
+    (refusal-some c.in-Err.why) same
 
 pub returns-then-runner-eq0 : goal.returns-then-runner-eq0
 returns-then-runner-eq0 c =
     let a = c.args in
     let state = c.restore_current-restored.result.state in
-    let same = sym (ap (λ (o : Outcome). restore_of (record { outcome = o; state = state })) c.in_default.is) ∙ c.restore_current-restored.ensures in
+    let same = sym (ap (λ (o : Result (Unit {0}) Refusal). restore_of (record { outcome = o; state = state })) c.in_default.is) ∙ c.restore_current-restored.ensures in
     c.run_plain.ensures
     ∙ ap (λ (k : Kind). run_answer (chip a.sheet) k a.rom.now a.schedule.now state a.log.now a.n)
     (plain_kind a.runner c.if-runner-eq0.true)
@@ -34,7 +35,7 @@ pub returns : goal.returns
 returns c =
     let a = c.args in
     let state = c.restore_current-restored.result.state in
-    let same = sym (ap (λ (o : Outcome). restore_of (record { outcome = o; state = state })) c.in_default.is) ∙ c.restore_current-restored.ensures in
+    let same = sym (ap (λ (o : Result (Unit {0}) Refusal). restore_of (record { outcome = o; state = state })) c.in_default.is) ∙ c.restore_current-restored.ensures in
     c.run_skipping.ensures
     ∙ ap (λ (k : Kind). run_answer (chip a.sheet) k a.rom.now a.schedule.now state a.log.now a.n)
     (skipping-kind a.runner c.if-runner-eq0.false)

@@ -5,4 +5,4 @@ use Rattle.panels.proofs.kept.Goals as goal
 
 pub returns : goal.returns
 unfolding panel_after
-returns c = λ log. rw (c.last_of-last.ensures log) refl
+returns c = λ log. rw (c.last_of.ensures log) refl

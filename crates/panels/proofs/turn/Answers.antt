@@ -11,10 +11,10 @@ returns c =
     let lot = c.lot_of-lot.ensures in
     let a = c.args in
     let M = chip a.sheet in (
-      c.kept-panel.ensures _ ∙ ap (panel_after a.p) c.run_lot-a.ensures.0
+      c.kept.ensures _ ∙ ap (panel_after a.p) c.run_lot-a.ensures.0
           ∙ (λ j. panel_after a.p (own_run M a.roms.now a.schedules.now a.logs.now a.p.needs (lot j) a.p.state)),
       (
-        c.after-course.ensures,
+        c.after.ensures,
         c.run_lot-a.ensures.1
             ∙ (λ j. with_part a.logs.now (lot j).at.log a.p.needs.log (own_run M a.roms.now a.schedules.now a.logs.now a.p.needs (lot j) a.p.state).log),
       ),

@@ -3,14 +3,8 @@ use native.Mathlib.Omega.{arith}
 use Rattle.upd546.specs.TheLineSchedule.{record_cycle}
 use Rattle.shortest.proofs.cycles_before.Goals as goal
 
-pub returns-then-most-cycle : goal.returns-then-most-cycle
-unfolding record_cycle
-returns-then-most-cycle c =
-    let read = c.number_at-cycle.ensures.0 in
-    record { within = omega arith; before = λ i l. omega (arith, read, c.if-most-cycle.true, c.if-cycle-from.false) }
-
 pub returns : goal.returns
 unfolding record_cycle
 returns c =
     let read = c.number_at-cycle.ensures.0 in
-    record { within = omega (arith, c.if-most-cycle.false); before = λ i l. omega (arith, read, c.if-cycle-from.false) }
+    record { within = omega arith; before = λ i l. omega (arith, read, c.min.ensures, c.saturating_sub.ensures) }

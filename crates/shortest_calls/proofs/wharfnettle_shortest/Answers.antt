@@ -24,4 +24,4 @@ returns c =
     long_enough (chip (record { rom = a.rom_bytes; rows = a.rows; levels = a.levels })) a.image.now a.rom.now a.schedule.now a.n
     a.log.now found (omega (arith, c.if-found-lt-FOUND_LENGTH.false)) (found_of c.find_in-a.result) _ c.find_in-a.ensures c.number_of.result _
     c.number_of.ensures
-    (c.put_eight.ensures ∙ ap (λ (k : ℕ). bytes_of found_length k ++ drop found_length found) c.records_of.ensures)
+    (c.put_number.ensures ∙ ap (λ (k : ℕ). bytes_of found_length k ++ drop found_length found) c.records_of.ensures)

@@ -10,7 +10,7 @@ use Rattle.upd546.specs.declared.State.{State}
 use Rattle.upd546.specs.TwoRunners.{chip}
 use Rattle.shortest.proofs.NoStop.{then_taken}
 use Rattle.shortest.proofs.Order.{refused_by, by_limit, by_none}
-use Rattle.shortest.proofs.refusal.Goals as goal
+use Rattle.shortest.proofs.Trial.refusal.Goals as goal
 
 judged : (sheet : Sheet) (rom sched : List ℕ) (s : State) (log : List ℕ) {a : RunAnswer State} → a ≡ run_answer (chip sheet) plain_one rom sched s log 0
     → refusal_of a.end ≡ run_number (chip sheet) rom sched s 0
@@ -21,21 +21,21 @@ pub returns-in-Refused : goal.returns-in-Refused
 returns-in-Refused c =
     let a = c.args in
     let k = numbered c.in-Refused.why in
-    refused_by (chip a.sheet) a.rom.now a.sched.now a.s a.n.0 (refusal_number c.in-Refused.why) k.0 k.1
-    (sym (ap (λ e. refusal_of (end_of e)) c.in-Refused.is) ∙ judged a.sheet a.rom.now a.sched.now a.s _ c.run_plain-a.ensures)
+    refused_by (chip a.self.sheet) a.self.rom.now a.self.sched.now a.s a.n.0 (refusal_number c.in-Refused.why) k.0 k.1
+    (sym (ap (λ e. refusal_of (end_of e)) c.in-Refused.is) ∙ judged a.self.sheet a.self.rom.now a.self.sched.now a.s _ c.run_plain-a.ensures)
 
 pub returns-then-within_limit : goal.returns-then-within_limit
 returns-then-within_limit c =
     let a = c.args in
     sym
-    (by_none (chip a.sheet) a.rom.now a.sched.now a.s a.n.0
-    (sym (judged a.sheet a.rom.now a.sched.now a.s _ c.run_plain-a.ensures) ∙ then_taken c.run_plain-a.result.end c.in_default.not-Refused)
+    (by_none (chip a.self.sheet) a.self.rom.now a.self.sched.now a.s a.n.0
+    (sym (judged a.self.sheet a.self.rom.now a.self.sched.now a.s _ c.run_plain-a.ensures) ∙ then_taken c.run_plain-a.result.end c.in_default.not-Refused)
     (sym c.within_limit.ensures ∙ c.if-within_limit.true))
 
 pub returns : goal.returns
 returns c =
     let a = c.args in
     sym
-    (by_limit (chip a.sheet) a.rom.now a.sched.now a.s a.n.0
-    (sym (judged a.sheet a.rom.now a.sched.now a.s _ c.run_plain-a.ensures) ∙ then_taken c.run_plain-a.result.end c.in_default.not-Refused)
+    (by_limit (chip a.self.sheet) a.self.rom.now a.self.sched.now a.s a.n.0
+    (sym (judged a.self.sheet a.self.rom.now a.self.sched.now a.s _ c.run_plain-a.ensures) ∙ then_taken c.run_plain-a.result.end c.in_default.not-Refused)
     (sym c.within_limit.ensures ∙ c.if-within_limit.false))

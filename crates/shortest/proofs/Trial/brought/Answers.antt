@@ -10,7 +10,7 @@ use Rattle.shortest.specs.Search.{first_records}
 use Rattle.shortest.specs.Tried.{Ahead}
 use Rattle.shortest.proofs.Ends.{Sound, sound}
 use Rattle.shortest.proofs.Shared.{beginning, done_within, leads_there, kept_from}
-use Rattle.shortest.proofs.brought.Goals as goal
+use Rattle.shortest.proofs.Trial.brought.Goals as goal
 
 record Leads (t : State) (done : ℕ) (r : Ran State) : Type 0 where
   state : t ≡ r.state
@@ -28,18 +28,18 @@ leads sheet rom sched s n w k some d ahead log room e =
 pub overflow_sub-result : goal.overflow_sub-result
 overflow_sub-result c =
     let a = c.args in
-    let w = sound a.sheet a.rom.now a.sched.now a.s a.n (λ i. omega (arith, c.type_inv.rom i)) (λ i. omega (arith, c.type_inv.sched i)) c.requires.ready.taken in
-    let some : a.k < record_count a.sched.now = omega (arith, c.requires.some) in
+    let w = sound a.self.sheet a.self.rom.now a.self.sched.now a.s a.n a.self.rom_bytes a.self.sched_bytes c.requires.ready.taken in
+    let some : a.k < record_count a.self.sched.now = omega (arith, c.requires.some) in
     let d = c.cycles_before-d in
-    let there = leads a.sheet a.rom.now a.sched.now a.s a.n w a.k some d.result d.ensures a.log.now c.requires.ready.room c.run_skipping-a.ensures in
-    omega (arith, there.cycles, done_within a.sheet a.rom.now a.sched.now a.s a.n w a.k some d.result d.ensures)
+    let there = leads a.self.sheet a.self.rom.now a.self.sched.now a.s a.n w a.k some d.result d.ensures a.log.now c.requires.ready.room c.run_skipping-a.ensures in
+    omega (arith, there.cycles, done_within a.self.sheet a.self.rom.now a.self.sched.now a.s a.n w a.k some d.result d.ensures)
 
 pub returns : goal.returns
 returns c =
     let a = c.args in
-    let w = sound a.sheet a.rom.now a.sched.now a.s a.n (λ i. omega (arith, c.type_inv.rom i)) (λ i. omega (arith, c.type_inv.sched i)) c.requires.ready.taken in
-    let some : a.k < record_count a.sched.now = omega (arith, c.requires.some) in
+    let w = sound a.self.sheet a.self.rom.now a.self.sched.now a.s a.n a.self.rom_bytes a.self.sched_bytes c.requires.ready.taken in
+    let some : a.k < record_count a.self.sched.now = omega (arith, c.requires.some) in
     let d = c.cycles_before-d in
-    let there = leads a.sheet a.rom.now a.sched.now a.s a.n w a.k some d.result d.ensures a.log.now c.requires.ready.room c.run_skipping-a.ensures in
-    kept_from a.sheet a.rom.now a.sched.now a.s a.n w a.k some d.result d.ensures c.run_skipping-a.result.state
+    let there = leads a.self.sheet a.self.rom.now a.self.sched.now a.s a.n w a.k some d.result d.ensures a.log.now c.requires.ready.room c.run_skipping-a.ensures in
+    kept_from a.self.sheet a.self.rom.now a.self.sched.now a.s a.n w a.k some d.result d.ensures c.run_skipping-a.result.state
     (a.n - c.run_skipping-a.result.cycles.0) there.state (ap (λ (m : ℕ). a.n - m) there.cycles)

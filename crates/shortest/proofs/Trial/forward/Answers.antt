@@ -7,7 +7,7 @@ use Rattle.upd546.specs.declared.State.{State}
 use Rattle.upd546.specs.TwoRunners.{chip}
 use Rattle.shortest.proofs.Ends.{Sound, sound}
 use Rattle.shortest.proofs.Watching.{there, reached, leads}
-use Rattle.shortest.proofs.forward.Goals as goal
+use Rattle.shortest.proofs.Trial.forward.Goals as goal
 
 record Leads (t : State) (done : ℕ) (r : Ran State) : Type 0 where
   state : t ≡ r.state
@@ -24,13 +24,13 @@ led sheet rom sched s n w d h log room e =
 pub overflow_sub-n : goal.overflow_sub-n
 overflow_sub-n c =
     let a = c.args in
-    let w = sound a.sheet a.rom.now a.sched.now a.s a.n (λ i. omega (arith, c.type_inv.rom i)) (λ i. omega (arith, c.type_inv.sched i)) c.requires.0.taken in
-    let got = led a.sheet a.rom.now a.sched.now a.s a.n w a.d c.requires.1 a.log.now c.requires.0.room c.run_skipping-a.ensures in
-    omega (arith, got.cycles, c.requires.1, (reached a.sheet a.rom.now a.sched.now a.s a.n w a.d c.requires.1).cycles)
+    let w = sound a.self.sheet a.self.rom.now a.self.sched.now a.s a.n a.self.rom_bytes a.self.sched_bytes c.requires.0.taken in
+    let got = led a.self.sheet a.self.rom.now a.self.sched.now a.s a.n w a.d c.requires.1 a.log.now c.requires.0.room c.run_skipping-a.ensures in
+    omega (arith, got.cycles, c.requires.1, (reached a.self.sheet a.self.rom.now a.self.sched.now a.s a.n w a.d c.requires.1).cycles)
 
 pub returns : goal.returns
 returns c =
     let a = c.args in
-    let w = sound a.sheet a.rom.now a.sched.now a.s a.n (λ i. omega (arith, c.type_inv.rom i)) (λ i. omega (arith, c.type_inv.sched i)) c.requires.0.taken in
-    let got = led a.sheet a.rom.now a.sched.now a.s a.n w a.d c.requires.1 a.log.now c.requires.0.room c.run_skipping-a.ensures in
+    let w = sound a.self.sheet a.self.rom.now a.self.sched.now a.s a.n a.self.rom_bytes a.self.sched_bytes c.requires.0.taken in
+    let got = led a.self.sheet a.self.rom.now a.self.sched.now a.s a.n w a.d c.requires.1 a.log.now c.requires.0.room c.run_skipping-a.ensures in
     rw c.kept_at.ensures (record { state = got.state; left_is = ap (λ (m : ℕ). a.n - m) got.cycles })
