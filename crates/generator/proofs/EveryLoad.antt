@@ -8,7 +8,7 @@ use native.Mathlib.Nat.{eq-or-lt_of_le, mod-lt}
 use native.Mathlib.Numerals.{add-one}
 use native.Mathlib.Omega.{arith}
 use lib.Dec.{eqb, leb, ltb}
-use lib.ListN.{length, get_or, take, drop, length-append}
+use lib.ListN.{length, get_or, take, drop}
 use lib.Seq.{get_or-drop, drop_at, take_at, drop-append-le}
 use borrow.Author.Tests.{lt-ltb, le-leb, eq-eqb}
 use Rattle.runs.specs.Refusals.{first_of, unless, cycle_limit}
@@ -28,8 +28,8 @@ use Rattle.upd546.specs.TwoRunners.{panel_number, chip, upd546}
 use Rattle.laws.proofs.Images.{cycle_back}
 use Rattle.schedule.proofs.Records.{by_order, by_records, none_refused, one_more}
 use Rattle.generator.specs.Loads.{drawn, drawn_bytes, rom_of, cycle_from, record_from, stands_at, last_drawn, record_of, schedule_of}
-use Rattle.generator.specs.EveryLoad.{AcceptedSchedule, EverySchedule, EveryRom, EveryLoad, EveryBeginning}
-use Rattle.generator.proofs.Loads.{length-drawn, length-record, length-schedule, drawn_byte, gap_within, cycle_most}
+use Rattle.generator.specs.EveryLoad.{EverySchedule, EveryRom, EveryLoad, EveryBeginning}
+use Rattle.generator.proofs.Loads.{length-drawn, length-schedule, drawn_byte, gap_within, cycle_most}
 
 -- THE RECORDS OF A SCHEDULE
 

@@ -1,9 +1,9 @@
 -- A line of text as program `load` takes it: `rom SEED` or `schedule SEED M`, the numbers decimal. Assumes nothing: these are definitions.
-use Rattle.std.specs.Prelude.{ℕ, suc, ◌+◌, ◌*◌, ◌%◌, ◌^◌, Bool, true, false, cond, ◌&&◌, ◌||◌, List, [], ◌∷◌, eqb, leb, ltb, length, get_or, drop}
+use Rattle.std.specs.Prelude.{ℕ, suc, ◌+◌, ◌*◌, ◌%◌, ◌^◌, Bool, true, false, cond, ◌&&◌, ◌||◌, List, [], ◌∷◌, Option, Some, None, eqb, leb, ltb, length, get_or, drop}
 use Rattle.upd546.specs.Bytes.{number_of, number_at}
 use Rattle.upd546.specs.Sequences.{all_of}
 use Rattle.load_line.specs.declared.Command.{Command}
-use Rattle.load_line.specs.declared.Command.TheVariants.{Rom, Schedule, Unknown}
+use Rattle.load_line.specs.declared.Command.TheVariants.{Rom, Schedule}
 use Rattle.load_line.specs.declared.Numeral.{Numeral}
 
 -- A text is the list of its ASCII codes.
@@ -68,24 +68,24 @@ abbrev pub is_seed : Numeral → Bool
 is_seed n = ltb 0 n.digits && ltb n.value seed_limit
 
 -- behind `rom `, with the number that stands there
-abbrev pub rom_by : List ℕ → (seed : Numeral) → Command
-rom_by line seed = cond (is_seed seed && ends_at line (4 + seed.digits)) (Rom seed.value) Unknown
+abbrev pub rom_by : List ℕ → (seed : Numeral) → Option Command
+rom_by line seed = cond (is_seed seed && ends_at line (4 + seed.digits)) (Some (Rom seed.value)) None
 
-unfoldable pub rom_asked : List ℕ → Command
+unfoldable pub rom_asked : List ℕ → Option Command
 rom_asked line = rom_by line (numeral_at line 4)
 
 -- behind `schedule `, with the number that stands there, and the one behind a byte more
-abbrev pub schedule_by : List ℕ → (seed m : Numeral) → Command
+abbrev pub schedule_by : List ℕ → (seed m : Numeral) → Option Command
 schedule_by line seed m =
     let at = 9 + seed.digits in
     cond
     (is_seed seed && (eqb (get_or line at 0) space_code && (ltb 0 m.digits && ends_at line (at + 1 + m.digits))))
-    (Schedule seed.value m.value)
-    Unknown
+    (Some (Schedule seed.value m.value))
+    None
 
-unfoldable pub schedule_asked : List ℕ → Command
+unfoldable pub schedule_asked : List ℕ → Option Command
 schedule_asked line = let seed = numeral_at line 9 in schedule_by line seed (numeral_at line (9 + seed.digits + 1))
 
 -- WHAT A LINE ASKS FOR
-unfoldable pub command_of : List ℕ → Command
-command_of line = cond (begins_with line rom_word 3) (rom_asked line) (cond (begins_with line schedule_word 8) (schedule_asked line) Unknown)
+unfoldable pub command_of : List ℕ → Option Command
+command_of line = cond (begins_with line rom_word 3) (rom_asked line) (cond (begins_with line schedule_word 8) (schedule_asked line) None)

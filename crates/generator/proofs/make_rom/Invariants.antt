@@ -1,15 +1,10 @@
--- The loop has written i bytes, and s is the generator behind them. Assumes nothing.
-use mathlib.Core.Path.{◌≡◌}
-use mathlib.Core.List.{◌++◌}
-use Prim.Native.Nat.{◌-◌, ◌≤◌}
-use lib.ListN.{length, drop}
-use Rattle.upd546.specs.TheMachine.{rom_length}
+-- So many bytes are written, and s is the generator behind them. Assumes nothing.
+use Rattle.std.proofs.Common.{◌≡◌, ◌++◌, drop}
 use Rattle.generator.specs.Loads.{stepped, drawn_bytes}
 use Rattle.generator.proofs.make_rom.Given as goal
 
-abbrev pub invariant-loop-i : goal.invariant-loop-i
-invariant-loop-i l =
-    (l.i ≤ rom_length) × (length l.buffer ≡ length l.initial.buffer) × (l.s ≡ stepped l.seed l.i) × (l.buffer ≡ drawn_bytes l.seed l.i ++ drop l.i l.initial.buffer)
-
-abbrev pub decreases-loop-i : goal.decreases-loop-i
-decreases-loop-i l = rom_length - l.i
+abbrev pub invariant-loop-byte : goal.invariant-loop-byte
+invariant-loop-byte l = record {
+  behind : l.s ≡ stepped l.seed l.byte-index;
+  written : l.byte-items ≡ drawn_bytes l.seed l.byte-index ++ drop l.byte-index l.initial.byte-items;
+}
