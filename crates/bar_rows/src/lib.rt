@@ -1,42 +1,20 @@
-// Rows of bars in lent numbers: four for the landings, one for resets. A row that is full has neighbours joined that begin within one
+// Rows of bars in fixed memory: four for the landings, one for resets. A row that is full has neighbours joined that begin within one
 // step, and the step doubles until half of the row is free; so a log of any number of waits keeps within the rows, and none is lost.
 // It may not know what a wait is, nor how a bar is drawn.
-// Every place is taken within the rows, so that no function asks anything of its caller.
 #![tactic(auto)]
 
-ghost use Rattle.std.specs.Prelude.{◌+◌, ◌≤◌};
+ghost use Rattle.std.specs.Prelude.{ℕ, ◌≡◌, ◌<◌, ◌≤◌, ◌+◌, ◌-◌, ◌^◌, [], min, get_or};
 
 use bars::Bar;
 use runs::MachineCycles;
 
-pub const ROWS: usize = 5;
-
 // The bars of a row, at most.
 pub const BARS: usize = 2048;
 
-// Five rows of 2,048 bars of four numbers: where the first of its waits began, how many they are, the longest, their cycles together.
-pub const NUMBERS: usize = 40960;
-
-const BAR_NUMBERS: usize = 4;
-
-const ROW_NUMBERS: usize = 8192;
-
-// Twice this fits 64 bits; no log has so many cycles.
-const STEP_MOST: u64 = 0x1000_0000_0000_0000;
-
-// So many doublings reach it.
+// So many doublings of a step reach beyond the cycles of any log, and leave one bar.
 const DOUBLINGS: usize = 62;
 
-const NUMBER_MOST: u64 = 0xffff_ffff_ffff_ffff;
-
-// A row: how many bars it has, and within how many cycles waits are joined; 0 where none were.
-#[derive(Clone, Copy)]
-pub struct Row {
-    pub count: usize,
-    pub step: MachineCycles,
-}
-
-// Waits that are drawn as one bar.
+// Waits that are drawn as one bar: where the first of them began, how many they are, the longest, their cycles together.
 #[derive(Clone, Copy)]
 pub struct Joined {
     pub start: MachineCycles,
@@ -45,170 +23,125 @@ pub struct Joined {
     pub cycles: MachineCycles,
 }
 
-pub fn empty_row() -> Row {
-    Row {
-        count: 0,
-        step: MachineCycles(0),
-    }
-}
-
-// Where bar k of row i stands.
-fn place(i: usize, k: usize) -> usize
-    ensures { result + 4 ≤ 40960 }
-{
-    i % ROWS * ROW_NUMBERS + k % BARS * BAR_NUMBERS
-}
-
-// Bar k of row i.
-pub fn bar_at(rows: &[u64; NUMBERS], i: usize, k: usize) -> Joined {
-    let at = place(i, k);
-    Joined {
-        start: MachineCycles(rows[at]),
-        waits: rows[at + 1],
-        longest: MachineCycles(rows[at + 2]),
-        cycles: MachineCycles(rows[at + 3]),
-    }
-}
-
-// A sum that stays at the largest number of 64 bits. No log reaches it.
-fn plus(a: u64, b: u64) -> u64 {
-    if NUMBER_MOST - a < b {
-        NUMBER_MOST
-    } else {
-        a + b
-    }
-}
-
-fn larger(a: u64, b: u64) -> u64 {
-    if a < b { b } else { a }
-}
-
-fn store(rows: &mut [u64; NUMBERS], i: usize, k: usize, bar: Joined) {
-    let at = place(i, k);
-    rows[at] = bar.start.0;
-    rows[at + 1] = bar.waits;
-    rows[at + 2] = bar.longest.0;
-    rows[at + 3] = bar.cycles.0;
-}
-
-// Waits joined to bar k.
-fn join(rows: &mut [u64; NUMBERS], i: usize, k: usize, bar: Joined) {
-    let was = bar_at(rows, i, k);
-    let start = was.start;
-    let waits = plus(was.waits, bar.waits);
-    let longest = larger(was.longest.0, bar.longest.0);
-    let cycles = plus(was.cycles.0, bar.cycles.0);
-    store(
-        rows,
-        i,
-        k,
+impl From<Bar> for Joined {
+    fn from(bar: Bar) -> Joined
+        ensures { result.waits ≡ 1 }
+    {
         Joined {
-            start: start,
-            waits: waits,
-            longest: MachineCycles(longest),
-            cycles: MachineCycles(cycles),
-        },
-    );
-}
-
-// Whether two waits begin within one step.
-fn near(a: MachineCycles, b: MachineCycles, step: MachineCycles) -> bool {
-    if step.0 == 0 {
-        return false;
-    }
-    a.0 / step.0 == b.0 / step.0
-}
-
-// One bar more behind `count` bars, or joined to the last of them: how many there are then.
-fn add(rows: &mut [u64; NUMBERS], i: usize, count: usize, step: MachineCycles, bar: Joined) -> usize
-    ensures { result ≤ count + 1 }
-{
-    if count == 0 {
-        store(rows, i, 0, bar);
-        return 1;
-    }
-    let last = bar_at(rows, i, count - 1);
-    let from = last.start;
-    let begun = bar.start;
-    if near(from, begun, step) {
-        join(rows, i, count - 1, bar);
-        return count;
-    }
-    if BARS <= count {
-        join(rows, i, count - 1, bar);
-        return count;
-    }
-    store(rows, i, count, bar);
-    count + 1
-}
-
-// The bars of a row with neighbours joined: how many there are then.
-fn thinned(rows: &mut [u64; NUMBERS], i: usize, count: usize, step: MachineCycles) -> usize {
-    let mut kept = 0;
-    let mut k = 0;
-    while k < count {
-        let bar = bar_at(rows, i, k);
-        kept = add(rows, i, kept, step, bar);
-        k += 1;
-    }
-    kept
-}
-
-fn doubled(step: u64) -> u64 {
-    if step == 0 {
-        return 1;
-    }
-    if STEP_MOST <= step {
-        return step;
-    }
-    2 * step
-}
-
-// A row with half of its bars free.
-fn halved(rows: &mut [u64; NUMBERS], i: usize, row: Row) -> Row {
-    let mut count = row.count;
-    let mut step = row.step.0;
-    let mut turns = 0;
-    while turns < DOUBLINGS {
-        if count <= BARS / 2 {
-            return Row {
-                count: count,
-                step: MachineCycles(step),
-            };
+            start: bar.start,
+            waits: 1,
+            longest: bar.length,
+            cycles: bar.length,
         }
-        step = doubled(step);
-        count = thinned(rows, i, count, MachineCycles(step));
-        turns += 1;
-    }
-    Row {
-        count: count,
-        step: MachineCycles(step),
     }
 }
 
-// ONE WAIT MORE in row i.
-pub fn put(rows: &mut [u64; NUMBERS], i: usize, row: Row, bar: Bar) -> Row {
-    let start = bar.start;
-    let length = bar.length;
-    let one = Joined {
-        start: start,
-        waits: 1,
-        longest: length,
-        cycles: length,
+impl Joined {
+    // What a row has in the places that no bar takes.
+    const NONE: Joined = Joined {
+        start: MachineCycles(0),
+        waits: 0,
+        longest: MachineCycles(0),
+        cycles: MachineCycles(0),
     };
-    if row.count < BARS {
-        let step = row.step;
-        let count = add(rows, i, row.count, step, one);
-        return Row {
-            count: count,
-            step: step,
-        };
+
+    // Whether both begin within one step.
+    fn is_near(self, other: Joined, step: MachineCycles) -> bool {
+        self.start.0.checked_div(step.0) == other.start.0.checked_div(step.0)
     }
-    let free = halved(rows, i, row);
-    let step = free.step;
-    let count = add(rows, i, free.count, step, one);
-    Row {
-        count: count,
-        step: step,
+
+    // With later waits joined to them. Sums stay at the largest number of 64 bits, which no log reaches.
+    fn with(self, later: Joined) -> Joined
+        ensures { result.waits ≡ min (self.waits + later.waits) (2 ^ 64 - 1) }
+    {
+        Joined {
+            start: self.start,
+            waits: self.waits.saturating_add(later.waits),
+            longest: MachineCycles(self.longest.0.max(later.longest.0)),
+            cycles: MachineCycles(self.cycles.0.saturating_add(later.cycles.0)),
+        }
+    }
+}
+
+// A row: the first `count` of the array are its bars; and within how many cycles waits are joined, if any were. The memory is fixed, so no
+// Vec; and no ArrayVec of the kit, which can't be copied: a Row can, and so can the rows of a day.
+#[derive(Clone, Copy)]
+pub struct Row {
+    all: [Joined; BARS],
+    count: usize,
+    pub step: Option<MachineCycles>,
+    ghost within: { count ≤ 2048 },
+}
+
+impl Row {
+    ghost use Rattle.bar_rows.specs.Rows.{bars_in, HasMore};
+
+    pub fn empty() -> Row
+        ensures { bars_in result ≡ [] }
+    {
+        Row {
+            all: [Joined::NONE; BARS],
+            count: 0,
+            step: None,
+        }
+    }
+
+    pub fn bars(&self) -> &[Joined]
+        ensures { result.now ≡ bars_in self.now }
+    {
+        &self.all[..self.count]
+    }
+
+    // ONE WAIT MORE.
+    pub fn put(&mut self, bar: Bar)
+        ensures { HasMore 1 self.old self.new }
+    {
+        if self.count == BARS {
+            self.halve();
+        }
+        self.add(Joined::from(bar));
+    }
+
+    // One bar more, joined to the last of them if that is near or the row is full.
+    fn add(&mut self, bar: Joined)
+        ensures kept { HasMore bar.waits self.old self.new }
+        ensures count { self.new.count ≤ self.old.count + 1 }
+        ensures others { (j : ℕ) → self.old.count < j → get_or self.new.all j Joined.NONE ≡ get_or self.old.all j Joined.NONE }
+    {
+        if let Some(k) = self.count.checked_sub(1) {
+            let last = self.all[k];
+            if self.count == BARS || self.step.is_some_and(|step| last.is_near(bar, step)) {
+                self.all[k] = last.with(bar);
+                return;
+            }
+        }
+        self.all[self.count] = bar;
+        self.count += 1;
+    }
+
+    // Until half of the row is free.
+    fn halve(&mut self)
+        ensures { HasMore 0 self.old self.new }
+    {
+        for _ in 0..DOUBLINGS {
+            if self.count <= BARS / 2 {
+                return;
+            }
+            let doubled = self.step.map_or(1, |step| step.0.saturating_mul(2));
+            self.step = Some(MachineCycles(doubled));
+            self.thin();
+        }
+    }
+
+    // Neighbours joined that are near.
+    fn thin(&mut self)
+        ensures { HasMore 0 self.old self.new }
+    {
+        let count = self.count;
+        self.count = 0;
+        for k in 0..count {
+            let bar = self.all[k];
+            self.add(bar);
+        }
     }
 }

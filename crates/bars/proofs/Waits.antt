@@ -1,22 +1,20 @@
 -- The bars are the waits of the report. Assumes nothing.
 use mathlib.Core.Path.{◌≡◌, ◌∙◌, refl, sym, ap}
-use mathlib.Core.Bool.{true, false}
 use mathlib.Core.List.{List, [], ◌∷◌, ◌++◌, append_assoc}
-use Prim.Native.Nat.{ℕ, zero, suc, ◌+◌, ◌-◌, ◌/◌, ◌%◌, ◌<◌, ◌≤◌, ◌^◌, max}
+use Prim.Native.Nat.{ℕ, zero, suc, ◌+◌, ◌/◌, ◌%◌, ◌<◌, max}
 use native.Mathlib.Omega.{arith}
 use lib.ListN.{length, get_or, length-append}
 use borrow.Author.Tests.{le-leb, lt-leb}
-use Rattle.runs.specs.Laws.{Bytes}
 use Rattle.log_form.specs.Form.{bit_at}
 use Rattle.waiting.specs.declared.Landing.{Landing}
 use Rattle.waiting.specs.declared.Carried.{Carried}
 use Rattle.waiting.specs.declared.LogRecord.{LogRecord}
 use Rattle.waiting.specs.declared.Reading.{Reading}
-use Rattle.waiting.specs.WaitingTimes.{no_waits, landing_after, landings_after, lamps_after, carried_after, carried_after_all, record_here, records_of, records_in, start_of_day, waiting_times}
+use Rattle.waiting.specs.WaitingTimes.{no_waits, landing_after, landings_after, lamps_after, carried_after, carried_after_all, record_here, records_in, start_of_day, waiting_times}
 use Rattle.waiting.specs.EveryLog.{landing_of}
 use Rattle.waiting.proofs.EveryLog.{carried_of}
 use Rattle.waiting.proofs.Progress.{torn}
-use Rattle.waits_text.specs.Parts.{no_parts, part_read, parts_read, joined_parts, WholeParts}
+use Rattle.waits_text.specs.Parts.{no_parts, part_read, parts_read, WholeParts}
 use Rattle.waits_text.proofs.Parts.{stays_refused, reads_on, not_whole, parts_read_as_one}
 use Rattle.bars.specs.declared.Bar.{Bar}
 use Rattle.bars.specs.Bars.{closed_bar, open_bar, drawn, together, longest, OneRecordEach, BarsAre, BarsAreTheWaits, CutInTwo}

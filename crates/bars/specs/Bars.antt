@@ -1,17 +1,14 @@
 -- The bars of a day's picture: one for each wait that a record closes, and one for each that is open at the end. A bar is told from what
 -- the report carries before and after the record, and from nothing else. Assumes nothing: these are definitions.
-use Rattle.std.specs.Prelude.{ℕ, zero, suc, ◌+◌, ◌-◌, ◌<◌, ◌^◌, max, ◌≡◌, cond, List, [], ◌∷◌, ◌++◌, eqb, leb, length}
+use Rattle.std.specs.Prelude.{ℕ, ◌+◌, ◌-◌, ◌<◌, ◌^◌, max, ◌≡◌, cond, List, [], ◌∷◌, ◌++◌, Option, None, Some, eqb, leb, length}
 use Rattle.runs.specs.Laws.{Bytes}
 use Rattle.log_form.specs.Form.{log_record_length}
 use Rattle.waiting.specs.declared.Landing.{Landing}
-use Rattle.waiting.specs.declared.Carried.{Carried}
 use Rattle.waiting.specs.declared.Reading.{Reading}
 use Rattle.waiting.specs.WaitingTimes.{start_of_day, waiting_times}
-use Rattle.waiting.specs.EveryLog.{landing_of, waits_of}
+use Rattle.waiting.specs.EveryLog.{landing_of}
 use Rattle.waits_text.specs.Parts.{no_parts, part_read, parts_read, joined_parts}
 use Rattle.bars.specs.declared.Bar.{Bar}
-use Rattle.bars.specs.declared.Drawn.{Drawn}
-use Rattle.bars.specs.declared.Drawn.TheVariants.{Nothing, Wait}
 
 -- A BAR
 
@@ -25,9 +22,9 @@ unfoldable pub open_bar : ℕ → Landing → List Bar
 open_bar last l = cond (eqb l.mark 0) [] (record { start = l.start; length = record { 0 = last - l.start.0 } } ∷ [])
 
 -- a function's answer as bars
-abbrev pub bars_of : Drawn → List Bar
-bars_of Nothing = []
-bars_of (Wait b) = b ∷ []
+abbrev pub bars_of : Option Bar → List Bar
+bars_of None = []
+bars_of (Some b) = b ∷ []
 
 -- THE BARS OF A LOG, which is read record by record: on landing i
 

@@ -2,7 +2,7 @@
 // know how a log is read, nor how a bar is drawn.
 #![tactic(auto)]
 
-ghost use Rattle.std.specs.Prelude.{◌≡◌, ◌-◌};
+ghost use Rattle.std.specs.Prelude.{◌≡◌};
 ghost use Rattle.bars.specs.Bars.{closed_bar, open_bar, bars_of};
 
 use runs::MachineCycles;
@@ -15,45 +15,32 @@ pub struct Bar {
     pub length: MachineCycles,
 }
 
-// What is drawn of a landing.
-#[derive(Clone, Copy)]
-pub enum Drawn {
-    Nothing,
-    Wait(Bar),
-}
-
-fn less(a: u64, b: u64) -> u64
-    ensures { result ≡ a - b }
-{
-    if a < b { 0 } else { a - b }
-}
-
 // THE WAIT THAT A RECORD CLOSED on a landing: its figures before the record, and after it.
-pub fn closed_bar(was: Landing, is: Landing) -> Drawn
+#[tactic(auto, unfolding(crate::specs::Bars::closed_bar))]
+pub fn closed_bar(was: Landing, is: Landing) -> Option<Bar>
     ensures { bars_of result ≡ closed_bar was is }
 {
     if is.closed <= was.closed {
-        return Drawn::Nothing;
+        return None;
     }
-    let length = less(is.cycles.0, was.cycles.0);
-    let start = was.start;
-    Drawn::Wait(Bar {
-        start: start,
+    let length = is.cycles.0.saturating_sub(was.cycles.0);
+    Some(Bar {
+        start: was.start,
         length: MachineCycles(length),
     })
 }
 
 // THE WAIT THAT IS OPEN on a landing at the last cycle of a log.
-pub fn open_bar(last: MachineCycles, l: Landing) -> Drawn
+#[tactic(auto, unfolding(crate::specs::Bars::open_bar))]
+pub fn open_bar(last: MachineCycles, l: Landing) -> Option<Bar>
     ensures { bars_of result ≡ open_bar last.0 l }
 {
     if l.mark == 0 {
-        return Drawn::Nothing;
+        return None;
     }
-    let length = less(last.0, l.start.0);
-    let start = l.start;
-    Drawn::Wait(Bar {
-        start: start,
+    let length = last.0.saturating_sub(l.start.0);
+    Some(Bar {
+        start: l.start,
         length: MachineCycles(length),
     })
 }

@@ -3,12 +3,17 @@
 // Sums and products stay at the largest number of 64 bits, so that no function asks anything of its caller. Times of a log don't reach it.
 #![tactic(auto)]
 
-ghost use Rattle.std.specs.Prelude.{◌≤◌, ◌*◌};
+ghost use Rattle.std.specs.Prelude.{◌≡◌};
+ghost use Rattle.seconds.specs.Times.{scaled, micros_of, cycles_of};
 
 use runs::MachineCycles;
 
-// NEC's clock, in hertz: document 000 has the uPD546 at 400 kHz, and a machine cycle of four clock cycles is 10 microseconds.
-pub const NEC_CLOCK: u64 = 400000;
+// A clock, in hertz.
+#[derive(Clone, Copy, PartialEq, Eq)]
+pub struct Clock(pub u64);
+
+// NEC's clock: document 000 has the uPD546 at 400 kHz, and a machine cycle of four clock cycles is 10 microseconds.
+pub const NEC_CLOCK: Clock = Clock(400000);
 
 // The clocks that may be given.
 pub const CLOCK_LEAST: u64 = 1000;
@@ -17,16 +22,13 @@ pub const CLOCK_MOST: u64 = 100000000;
 
 const CLOCKS_A_CYCLE: u64 = 4;
 
-const MICROS: u64 = 1000000;
+// A second, and a minute, in microseconds.
+const SECOND: u64 = 1000000;
 
 pub const MINUTE: u64 = 60000000;
 
-const MOST: u64 = 0xffff_ffff_ffff_ffff;
-
-const STEPS: usize = 44;
-
 // In microseconds: up to a second 1, 2 and 5 of each size; then parts of a minute, of an hour and of a day; then days.
-const STEP_TABLE: [u64; STEPS] = [
+const STEPS: [u64; 44] = [
     10,
     20,
     50,
@@ -73,49 +75,32 @@ const STEP_TABLE: [u64; STEPS] = [
     8640000000000000,
 ];
 
-pub fn plus(a: u64, b: u64) -> u64 {
-    if MOST - a < b { MOST } else { a + b }
-}
-
-// The quotient; 0 where there is none.
-pub fn over(a: u64, b: u64) -> u64 {
-    if b == 0 { 0 } else { a / b }
-}
-
-pub fn rest(a: u64, b: u64) -> u64 {
-    if b == 0 { 0 } else { a % b }
-}
-
-pub fn times(a: u64, b: u64) -> u64 {
-    if b == 0 {
+// n times `to` by `from`, cut to a whole number; 0 if `from` is.
+fn scaled(n: u64, to: u64, from: u64) -> u64
+    ensures { result ≡ scaled n to from }
+{
+    if from == 0 {
         return 0;
     }
-    if MOST / b < a {
-        return MOST;
+    let whole = (n / from).saturating_mul(to);
+    let part = (n % from).saturating_mul(to) / from;
+    whole.saturating_add(part)
+}
+
+impl Clock {
+    // The microseconds of so many machine cycles, cut to whole ones.
+    pub fn micros(self, cycles: MachineCycles) -> u64
+        ensures { result ≡ micros_of self.0 cycles.0 }
+    {
+        scaled(cycles.0.saturating_mul(CLOCKS_A_CYCLE), SECOND, self.0)
     }
-    a * b
-}
 
-pub fn lesser(a: u64, b: u64) -> u64 {
-    if a < b { a } else { b }
-}
-
-pub fn larger(a: u64, b: u64) -> u64 {
-    if a < b { b } else { a }
-}
-
-// The microseconds of so many machine cycles, cut to whole ones.
-pub fn micros(cycles: MachineCycles, clock: u64) -> u64 {
-    let clocks = times(cycles.0, CLOCKS_A_CYCLE);
-    let part = over(times(rest(clocks, clock), MICROS), clock);
-    plus(times(over(clocks, clock), MICROS), part)
-}
-
-// The machine cycles of so many microseconds, cut to whole ones.
-pub fn cycles(micros: u64, clock: u64) -> MachineCycles {
-    let part = over(times(rest(micros, MICROS), clock), MICROS);
-    let clocks = plus(times(over(micros, MICROS), clock), part);
-    MachineCycles(over(clocks, CLOCKS_A_CYCLE))
+    // The machine cycles of so many microseconds, cut to whole ones.
+    pub fn cycles(self, micros: u64) -> MachineCycles
+        ensures { result.0 ≡ cycles_of self.0 micros }
+    {
+        MachineCycles(scaled(micros, self.0, SECOND) / CLOCKS_A_CYCLE)
+    }
 }
 
 // A length, rounded to the last figure that is told. The border between two forms is of the rounded value, so there is no `60.0 s`.
@@ -132,36 +117,28 @@ pub enum Length {
 }
 
 pub fn told(micros: u64) -> Length {
-    let hundredths = plus(micros, 5) / 10;
+    let hundredths = micros.saturating_add(5) / 10;
     if hundredths < 100000 {
         return Length::Milliseconds(hundredths);
     }
-    let tenths = plus(micros, 50000) / 100000;
+    let tenths = micros.saturating_add(50000) / 100000;
     if tenths < 600 {
         return Length::Seconds(tenths);
     }
-    let seconds = plus(micros, 500000) / MICROS;
+    let seconds = micros.saturating_add(500000) / SECOND;
     if seconds < 3600 {
         return Length::Minutes(seconds);
     }
-    Length::Hours(plus(micros, 30000000) / MINUTE)
+    Length::Hours(micros.saturating_add(30000000) / MINUTE)
 }
 
-// The steps that an axis may have.
-fn step(k: usize) -> u64 {
-    let steps = STEP_TABLE;
-    steps[k % STEPS]
-}
-
-// The least step of which at most so many reach up to a time; the largest where none is large enough.
+// The least step of which at most so many reach up to a time; the largest if none is large enough.
 pub fn axis_step(micros: u64, marks: u64) -> u64 {
-    let mut k = 0;
-    while k < STEPS {
-        let s = step(k);
-        if over(micros, s) <= marks {
-            return s;
-        }
-        k += 1;
-    }
-    step(STEPS - 1)
+    STEPS
+        .iter()
+        .copied()
+        .find(|step| micros
+            .checked_div(*step)
+            .is_some_and(|reached| reached <= marks))
+        .unwrap_or(STEPS[STEPS.len() - 1])
 }

@@ -1,9 +1,0 @@
--- The bars are counted. Assumes nothing.
-use Prim.Native.Nat.{◌-◌}
-use Rattle.bar_rows.proofs.thinned.Given as goal
-
-abbrev pub invariant-loop-k : goal.invariant-loop-k
-invariant-loop-k l = Unit {0}
-
-abbrev pub decreases-loop-k : goal.decreases-loop-k
-decreases-loop-k l = l.count - l.k
