@@ -1,61 +1,18 @@
 -- The parts of a line. Assumes nothing.
-use mathlib.Core.Path.{◌≡◌, ◌∙◌, refl, sym, ap}
-use mathlib.Core.Bool.{Bool, true, false, cond, ◌&&◌}
+use mathlib.Core.Path.{◌≡◌, ◌∙◌, refl, ap}
+use mathlib.Core.Bool.{Bool, true, false, cond}
 use mathlib.Core.List.{List, [], ◌∷◌, ◌++◌, append_assoc}
-use Prim.Native.Nat.{ℕ, ◌+◌, ◌/◌, ◌%◌, ◌<◌, ◌≤◌}
-use lib.Dec.{T, eqb, leb, leb→le}
-use lib.ListN.{length, take}
-use borrow.Author.Tests.{ne_eqb}
+use Prim.Native.Nat.{ℕ, ◌+◌, ◌<◌, ◌≤◌}
+use lib.Dec.{T, leb, leb→le}
+use lib.ListN.{length}
 use Rattle.upd546.specs.TheMachine.{follows}
 use Rattle.upd546.specs.Instructions.{instruction}
-use Rattle.upd546.specs.Reports.{hex_digit, space, newline}
+use Rattle.upd546.specs.Reports.{space, newline}
 use Rattle.upd546.proofs.Computed.{every_from, every_at}
 use Rattle.mnemonics.specs.Texts.{ascii, hex2, hex3}
-use Rattle.mnemonics.specs.Mnemonics.{Kind, without, bits, nibble, byte, far, zero_page, in_page, no_instruction, entry_of, kind_for, kind_of, leads_for, none_for, long_for, word_of, byte_text}
-use Rattle.mnemonics.proofs.Table.{field_length}
+use Rattle.mnemonics.specs.Mnemonics.{kind_of, none_for, long_for}
 use Rattle.listing.specs.Listed.{columns}
-use Rattle.listing.specs.Listing.{Item, led_to, begins, target, label_text, field_text, statement_text, bytes_text, remark, comment, line_text}
-
--- a letter that stands for an instruction
-pub not_none : (letter : ℕ) → (letter ≡ 45 → ⊥) → none_for (kind_for letter) ≡ false
-not_none letter n = rw (ne_eqb letter 45 n) (go (eqb letter 98) (eqb letter 107) (eqb letter 115) (eqb letter 102) (eqb letter 122) (eqb letter 112))
-  where
-    go : (b k s f z p : Bool) → none_for (cond b bits (cond k nibble (cond s byte (cond f far (cond z zero_page (cond p in_page (cond false no_instruction without))))))) ≡ false
-    go true k s f z p = refl
-    go false true s f z p = refl
-    go false false true f z p = refl
-    go false false false true z p = refl
-    go false false false false true p = refl
-    go false false false false false true = refl
-    go false false false false false false = refl
-
-pub shown_length : (b : Bool) (i : Item) → length (field_text b i) ≡ 4
-shown_length true i = refl
-shown_length false i = field_length i.kind i.at i.code i.second
-
--- a word, a space and a field
-pub stated : (all : List Item) (i : Item) {w f : List ℕ} {b : Bool} → none_for i.kind ≡ false → w ≡ entry_of i.code
-    → b ≡ (leads_for i.kind && begins all (target i)) → f ≡ field_text b i → take 3 w ++ space ++ f ≡ statement_text all i
-stated all i {w} {f} p q r s =
-    ap (λ (t : List ℕ). take 3 t ++ space ++ f) q
-    ∙ ap (λ (t : List ℕ). word_of i.code ++ space ++ t) (s ∙ ap (λ (c : Bool). field_text c i) r)
-    ∙ sym (ap (λ (c : Bool). cond c (byte_text i.code) (word_of i.code ++ space ++ field_text (leads_for i.kind && begins all (target i)) i)) p)
-
--- one byte, and two
-pub one_byte : (i : Item) {h l : ℕ} → long_for i.kind ≡ false → h ≡ hex_digit (i.code / 16 % 16) → l ≡ hex_digit (i.code % 16)
-    → h ∷ l ∷ 32 ∷ 32 ∷ 32 ∷ 32 ∷ [] ≡ bytes_text i ++ space
-one_byte i e p q = rw (e, p, q)
-
-pub two_bytes : (i : Item) {h l m n : ℕ} → long_for i.kind ≡ true → h ≡ hex_digit (i.code / 16 % 16) → l ≡ hex_digit (i.code % 16)
-    → m ≡ hex_digit (i.second / 16 % 16) → n ≡ hex_digit (i.second % 16) → h ∷ l ∷ 32 ∷ m ∷ n ∷ 32 ∷ [] ≡ bytes_text i ++ space
-two_bytes i e p q r s = rw (e, p, q, r, s)
-
-pub bytes_length : (i : Item) → length (bytes_text i ++ space) ≡ 6
-bytes_length i = go (long_for i.kind)
-  where
-    go : (b : Bool) → length ((hex2 i.code ++ cond b (space ++ hex2 i.second) (ascii "   ")) ++ space) ≡ 6
-    go true = refl
-    go false = refl
+use Rattle.listing.specs.Listing.{Item, led_to, label_text, statement_text, bytes_text, remark, comment, line_text}
 
 -- base cycles are told by a digit
 every_cycles : T (every_from (λ code. leb (instruction code).cycles 2) 0 256)
@@ -74,9 +31,6 @@ columns-same i e f g = rw (e, f, g) (regroup (bytes_text i) ((48 + (instruction 
     regroup b c = simp append_assoc
 
 -- what there is to say of a byte
-pub no_remark : (i : Item) → none_for i.kind ≡ false → [] ≡ remark i
-no_remark i e = rw e
-
 pub elsewhere : (i : Item) {place : List ℕ} → none_for i.kind ≡ true → long_for (kind_of i.code) ≡ true → place ≡ hex3 (follows i.at)
     → ascii " second byte at " ++ place ≡ remark i
 elsewhere i e f g = rw (e, f, g)

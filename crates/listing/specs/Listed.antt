@@ -1,16 +1,21 @@
 -- The listing in a buffer. Assumes nothing: these are definitions.
-use Rattle.std.specs.Prelude.{◌≡◌, cond, List, [], ◌∷◌, ◌++◌, ℕ, ◌+◌, ◌≤◌, leb, length, drop}
+use Rattle.std.specs.Prelude.{◌≡◌, false, cond, List, [], ◌∷◌, ◌++◌, ℕ, ◌+◌, ◌≤◌, leb, length, drop}
 use Rattle.upd546.specs.TheMachine.{rom_length}
 use Rattle.upd546.specs.Instructions.{instruction}
 use Rattle.upd546.specs.Reports.{space}
 use Rattle.mnemonics.specs.Texts.{ascii, hex3}
-use Rattle.mnemonics.specs.Mnemonics.{kind_for}
+use Rattle.mnemonics.specs.Kinds.{kind_by}
 use Rattle.listing.specs.declared.Shown.{Shown}
-use Rattle.listing.specs.Listing.{Item, bytes_text, listing_text}
+use Rattle.listing.specs.declared.ItemsFrom.{ItemsFrom}
+use Rattle.listing.specs.Listing.{Item, items_from, bytes_text, listing_text}
 
--- an item, whose kind is a letter of the words' table
+-- an item, with the code's kind of operand
 abbrev pub item_by : Shown → Item
-item_by s = record { at = s.at; code = s.code; second = s.second; kind = kind_for s.kind }
+item_by s = record { at = s.at; code = s.code; second = s.second; kind = kind_by s.kind }
+
+-- the items of a ROM from an address on
+abbrev pub items_left : ItemsFrom → List Item
+items_left s = items_from false s.at (drop s.at s.rom.bytes.now)
 
 -- the columns behind the statement: the comment but for its remark
 abbrev pub columns : Item → List ℕ

@@ -2,139 +2,160 @@
 // instruction does, nor where the ROM comes from and the text goes to.
 #![tactic(auto)]
 
-ghost use Rattle.std.specs.Prelude.{◌≡◌, cond, ◌&&◌, ◌++◌, ◌+◌, ◌*◌, ◌<◌, ◌≤◌, eqb, length, get_or, drop};
-ghost use Rattle.upd546.specs.TheMachine.{rom_length};
+ghost use Rattle.std.specs.Prelude.{◌≡◌, ◌&&◌, ◌++◌, ◌+◌, ◌*◌, ◌<◌, ◌≤◌, eqb, length, get_or, drop};
 ghost use Rattle.upd546.specs.Instructions.{instruction};
 ghost use Rattle.upd546.specs.Reports.{space};
-ghost use Rattle.tables.specs.Tables.{instruction_table};
-ghost use Rattle.mnemonics.specs.Mnemonics.{kind_for, leads_for, long_for, word_table};
-ghost use Rattle.text.specs.Writing.{Appended};
+ghost use Rattle.mnemonics.specs.Mnemonics.{leads_for};
+ghost use Rattle.mnemonics.specs.Kinds.{kind_by};
+ghost use Rattle.std.specs.Iterator.{YieldsFirstBy, item_count};
+ghost use Rattle.text.specs.Writing.{HasRoom, Pushed};
 ghost use Rattle.listing.specs.Listing.{cut, shown_kind, item_at, items_of, target, led_to, begins, label_text, field_text, statement_text, bytes_text, remark, line_text, lines_text};
-ghost use Rattle.listing.specs.Listed.{item_by, columns, line_length, Listed};
+ghost use Rattle.listing.specs.Listed.{item_by, items_left, columns, line_length, Listed};
 
-use mnemonics::WordTable;
-use tables::InstructionTable;
+mod rom;
+
+use mnemonics::Kind;
+use rom::Rom;
+use text::Text;
 use upd546::ROM_LENGTH;
 
 // The text of every ROM fits this many bytes; `text_length` is the same number.
 pub const TEXT_LENGTH: usize = 65536 * 2;
 
-// An item of the listing: its kind is a letter of the words' table.
+// An item of the listing, and the kind that it is shown as.
 #[derive(Clone, Copy)]
 struct Shown {
     at: u16,
     code: u8,
     second: u8,
-    kind: u8,
+    kind: Kind,
+}
+
+// The items of a ROM from an address on.
+#[derive(Drop)]
+struct ItemsFrom<'a> {
+    rom: Rom<'a>,
+    at: usize,
 }
 
 // WHICH ITEMS THERE ARE
 
-// The second byte of an instruction at an address isn't the next of the ROM.
-fn away(at: usize, rom: &[u8]) -> bool
-    requires { at < length rom.now }
-    ensures { result ≡ cut at (drop (at + 1) rom.now) }
+// The second byte of an instruction at an address isn't the next of the ROM; `rest` is what stands after its first byte.
+fn away(at: usize, rest: &[u8]) -> bool
+    ensures { result ≡ cut at rest.now }
 {
-    if at % 256 == 255 {
-        return true;
-    }
-    at + 1 == rom.len()
+    at % 256 == 255 || rest.is_empty()
 }
 
-// The byte behind an address.
-fn second_at(at: usize, rom: &[u8]) -> u8
-    requires { at < length rom.now }
-    ensures { result ≡ get_or (drop (at + 1) rom.now) 0 0 }
+fn kind_shown(kind: Kind, apart: bool) -> Kind
+    ensures { kind_by result ≡ shown_kind (kind_by kind) apart }
 {
-    if at + 1 < rom.len() {
-        return rom[at + 1];
+    if kind.is_long() && apart {
+        Kind::NoInstruction
+    } else {
+        kind
     }
-    0
 }
 
-fn kind_shown(kind: u8, apart: bool) -> u8
-    ensures { kind_for result ≡ shown_kind (kind_for kind) apart }
-{
-    if mnemonics::long(kind) {
-        if apart {
-            return b'-';
+impl<'a> Iterator for ItemsFrom<'a> {
+    type Item = Shown;
+
+    ghost next_gives = { YieldsFirstBy item_by items_left };
+
+    ghost remaining = { item_count items_left };
+
+    fn next(&mut self) -> Option<Shown> {
+        if self.at >= self.rom.bytes.len() {
+            return None;
         }
-        return kind;
-    }
-    kind
-}
-
-fn item_at(words: &WordTable, rom: &[u8], at: usize) -> Shown
-    requires { (words.now ≡ word_table) × (at < length rom.now) × (length rom.now ≤ rom_length) }
-    ensures { item_by result ≡ item_at at (get_or rom.now at 0) (drop (at + 1) rom.now) }
-{
-    let code = rom[at];
-    let word = mnemonics::entry(words, code);
-    let kind = kind_shown(word[3], away(at, rom));
-    Shown {
-        at: at as u16,
-        code,
-        second: second_at(at, rom),
-        kind,
+        let item = self.rom.item_at(self.at);
+        self.at += item.kind.size();
+        Some(item)
     }
 }
 
-fn size(kind: u8) -> usize
-    ensures { (result ≡ cond (long_for (kind_for kind)) 2 1) × (0 < result) × (result ≤ 2) }
-{
-    if mnemonics::long(kind) {
-        return 2;
+impl Shown {
+    // Where it leads; only a jump or a call leads anywhere.
+    fn target(self) -> u16
+        ensures { result ≡ target (item_by self) }
+    {
+        self.kind.target(self.at, self.code, self.second)
     }
-    1
-}
 
-// Where an item leads; only a jump or a call leads anywhere.
-fn target_of(item: Shown) -> u16
-    ensures { result ≡ target (item_by item) }
-{
-    mnemonics::target(item.kind, item.at, item.code, item.second)
-}
-
-// An item is a jump or a call, and leads to an address.
-fn leads_to(item: Shown, to: u16) -> bool
-    ensures { result ≡ (leads_for (item_by item).kind && eqb (target (item_by item)) to) }
-{
-    if mnemonics::leads(item.kind) {
-        return target_of(item) == to;
+    // It is a jump or a call, and leads to an address.
+    fn leads_to(self, to: u16) -> bool
+        ensures { result ≡ (leads_for (item_by self).kind && eqb (target (item_by self)) to) }
+    {
+        self.kind.leads() && self.target() == to
     }
-    false
 }
 
-// Some instruction of the listing leads to an address.
-fn led_to(words: &WordTable, rom: &[u8], to: u16) -> bool
-    requires { (words.now ≡ word_table) × (length rom.now ≤ rom_length) }
-    ensures { result ≡ led_to (items_of rom.now) to }
-{
-    let mut at = 0;
-    while at < rom.len() {
-        let item = item_at(words, rom, at);
-        if leads_to(item, to) {
-            return true;
+impl<'a> Rom<'a> {
+    // All its items.
+    fn items(self) -> ItemsFrom<'a>
+        ensures { (result.rom.bytes.now ≡ self.entry.bytes.now) × (items_left result ≡ items_of self.entry.bytes.now) }
+    {
+        ItemsFrom { rom: self, at: 0 }
+    }
+
+    fn item_at(self, at: usize) -> Shown
+        requires { at < length self.bytes.now }
+        ensures { item_by result ≡ item_at at (get_or self.entry.bytes.now at 0) (drop (at + 1) self.entry.bytes.now) }
+    {
+        let code = self.bytes[at];
+        let rest = &self.bytes[at + 1..];
+        let kind = mnemonics::entry(code).kind;
+        Shown {
+            at: at as u16,
+            code,
+            second: rest.first().copied().unwrap_or(0),
+            kind: kind_shown(kind, away(at, rest)),
         }
-        at += size(item.kind);
     }
-    false
-}
 
-// A line of the listing begins at an address.
-fn begins_at(words: &WordTable, rom: &[u8], to: u16) -> bool
-    requires { (words.now ≡ word_table) × (length rom.now ≤ rom_length) }
-    ensures { result ≡ begins (items_of rom.now) to }
-{
-    let mut at = 0;
-    while at < rom.len() {
-        let item = item_at(words, rom, at);
-        if item.at == to {
-            return true;
-        }
-        at += size(item.kind);
+    // Some instruction of the listing leads to an address.
+    fn led_to(self, to: u16) -> bool
+        ensures { result ≡ led_to (items_of self.entry.bytes.now) to }
+    {
+        self.items().any(|item| item.leads_to(to))
     }
-    false
+
+    // A line of the listing begins at an address.
+    fn begins_at(self, to: u16) -> bool
+        ensures { result ≡ begins (items_of self.entry.bytes.now) to }
+    {
+        self.items().any(|item| item.at == to)
+    }
+
+    // A line of the listing begins where an item leads.
+    fn leads_to_a_line(self, item: Shown) -> bool
+        ensures { result ≡ (leads_for (item_by item).kind && begins (items_of self.entry.bytes.now) (target (item_by item))) }
+    {
+        item.kind.leads() && self.begins_at(item.target())
+    }
+
+    fn statement(self, item: Shown) -> [u8; 8]
+        ensures { (result ≡ statement_text (items_of self.entry.bytes.now) (item_by item)) × (length result ≡ 8) }
+    {
+        match item.kind {
+            Kind::NoInstruction => mnemonics::byte(item.code),
+            _ => {
+                let word = mnemonics::entry(item.code).word;
+                let shown = field(self.leads_to_a_line(item), item);
+                [
+                    word[0], word[1], word[2], b' ', shown[0], shown[1], shown[2], shown[3],
+                ]
+            }
+        }
+    }
+
+    // The digit of a code's base cycles.
+    fn cycles_shown(self, code: u8) -> u8
+        ensures { result ≡ 48 + (instruction code).cycles }
+    {
+        let size = tables::size_of(self.sizes, code);
+        b'0' + size.cycles
+    }
 }
 
 // ITS LINE
@@ -150,39 +171,14 @@ fn label(led: bool, at: u16) -> [u8; 6]
     [b' ', b' ', b' ', b' ', b' ', b' ']
 }
 
-// A line of the listing begins where an item leads.
-fn leads_to_a_line(words: &WordTable, rom: &[u8], item: Shown) -> bool
-    requires { (words.now ≡ word_table) × (length rom.now ≤ rom_length) }
-    ensures { result ≡ (leads_for (item_by item).kind && begins (items_of rom.now) (target (item_by item))) }
-{
-    if mnemonics::leads(item.kind) {
-        return begins_at(words, rom, target_of(item));
-    }
-    false
-}
-
 fn field(by_label: bool, item: Shown) -> [u8; 4]
     ensures { result ≡ field_text by_label (item_by item) }
 {
     if by_label {
-        let digits = mnemonics::three(target_of(item));
+        let digits = mnemonics::three(item.target());
         return [b'L', digits[0], digits[1], digits[2]];
     }
-    mnemonics::operand(item.kind, item.at, item.code, item.second)
-}
-
-fn statement(words: &WordTable, rom: &[u8], item: Shown) -> [u8; 8]
-    requires { (words.now ≡ word_table) × (length rom.now ≤ rom_length) }
-    ensures { (result ≡ statement_text (items_of rom.now) (item_by item)) × (length result ≡ 8) }
-{
-    if item.kind == b'-' {
-        return mnemonics::byte(item.code);
-    }
-    let word = mnemonics::entry(words, item.code);
-    let shown = field(leads_to_a_line(words, rom, item), item);
-    [
-        word[0], word[1], word[2], b' ', shown[0], shown[1], shown[2], shown[3],
-    ]
+    item.kind.operand(item.at, item.code, item.second)
 }
 
 // Its bytes, and a space.
@@ -191,7 +187,7 @@ fn bytes_shown(item: Shown) -> [u8; 6]
 {
     let high = mnemonics::hex_digit(item.code / 16);
     let low = mnemonics::hex_digit(item.code);
-    if mnemonics::long(item.kind) {
+    if item.kind.is_long() {
         let next = mnemonics::hex_digit(item.second / 16);
         return [
             high,
@@ -205,82 +201,55 @@ fn bytes_shown(item: Shown) -> [u8; 6]
     [high, low, b' ', b' ', b' ', b' ']
 }
 
-// The digit of a code's base cycles.
-fn cycles_shown(sizes: &InstructionTable, code: u8) -> u8
-    requires { sizes.now ≡ instruction_table }
-    ensures { result ≡ 48 + (instruction code).cycles }
+fn put_columns(text: &mut Text<'_>, rom: Rom<'_>, item: Shown)
+    requires { HasRoom 14 text.old }
+    ensures { Pushed text.old (columns (item_by item)) text.new × (text.new.size ≡ text.old.size + 14) }
 {
-    let size = tables::size_of(sizes, code);
-    b'0' + size.cycles
+    text.push(b" ; ");
+    text.push(&mnemonics::three(item.at));
+    text.push(&bytes_shown(item));
+    text.push(&[rom.cycles_shown(item.code)]);
 }
 
-fn put_columns(out: &mut [u8], at: usize, sizes: &InstructionTable, item: Shown) -> usize
-    requires { (sizes.now ≡ instruction_table) × (at + 14 ≤ length out.old) }
-    ensures { Appended out.old at (columns (item_by item)) out.new result × (result ≡ at + 14) }
+fn put_remark(text: &mut Text<'_>, item: Shown)
+    requires { HasRoom 19 text.old }
+    ensures { Pushed text.old (remark (item_by item)) text.new × (text.new.size ≤ text.old.size + 19) }
 {
-    let place = mnemonics::three(item.at);
-    let bytes = bytes_shown(item);
-    let cycles = cycles_shown(sizes, item.code);
-    let begun = text::put(out, at, b" ; ");
-    let placed = text::put(out, begun, &place);
-    let told = text::put(out, placed, &bytes);
-    text::put(out, told, &[cycles])
-}
-
-fn put_remark(out: &mut [u8], at: usize, words: &WordTable, item: Shown) -> usize
-    requires { (words.now ≡ word_table) × (at + 19 ≤ length out.old) }
-    ensures { Appended out.old at (remark (item_by item)) out.new result × (result ≤ at + 19) }
-{
-    if item.kind != b'-' {
-        return at;
-    }
-    let word = mnemonics::entry(words, item.code);
-    if mnemonics::long(word[3]) {
+    let Kind::NoInstruction = item.kind else {
+        return;
+    };
+    if mnemonics::entry(item.code).kind.is_long() {
         let place = mnemonics::three(steps::follows(item.at));
-        let told = text::put(out, at, b" second byte at ");
-        return text::put(out, told, &[place[0], place[1], place[2]]);
+        text.push(b" second byte at ");
+        text.push(&place[..3]);
+    } else {
+        text.push(b" no instruction");
     }
-    text::put(out, at, b" no instruction")
 }
 
-fn put_line(
-    out: &mut [u8],
-    at: usize,
-    words: &WordTable,
-    sizes: &InstructionTable,
-    rom: &[u8],
-    item: Shown,
-) -> usize
-    requires { (words.now ≡ word_table) × (sizes.now ≡ instruction_table) × (length rom.now ≤ rom_length) × (at + line_length ≤ length out.old) }
-    ensures { Appended out.old at (line_text (items_of rom.now) (item_by item)) out.new result × (result ≤ at + line_length) }
+fn put_line(text: &mut Text<'_>, rom: Rom<'_>, item: Shown)
+    requires { HasRoom line_length text.old }
+    ensures { Pushed text.old (line_text (items_of rom.entry.bytes.now) (item_by item)) text.new × (text.new.size ≤ text.old.size + line_length) }
 {
-    let front = label(led_to(words, rom, item.at), item.at);
-    let labelled = text::put(out, at, &front);
-    let instruction = statement(words, rom, item);
-    let stated = text::put(out, labelled, &instruction);
-    let columned = put_columns(out, stated, sizes, item);
-    let remarked = put_remark(out, columned, words, item);
-    text::put(out, remarked, b"\n")
+    text.push(&label(rom.led_to(item.at), item.at));
+    text.push(&rom.statement(item));
+    put_columns(text, rom, item);
+    put_remark(text, item);
+    text.push(b"\n");
 }
 
 // The lines of a ROM.
-fn put_lines(out: &mut [u8], at: usize, rom: &[u8]) -> usize
-    requires { (length rom.now ≤ rom_length) × (at + line_length * length rom.now ≤ length out.old) }
-    ensures { Appended out.old at (lines_text (items_of rom.now) (items_of rom.now)) out.new result }
+fn put_lines(text: &mut Text<'_>, rom: Rom<'_>)
+    requires { HasRoom (line_length * length rom.bytes.now) text.old }
+    ensures { Pushed text.old (lines_text (items_of rom.entry.bytes.now) (items_of rom.entry.bytes.now)) text.new }
 {
-    let words = mnemonics::word_table();
-    let sizes = tables::instruction_table();
-    let mut to = at;
-    let mut place = 0;
-    while place < rom.len() {
-        let item = item_at(&words, rom, place);
-        to = put_line(out, to, &words, &sizes, rom, item);
-        place += size(item.kind);
+    for item in rom.items() {
+        put_line(text, rom, item);
     }
-    to
 }
 
-// THE LISTING OF A ROM, at the front of a buffer: its length. A ROM has at most 2,000 bytes; of more there is no listing.
+// THE LISTING OF A ROM, at the front of a buffer: its length. A ROM has at most 2,000 bytes; of more there is no listing, but a text of
+// no bytes, as `listed_text` has it: so 0 is its length.
 pub fn list(rom: &[u8], out: &mut [u8; TEXT_LENGTH]) -> usize
     ensures { Listed rom.now out.old out.new result }
 {
@@ -288,8 +257,17 @@ pub fn list(rom: &[u8], out: &mut [u8; TEXT_LENGTH]) -> usize
     if length > ROM_LENGTH {
         return 0;
     }
-    let digits = mnemonics::three(length as u16);
-    let begun = text::put(out, 0, b"rom ");
-    let headed = text::put(out, begun, &[digits[0], digits[1], digits[2], b'\n']);
-    put_lines(out, headed, rom)
+    let mut text = Text::new(out);
+    text.push(b"rom ");
+    text.push(&mnemonics::three(length as u16)[..3]);
+    text.push(b"\n");
+    let sizes = tables::instruction_table();
+    put_lines(
+        &mut text,
+        Rom {
+            bytes: rom,
+            sizes: &sizes,
+        },
+    );
+    text.len()
 }

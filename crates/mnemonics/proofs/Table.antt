@@ -1,17 +1,17 @@
 -- What the table holds of each code, from computed checks over all of them. Assumes nothing.
 use mathlib.Core.Path.{◌≡◌, ◌∙◌, refl, sym, ap}
-use mathlib.Core.Bool.{Bool, true, false, ◌&&◌, ◌||◌, not, cond}
+use mathlib.Core.Bool.{Bool, true, false, ◌||◌, not, cond}
 use mathlib.Core.List.{List, [], ◌∷◌, ◌++◌}
-use Prim.Native.Nat.{ℕ, zero, suc, ◌+◌, ◌*◌, ◌/◌, ◌%◌, ◌<◌}
+use Prim.Native.Nat.{ℕ, ◌+◌, ◌*◌, ◌/◌, ◌%◌, ◌<◌}
 use native.Mathlib.Omega.{arith}
 use lib.Dec.{T, eqb, eqb→eq}
-use lib.ListN.{get_or, length, take}
+use lib.ListN.{get_or, length, length-take}
 use borrow.Author.Tests.{eq-eqb, eqb-true}
 use Rattle.upd546.specs.Sequences.{same_numbers}
 use Rattle.upd546.specs.Instructions.{instruction}
 use Rattle.upd546.specs.Reports.{space}
-use Rattle.upd546.proofs.Computed.{both_left, both_right, every_from, every_at, get_d_entries, entries-of}
-use Rattle.mnemonics.specs.Mnemonics.{Kind, without, bits, nibble, byte, far, zero_page, in_page, no_instruction, entry_of, word_table, kind_of, long_for, operand_text, instruction_text}
+use Rattle.upd546.proofs.Computed.{every_from, every_at, get_d_entries, entries-of}
+use Rattle.mnemonics.specs.Mnemonics.{Kind, without, bits, nibble, byte, far, zero_page, in_page, no_instruction, entry_of, word_table, word_of, kind_of, long_for, operand_text, instruction_text}
 use Rattle.mnemonics.specs.NoTwoAlike.{NoTwoAlike, BytesAgree}
 
 every_length : T (every_from (λ code. eqb (length (entry_of code)) 4) 0 256)
@@ -68,12 +68,15 @@ no_two_alike a b ha hb e = go (eqb a b) refl
     go true p d = eqb-true a b p
     go false p d = absurd (refuted (same_numbers (instruction_text 0 a 0) (instruction_text 0 b 0)) same d)
 
+pub word_length : (code : ℕ) → code < 256 → length (word_of code) ≡ 3
+word_length code h = omega (arith, length-take 3 (entry_of code), entry_length code h)
+
 -- a word, a space and a field, letter by letter
-pub joined : (w f : List ℕ) → length w ≡ 4 → length f ≡ 4
-    → get_or w 0 0 ∷ get_or w 1 0 ∷ get_or w 2 0 ∷ 32 ∷ get_or f 0 0 ∷ get_or f 1 0 ∷ get_or f 2 0 ∷ get_or f 3 0 ∷ [] ≡ take 3 w ++ space ++ f
+pub joined : (w f : List ℕ) → length w ≡ 3 → length f ≡ 4
+    → get_or w 0 0 ∷ get_or w 1 0 ∷ get_or w 2 0 ∷ 32 ∷ get_or f 0 0 ∷ get_or f 1 0 ∷ get_or f 2 0 ∷ get_or f 3 0 ∷ [] ≡ w ++ space ++ f
 joined w f h k =
     ap (λ (l : List ℕ). get_or w 0 0 ∷ get_or w 1 0 ∷ get_or w 2 0 ∷ 32 ∷ l) (four f k)
-    ∙ ap (λ (l : List ℕ). take 3 l ++ space ++ f) (four w h)
+    ∙ ap (λ (l : List ℕ). l ++ space ++ f) (sym (rw h at (entries-of w)))
 
 pub field_length : (k : Kind) (at code second : ℕ) → length (operand_text k at code second) ≡ 4
 field_length without at code second = refl

@@ -1,3 +1,4 @@
 pub mod Texts
 pub mod Mnemonics
+pub mod Kinds
 pub mod NoTwoAlike

@@ -1,18 +1,14 @@
 -- Text behind text in a buffer. Assumes nothing.
-use mathlib.Core.Path.{◌≡◌, ◌∙◌, sym, ap, ap₂, subst}
-use mathlib.Core.List.{List, [], ◌∷◌, ◌++◌, append_assoc, append-nil}
-use Prim.Native.Nat.{ℕ, suc, ◌+◌, ◌<◌, ◌≤◌}
-use native.Mathlib.Numerals.{add-one}
+use mathlib.Core.Path.{◌≡◌, ◌∙◌, refl, sym, ap, ap₂, subst}
+use mathlib.Core.List.{List, [], ◌++◌, append_assoc, append-nil}
+use Prim.Native.Nat.{ℕ, ◌≤◌}
 use native.Mathlib.Omega.{arith}
-use lib.ListN.{length, take, drop, set, length-append, length-drop, take-append-drop}
-use lib.Seq.{length-take-le, take_at, drop_at, drop-drop, set_split, append_snoc}
+use lib.ListN.{length, take, drop, length-append, length-drop, take-append-drop}
+use lib.Seq.{length-take-le, take_at, drop_at, drop-drop}
 use Rattle.upd546.specs.Reports.{decimal, space, newline, refused_word, refused_text}
 use Rattle.io.specs.Counts.{IsPrefixLen}
-use Rattle.text.specs.Writing.{Appended}
-
--- the same text, told otherwise
-pub told : {b b₁ w x : List ℕ} {a r : ℕ} → w ≡ x → Appended b a w b₁ r → Appended b a x b₁ r
-told {b} {b₁} {w} {x} {a} {r} e p = subst (λ (z : List ℕ). Appended b a z b₁ r) e p
+use Rattle.text.specs.Writing.{Appended, Pushed}
+use Rattle.text.specs.declared.Text.{Text}
 
 module _ {b b₁ w : List ℕ} {a r : ℕ} (p : Appended b a w b₁ r) where
   front_length : length (take a b ++ w) ≡ r
@@ -32,8 +28,8 @@ module _ {b b₁ w : List ℕ} {a r : ℕ} (p : Appended b a w b₁ r) where
       omega (arith, whole, front_length, length-drop r b, p.fits)
 
 -- one text behind the other
-pub then : {b b₁ b₂ w x : List ℕ} {a m r : ℕ} → Appended b a w b₁ m → Appended b₁ m x b₂ r → Appended b a (w ++ x) b₂ r
-then {b} {b₁} {b₂} {w} {x} {a} {m} {r} p q =
+behind : {b b₁ b₂ w x : List ℕ} {a m r : ℕ} → Appended b a w b₁ m → Appended b₁ m x b₂ r → Appended b a (w ++ x) b₂ r
+behind {b} {b₁} {b₂} {w} {x} {a} {m} {r} p q =
     let rest : drop r b₁ ≡ drop r b =
     ap (λ (k : ℕ). drop k b₁) q.ends ∙ sym (drop-drop (length x) m b₁) ∙ ap (drop (length x)) (back p) ∙ drop-drop (length x) m b
     ∙ ap (λ (k : ℕ). drop k b) (sym q.ends) in
@@ -43,23 +39,31 @@ then {b} {b₁} {b₂} {w} {x} {a} {m} {r} p q =
       stands = q.stands ∙ ap₂ (λ (y z : List ℕ). y ++ x ++ z) (front p) rest ∙ ap (λ (z : List ℕ). z ++ drop r b) (append_assoc (take a b) w x);
     }
 
--- bytes copied to a place
-pub copied : (a : ℕ) (b bs : List ℕ) {b₁ : List ℕ} → a + length bs ≤ length b → b₁ ≡ take a b ++ bs ++ drop (a + length bs) b
-    → Appended b a bs b₁ (a + length bs)
-copied a b bs h e = record { ends = omega arith; fits = h; stands = e }
-
--- a byte stored at a place
-pub stored : (a : ℕ) (b : List ℕ) (v : ℕ) → a < length b → Appended b a (v ∷ []) (set b a v) (a + 1)
-stored a b v h =
-    record {
-      ends = omega arith;
-      fits = omega arith;
-      stands = rw (add-one a) (set_split b a v h ∙ sym (append_snoc (take a b) v (drop (suc a) b)));
-    }
-
 -- nothing
-pub none : (a : ℕ) (b : List ℕ) → a ≤ length b → Appended b a [] b a
-none a b h = record { ends = omega arith; fits = h; stands = sym (rw append-nil (take-append-drop a b)) }
+nothing : (a : ℕ) (b : List ℕ) → a ≤ length b → Appended b a [] b a
+nothing a b h = record { ends = omega arith; fits = h; stands = sym (rw append-nil (take-append-drop a b)) }
+
+-- THE SAME OF A TEXT THAT GROWS
+
+-- the same text, told otherwise
+pub told : {t u : Text} {w x : List ℕ} → w ≡ x → Pushed t w u → Pushed t x u
+told {t} {u} e p = subst (λ (z : List ℕ). Pushed t z u) e p
+
+-- one text behind the other
+pub then : {t u v : Text} {w x : List ℕ} → Pushed t w u → Pushed u x v → Pushed t (w ++ x) v
+then p q = record {
+  same_buffer = q.same_buffer ∙ p.same_buffer;
+  same_size = q.same_size ∙ p.same_size;
+  appended = behind p.appended q.appended;
+}
+
+-- nothing behind it
+pub none : (t : Text) → Pushed t [] t
+none t = record { same_buffer = refl; same_size = refl; appended = nothing t.size t.buffer.now t.fits }
+
+-- what was written since the text was empty stands at the front of the buffer
+pub at_front : {t u : Text} {w b : List ℕ} {r : ℕ} → t.buffer.now ≡ b → t.size ≡ 0 → Pushed t w u → r ≡ u.size → Appended b 0 w u.buffer.now r
+at_front {t} {u} {w} e z p l = rw (← e, ← z, l) p.appended
 
 -- a text at the front of a buffer: so many bytes of the buffer
 pub counted : {b b₁ w : List ℕ} {r : ℕ} → Appended b 0 w b₁ r → IsPrefixLen r b₁

@@ -8,9 +8,10 @@ use borrow.Author.Tests.{lt-ltb, le-ltb}
 use Rattle.upd546.specs.TheMachine.{rom_length}
 use Rattle.upd546.specs.Bytes.{number_at}
 use Rattle.upd546.specs.Reports.{refused_text, trace_log, trace_text, run_text}
-use Rattle.text.specs.Writing.{Appended}
+use Rattle.text.specs.declared.Text.{Text}
+use Rattle.text.specs.Writing.{Pushed}
 use Rattle.trace_text.specs.Texts.{Traced}
-use Rattle.text.proofs.Writing.{counted}
+use Rattle.text.proofs.Writing.{at_front, counted}
 
 -- THE INPUT
 
@@ -28,5 +29,8 @@ module _ (input : List ℕ) where
 
 -- A TEXT AT THE FRONT OF A BUFFER
 
-pub traced : {input b b₁ : List ℕ} {r : ℕ} → Appended b 0 (trace_text input) b₁ r → Traced input b b₁ r
-traced p = record { counts = counted p; size = omega (arith, p.ends); text = p.stands }
+pub traced : {input b : List ℕ} {t u : Text} {n : ℕ} → t.buffer.now ≡ b → t.size ≡ 0 → Pushed t (trace_text input) u → n ≡ u.size
+    → Traced input b u.buffer.now n
+traced e z p l =
+    let a = at_front e z p l in
+    record { counts = counted a; size = omega (arith, a.ends); text = a.stands }

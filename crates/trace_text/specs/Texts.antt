@@ -1,5 +1,5 @@
 -- The text of a call and of an input, in a buffer. Assumes nothing: these are definitions.
-use Rattle.std.specs.Prelude.{◌≡◌, cond, List, ◌++◌, ℕ, ◌/◌, ◌≤◌, length, drop}
+use Rattle.std.specs.Prelude.{◌≡◌, cond, List, ◌++◌, ℕ, ◌/◌, length, drop}
 use Rattle.runs.specs.TwoRunners.{RunAnswer}
 use Rattle.upd546.specs.declared.State.{State}
 use Rattle.upd546.specs.Bytes.{number_at}
@@ -7,6 +7,8 @@ use Rattle.upd546.specs.Ports.{log_record_length}
 use Rattle.upd546.specs.Reports.{heading, newline, records_text, refused_text, trace_log, trace_text}
 use Rattle.calls.specs.EveryCall.{end_by, ran_by}
 use Rattle.io.specs.Counts.{IsPrefixLen}
+use Rattle.text.specs.declared.Text.{Text}
+use Rattle.text.specs.Writing.{HasRoom}
 use Rattle.trace_text.specs.declared.Ended.{Ended}
 use Rattle.trace_text.specs.Writing.{text_length, end_line}
 use Rattle.trace_text.specs.Records.{Recorded}
@@ -32,10 +34,10 @@ abbrev pub answer_text : Ended → List ℕ → List ℕ
 answer_text ended log = cond (ran_by ended.number) (ended_text ended log) (refused_text ended.number)
 
 -- a call and a log whose text fits the buffer
-pub record Reportable (ended : Ended) (log out : List ℕ) : Type 0 where
+pub record Reportable (ended : Ended) (log : List ℕ) (text : Text) : Type 0 where
   pub recorded : Recorded ended.written log
   pub room : length log ≡ trace_log
-  pub fits : text_length ≤ length out
+  pub fits : HasRoom text_length text
 
 -- what `trace` leaves in its buffer: the text at the front, r bytes, and behind it what was there
 pub record Traced (input before after : List ℕ) (r : ℕ) : Type 0 where

@@ -2,20 +2,21 @@
 // runner, and the text of what it answers. It may not know how a run goes, nor where input comes from and text goes to.
 #![tactic(auto)]
 
-ghost use Rattle.std.specs.Prelude.{◌≡◌, ◌+◌, ◌*◌, ◌/◌, ◌<◌, ◌≤◌, length, replicate};
+ghost use Rattle.std.specs.Prelude.{◌≡◌, ◌+◌, ◌*◌, ◌<◌, ◌≤◌, get_or, length, replicate};
 ghost use Rattle.runs.specs.TwoRunners.{plain};
 ghost use Rattle.upd546.specs.TheMachine.{fresh};
 ghost use Rattle.upd546.specs.Ports.{port_i, log_record_length};
 ghost use Rattle.upd546.specs.TwoRunners.{upd546};
-ghost use Rattle.upd546.specs.Reports.{port_letter, hex_digit, record_text, records_text, trace_log, run_text};
+ghost use Rattle.upd546.specs.Reports.{port_letter, record_text, records_text, trace_log, run_text};
 ghost use Rattle.calls.specs.Call.{report_length};
-ghost use Rattle.text.specs.Writing.{Appended};
+ghost use Rattle.text.specs.Writing.{HasRoom, Pushed};
 ghost use Rattle.trace_text.specs.Writing.{line_length, end_length, text_length, end_line};
 ghost use Rattle.trace_text.specs.Records.{Legible, Recorded};
 ghost use Rattle.trace_text.specs.Texts.{TellsRun, ended_by, ended_text, answer_text, Reportable, Traced};
 
 use board::REPORT_LENGTH;
-use runs::MachineCycles;
+use runs::{MachineCycles, Refusal};
+use text::Text;
 use upd546::layout::IMAGE_LENGTH;
 use upd546::{CYCLE_BYTES, LOG_RECORD, PORT_RESET, ROM_LENGTH};
 
@@ -34,7 +35,8 @@ const COUNT_BYTES: usize = 8;
 // Every text fits this many bytes; `text_length` is the same number.
 pub const TEXT_LENGTH: usize = 65536;
 
-// How a call ended: its number, and the counts of its report that the text shows.
+// How a call ended: its number, and the counts of its report that the text shows. The number stays one, as `board::wharfnettle_call`
+// answers it to C: the end line tells it of a run, and the line of a refusal of a call that was refused.
 #[derive(Clone, Copy)]
 struct Ended {
     number: u8,
@@ -51,76 +53,62 @@ fn port_letter(port: u8) -> u8
     if port == PORT_RESET {
         return b'R';
     }
-    b'A' + port
+    mnemonics::port_letter(port)
 }
 
-fn hex_digit(value: u8) -> u8
-    requires { value < 16 }
-    ensures { result ≡ hex_digit value }
+// The line of a record of the log.
+fn put_line(text: &mut Text<'_>, bytes: &[u8; LOG_RECORD])
+    requires { HasRoom line_length text.old × (get_or bytes.now 6 0 ≤ port_i) × (get_or bytes.now 7 0 < 16) }
+    ensures { Pushed text.old (record_text bytes.now 0) text.new × (text.new.size ≤ text.old.size + line_length) }
 {
-    if value < 10 {
-        return b'0' + value;
-    }
-    b'A' + (value - 10)
-}
-
-// The line of record i of a log.
-fn put_line(out: &mut [u8], at: usize, log: &[u8], i: usize) -> usize
-    requires { (at + line_length ≤ length out.old) × (log_record_length * (i + 1) ≤ length log.now) × Legible log.now (i + 1) }
-    ensures { Appended out.old at (record_text log.now i) out.new result × (result ≤ at + line_length) }
-{
-    let from = LOG_RECORD * i;
-    let letter = port_letter(log[from + 6]);
-    let digit = hex_digit(log[from + 7]);
-    let to = text::put_number(out, at, big_endian::number_at(log, from, CYCLE_BYTES), b' ');
-    text::put(out, to, &[letter, b' ', digit, b'\n'])
+    let letter = port_letter(bytes[6]);
+    let digit = mnemonics::hex_digit(bytes[7]);
+    text.push_number(big_endian::number_at(bytes, 0, CYCLE_BYTES), b' ');
+    text.push(&[letter, b' ', digit, b'\n']);
 }
 
 // The lines of the first records of a log.
-fn put_lines(out: &mut [u8], at: usize, log: &[u8], count: usize) -> usize
-    requires { (at + line_length * count ≤ length out.old) × (log_record_length * count ≤ length log.now) × Legible log.now count }
-    ensures { Appended out.old at (records_text log.now count) out.new result × (result ≤ at + line_length * count) }
+fn put_lines(text: &mut Text<'_>, log: &[u8], count: usize)
+    requires { HasRoom (line_length * count) text.old × (log_record_length * count ≤ length log.now) × Legible log.now count }
+    ensures { Pushed text.old (records_text log.now count) text.new × (text.new.size ≤ text.old.size + line_length * count) }
 {
-    let mut to = at;
-    let mut i = 0;
-    while i < count {
-        to = put_line(out, to, log, i);
-        i += 1;
+    let (records, _) = log.as_chunks::<LOG_RECORD>();
+    for bytes in &records[..count] {
+        put_line(text, bytes);
     }
-    to
 }
 
 // "then cycles, instructions, stop (0 if finished)"
-fn put_end(out: &mut [u8], at: usize, cycles: MachineCycles, begun: u64, number: u8) -> usize
-    requires { at + end_length ≤ length out.old }
-    ensures { Appended out.old at (end_line cycles.0 begun number) out.new result }
+fn put_end(text: &mut Text<'_>, ended: Ended)
+    requires { HasRoom end_length text.old }
+    ensures { Pushed text.old (end_line ended.cycles.0 ended.begun ended.number) text.new }
 {
-    let words = text::put(out, at, b"end ");
-    let counted = text::put_number(out, words, cycles.0, b' ');
-    let told = text::put_number(out, counted, begun, b' ');
-    text::put_number(out, told, number as u64, b'\n')
+    text.push(b"end ");
+    text.push_number(ended.cycles.0, b' ');
+    text.push_number(ended.begun, b' ');
+    text.push_number(ended.number as u64, b'\n');
 }
 
 // The text of a run that finished or stopped.
-fn put_report(out: &mut [u8], ended: Ended, log: &[u8]) -> usize
-    requires { Reportable ended log.now out.old }
-    ensures { Appended out.old 0 (ended_text ended log.now) out.new result }
+fn put_report(text: &mut Text<'_>, ended: Ended, log: &[u8])
+    requires { Reportable ended log.now text.old }
+    ensures { Pushed text.old (ended_text ended log.now) text.new }
 {
-    let headed = text::put(out, 0, b"cycle port value\n");
-    let listed = put_lines(out, headed, log, ended.written / LOG_RECORD);
-    let cycles = ended.cycles;
-    put_end(out, listed, cycles, ended.begun, ended.number)
+    text.push(b"cycle port value\n");
+    put_lines(text, log, ended.written / LOG_RECORD);
+    put_end(text, ended);
 }
 
 // The text of a call.
-fn put_answer(out: &mut [u8], ended: Ended, log: &[u8]) -> usize
-    requires { Reportable ended log.now out.old }
-    ensures { Appended out.old 0 (answer_text ended log.now) out.new result }
+fn put_answer(text: &mut Text<'_>, ended: Ended, log: &[u8])
+    requires { Reportable ended log.now text.old }
+    ensures { Pushed text.old (answer_text ended log.now) text.new }
 {
     if board::ran(ended.number) {
-        return put_report(out, ended, log);
+        put_report(text, ended, log);
+    } else {
+        text.push_refused(ended.number);
     }
-    text::put_refused(out, ended.number)
 }
 
 // "runs a fresh state on the plain runner": the board's call on the image of a fresh state. "`trace` and R-4 keep the old figures".
@@ -161,12 +149,12 @@ fn told(number: u8, report: &[u8]) -> Ended
 }
 
 // The text of n cycles of a panel, on a log of 16,384 bytes.
-fn put_run(out: &mut [u8], rom: &[u8], sched: &[u8], log: &mut [u8], n: MachineCycles) -> usize
-    requires { (length log.old ≡ trace_log) × (text_length ≤ length out.old) }
-    ensures { Appended out.old 0 (run_text rom.now sched.now log.old n.0) out.new result }
+fn put_run(text: &mut Text<'_>, rom: &[u8], sched: &[u8], log: &mut [u8], n: MachineCycles)
+    requires { (length log.old ≡ trace_log) × HasRoom text_length text.old }
+    ensures { Pushed text.old (run_text rom.now sched.now log.old n.0) text.new }
 {
     let ended = call_fresh(rom, sched, log, n);
-    put_answer(out, ended, log)
+    put_answer(text, ended, log);
 }
 
 // "a log of 16,384 bytes"; the length is what lending it as a slice asks.
@@ -176,20 +164,25 @@ fn empty_log() -> [u8; LOG_LENGTH]
     [0; LOG_LENGTH]
 }
 
-// THE TEXT OF PROGRAM `trace` for its input, at the front of a buffer: its length.
+// THE TEXT OF PROGRAM `trace` for its input, at the front of a buffer: its length, and no more, as `Traced` has it; whether it is the line
+// of a refusal is read from the text. The input is cut here, as the definition `trace_text` cuts it: what reads input stands above this
+// crate.
 pub fn trace(input: &[u8], out: &mut [u8; TEXT_LENGTH]) -> usize
     ensures { Traced input.now out.old out.new result }
 {
+    let mut text = Text::new(out);
     if input.len() < SCHEDULE_AT {
-        return text::put_refused(out, 21);
+        text.push_refused(Refusal::RomLength as u8);
+        return text.len();
     }
     let n = MachineCycles(big_endian::number_at(input, 0, COUNT_LENGTH));
     let mut log = empty_log();
     put_run(
-        out,
+        &mut text,
         &input[COUNT_LENGTH..SCHEDULE_AT],
         &input[SCHEDULE_AT..],
         &mut log,
         n,
-    )
+    );
+    text.len()
 }

@@ -1,12 +1,15 @@
 -- How the text of a report is put together. Assumes nothing.
-use mathlib.Core.Path.{◌≡◌, refl}
+use mathlib.Core.Path.{◌≡◌, ◌∙◌, refl, sym, ap}
 use mathlib.Core.List.{List, [], ◌∷◌, ◌++◌, append_assoc, append-nil}
-use Prim.Native.Nat.{ℕ, zero, suc}
+use Prim.Native.Nat.{ℕ, zero, suc, ◌+◌, ◌<◌, ◌≤◌}
 use native.Mathlib.Omega.{arith}
-use lib.ListN.{length, get_or}
+use native.Mathlib.Numerals.{add-one}
+use lib.ListN.{length, get_or, take}
+use Rattle.std.proofs.lemmas.List.{take_all}
 use Rattle.upd546.specs.Reports.{decimal, space, newline, refused_text}
-use Rattle.text.specs.Writing.{Appended}
-use Rattle.text.proofs.Writing.{counted}
+use Rattle.text.specs.declared.Text.{Text}
+use Rattle.text.specs.Writing.{Pushed}
+use Rattle.text.proofs.Writing.{at_front, counted}
 use Rattle.waiting.specs.declared.Landing.{Landing}
 use Rattle.waiting.specs.declared.Carried.{Carried}
 use Rattle.waiting.specs.declared.Reading.{Reading}
@@ -22,33 +25,28 @@ line_same i l = regroup (decimal i) (decimal l.closed) (decimal l.cycles.0) (dec
     regroup : (a b c d e s n : List ℕ) → a ++ s ++ (b ++ s) ++ (c ++ s) ++ (d ++ s) ++ (e ++ n) ≡ a ++ s ++ b ++ s ++ c ++ s ++ d ++ s ++ e ++ n
     regroup a b c d e s n = simp append_assoc
 
--- a heading and four lines
-four_lines : (ls : List Landing) → length ls ≡ 4
-    → waits_heading ++ newline
-    ++ landing_text 0 (get_or ls 0 no_waits)
-    ++ landing_text 1 (get_or ls 1 no_waits)
-    ++ landing_text 2 (get_or ls 2 no_waits)
-    ++ landing_text 3 (get_or ls 3 no_waits)
-    ≡ waits_heading ++ newline ++ landings_text 0 ls
-four_lines [] h = absurd (omega arith)
-four_lines (a ∷ []) h = absurd (omega arith)
-four_lines (a ∷ b ∷ []) h = absurd (omega arith)
-four_lines (a ∷ b ∷ d ∷ []) h = absurd (omega arith)
-four_lines (a ∷ b ∷ d ∷ e ∷ []) h = regroup (waits_heading ++ newline) (landing_text 0 a) (landing_text 1 b) (landing_text 2 d) (landing_text 3 e)
-  where
-    regroup : (t p q r s : List ℕ) → t ++ p ++ q ++ r ++ s ≡ t ++ (p ++ (q ++ (r ++ (s ++ []))))
-    regroup t p q r s = simp (append_assoc, append-nil)
-four_lines (a ∷ b ∷ d ∷ e ∷ f ∷ ls) h = absurd (omega arith)
+-- one line more, with number m
+lines_more : (i k m : ℕ) (ls : List Landing) → k < length ls → i + k ≡ m
+    → landings_text i (take k ls) ++ landing_text m (get_or ls k no_waits) ≡ landings_text i (take (suc k) ls)
+lines_more i k m [] h e = absurd (omega arith)
+lines_more i zero m (l ∷ ls) h e =
+    let same : m ≡ i = omega (arith, e) in
+    rw same (sym (append-nil (landing_text i l)))
+lines_more i (suc k) m (l ∷ ls) h e =
+    append_assoc (landing_text i l) (landings_text (suc i) (take k ls)) (landing_text m (get_or ls k no_waits))
+    ∙ ap (λ (t : List ℕ). landing_text i l ++ t) (lines_more (suc i) k m ls (omega arith) (omega (arith, e)))
 
-pub report_same : (c : Carried) → length c.landings ≡ 4
-    → waits_heading ++ newline
-    ++ landing_text 0 (get_or c.landings 0 no_waits)
-    ++ landing_text 1 (get_or c.landings 1 no_waits)
-    ++ landing_text 2 (get_or c.landings 2 no_waits)
-    ++ landing_text 3 (get_or c.landings 3 no_waits)
-    ≡ waits_report c
+pub report_more : (k : ℕ) (ls : List Landing) → k < length ls
+    → waits_heading ++ newline ++ landings_text 0 (take k ls) ++ landing_text k (get_or ls k no_waits)
+    ≡ waits_heading ++ newline ++ landings_text 0 (take (k + 1) ls)
+report_more k ls h =
+    append_assoc (waits_heading ++ newline) (landings_text 0 (take k ls)) (landing_text k (get_or ls k no_waits))
+    ∙ ap (λ (t : List ℕ). waits_heading ++ newline ++ t) (rw (add-one k) (lines_more 0 k k ls h (omega arith)))
+
+-- all lines
+pub report_whole : (k : ℕ) (c : Carried) → length c.landings ≤ k → waits_heading ++ newline ++ landings_text 0 (take k c.landings) ≡ waits_report c
 unfolding waits_report
-report_same c h = four_lines c.landings h
+report_whole k c h = rw (take_all k c.landings h)
 
 -- the text of a reading
 pub refused-reading : (r : Reading) → (r.number ≡ 0 → ⊥) → refused_text r.number ≡ waits_text r
@@ -63,5 +61,8 @@ pub accepted-reading : (r : Reading) → r.number ≡ 0 → waits_report r.carri
 unfolding waits_text
 accepted-reading r h = rw h
 
-pub reported : {r : Reading} {b b₁ : List ℕ} {n : ℕ} → Appended b 0 (waits_text r) b₁ n → Reported r b b₁ n
-reported p = record { counts = counted p; size = omega (arith, p.ends); text = p.stands }
+pub reported : {r : Reading} {t u : Text} {b : List ℕ} {n : ℕ} → t.buffer.now ≡ b → t.size ≡ 0 → Pushed t (waits_text r) u → n ≡ u.size
+    → Reported r b u.buffer.now n
+reported e z p l =
+    let a = at_front e z p l in
+    record { counts = counted a; size = omega (arith, a.ends); text = a.stands }

@@ -91,10 +91,10 @@ pub out_none : (log : List ℕ) (i : ℕ) → get_or log (8 * i + 6) 0 ≡ 0 →
 unfolding out_text
 out_none log i e = rw (eq-eqb (get_or log (8 * i + 6) 0) 0 e)
 
-pub out_some : (log : List ℕ) (i : ℕ) {digit : ℕ} → (get_or log (8 * i + 6) 0 ≡ 0 → ⊥) → digit ≡ digit_of (get_or log (8 * i + 7) 0)
-    → 32 ∷ 111 ∷ 117 ∷ 116 ∷ 32 ∷ (65 + get_or log (8 * i + 6) 0 % 16) ∷ 61 ∷ digit ∷ [] ≡ out_text log i
+pub out_some : (log : List ℕ) (i : ℕ) {letter digit : ℕ} → (get_or log (8 * i + 6) 0 ≡ 0 → ⊥) → letter ≡ 65 + get_or log (8 * i + 6) 0 % 16
+    → digit ≡ digit_of (get_or log (8 * i + 7) 0) → 32 ∷ 111 ∷ 117 ∷ 116 ∷ 32 ∷ letter ∷ 61 ∷ digit ∷ [] ≡ out_text log i
 unfolding out_text
-out_some log i n e = rw (ne_eqb (get_or log (8 * i + 6) 0) 0 n, e)
+out_some log i n l e = rw (ne_eqb (get_or log (8 * i + 6) 0) 0 n, l, e)
 
 -- none, one or two records
 pub outs_none : (log : List ℕ) (written : ℕ) → written < 8 → [] ≡ outs_text log written

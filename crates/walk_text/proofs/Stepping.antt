@@ -1,6 +1,6 @@
 -- One cycle of a panel: what it answers is what the definition's cycle comes to. Assumes nothing.
 use mathlib.Core.Path.{◌≡◌, ◌∙◌, refl, sym, ap, subst}
-use mathlib.Core.List.{List}
+use mathlib.Core.List.{List, []}
 use Prim.Native.Nat.{ℕ, zero, suc, ◌-◌}
 use native.Mathlib.Omega.{arith}
 use lib.ListN.{replicate}
@@ -16,15 +16,28 @@ use Rattle.upd546.specs.declared.RunAnswer.{RunAnswer}
 use Rattle.upd546.specs.declared.Sheet.{Sheet}
 use Rattle.upd546.specs.declared.State.{State}
 use Rattle.upd546.specs.TheSheet.{upd546_sheet}
-use Rattle.upd546.specs.TheLineSchedule.{quiet_lines, lines_at, schedule_number}
+use Rattle.runs.specs.Refusals.{first_of}
+use Rattle.upd546.specs.TheLineSchedule.{quiet_lines, lines_among, lines_at, records_number, schedule_number}
 use Rattle.upd546.specs.TwoRunners.{chip, upd546, answer_of}
 use Rattle.turns.proofs.Taken.{run_taken}
-use Rattle.text.specs.Writing.{Appended}
+use Rattle.text.specs.declared.Text.{Text}
+use Rattle.text.specs.Writing.{Pushed}
+use Rattle.text.proofs.Writing.{at_front}
 use Rattle.text.proofs.Writing as writing
+use Rattle.std.specs.Prelude.{Ok, Err}
 use Rattle.walk_text.specs.declared.Walked.{Walked}
 use Rattle.walk_text.specs.CycleLine.{over_after, line_text, lines_before, walked_by, one_cycle, Stepped}
 
 -- THE LINES BEFORE A CYCLE
+
+-- those of an empty schedule
+pub empty_sound : schedule_number [] ≡ 0
+unfolding schedule_number records_number first_of
+empty_sound = refl
+
+pub empty_lines : lines_at [] 0 ≡ quiet_lines
+unfolding lines_at lines_among
+empty_lines = refl
 
 pub before_none : (sched : List ℕ) (n : ℕ) → n ≡ 0 → quiet_lines ≡ lines_before sched n
 before_none sched zero e = refl
@@ -72,28 +85,30 @@ module _ (rom sched : List ℕ) (s : State) where
         go zero x = refl
         go (suc k) x = absurd (omega (arith, x))
 
-    pub not_done : (over : ℕ) (b : List ℕ) {k : ℕ} → (a.end ≡ Finished → ⊥) → k ≡ end_number a.end
-        → Stepped rom sched s over b b (record { number = k; state = a.state; over = over; size = 0 })
-    not_done over b h e = record {
-      number = e ∙ ended;
+    pub not_done : (over : ℕ) (b : List ℕ) → (a.end ≡ Finished → ⊥) → Stepped rom sched s over b b (Err (record { end = a.end; state = a.state }))
+    not_done over b h = record {
+      number = ended;
       state = ap (λ (z : runners.RunAnswer State). z.state) one;
-      over_next = λ z. absurd (end_some a.end h (sym e ∙ z));
-      line = λ z. absurd (end_some a.end h (sym e ∙ z));
+      over_next = tt;
+      line = tt;
+      halted = (end_some a.end h, refl);
     }
 
-    pub done : (over : ℕ) {b b₁ : List ℕ} {w : Walked} {size next : ℕ} → a.end ≡ Finished → w ≡ walked_by sched s a.state over
-        → Appended b 0 (line_text rom w log a.written) b₁ size → next ≡ over_after rom w
-        → Stepped rom sched s over b b₁ (record { number = 0; state = a.state; over = next; size = size })
-    done over e v p q =
+    pub done : (over : ℕ) {b : List ℕ} {t u : Text} {w : Walked} {size next : ℕ} → a.end ≡ Finished → w ≡ walked_by sched s a.state over
+        → t.buffer.now ≡ b → t.size ≡ 0 → Pushed t (line_text rom w log a.written) u → size ≡ u.size → next ≡ over_after rom w
+        → Stepped rom sched s over b u.buffer.now (Ok (record { state = a.state; over = next; size = size }))
+    done over e v f z p l q =
         let state = ap (λ (z : runners.RunAnswer State). z.state) one in
         record {
           number = ap end_number (sym e) ∙ ended;
           state = state;
-          over_next = λ z. q ∙ ap (over_after rom) (v ∙ ap (λ (t : State). walked_by sched s t over) state);
+          over_next = q ∙ ap (over_after rom) (v ∙ ap (λ (t : State). walked_by sched s t over) state);
           line =
-              λ z.
-              writing.told
+              at_front f z
+              (writing.told
               (ap (λ (u : Walked). line_text rom u log a.written) v
               ∙ ap (λ (y : runners.RunAnswer State). line_text rom (walked_by sched s y.state over) y.log y.written) one)
-              p;
+              p)
+              l;
+          halted = tt;
         }

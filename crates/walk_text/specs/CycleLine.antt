@@ -1,6 +1,7 @@
 -- The line of a walked machine cycle: what it did, the state after it, the ports that it wrote and the lines that changed.
 -- Assumes nothing: these are definitions.
-use Rattle.std.specs.Prelude.{ℕ, zero, suc, ◌+◌, ◌-◌, ◌*◌, ◌%◌, ◌≡◌, cond, List, [], ◌∷◌, ◌++◌, eqb, ltb, get_or, replicate}
+use Rattle.std.specs.Prelude.{ℕ, zero, suc, ◌+◌, ◌-◌, ◌*◌, ◌%◌, ◌≡◌, ◌≢◌, cond, List, [], ◌∷◌, ◌++◌, eqb, ltb, get_or, replicate, Result, Ok, Err, IfOk, IfErr}
+use Rattle.runs.specs.Numbers.{end_number}
 use Rattle.runs.specs.TwoRunners.{RunAnswer, number_of_end, plain}
 use Rattle.upd546.specs.declared.State.{State}
 use Rattle.upd546.specs.declared.Lines.{Lines}
@@ -14,7 +15,8 @@ use Rattle.upd546.specs.TwoRunners.{upd546}
 use Rattle.text.specs.Writing.{Appended}
 use Rattle.mnemonics.specs.Mnemonics.{instruction_text}
 use Rattle.walk_text.specs.declared.Walked.{Walked}
-use Rattle.walk_text.specs.declared.WalkAnswer.{WalkAnswer}
+use Rattle.walk_text.specs.declared.Done.{Done}
+use Rattle.walk_text.specs.declared.Halt.{Halt}
 use Rattle.walk_text.specs.declared.Kind.{Kind}
 use Rattle.walk_text.specs.declared.Kind.TheVariants.{Reset, Accepts, Owed, Skipped, Begins}
 use Rattle.walk_text.specs.Fields.{digit_of, cycle_column, timer_column, address_column, mark_column, register_columns, interrupt_columns, owed_column}
@@ -118,10 +120,22 @@ walked_by sched before after over = record {
 abbrev pub one_cycle : List ℕ → List ℕ → State → RunAnswer State
 one_cycle rom sched s = plain upd546 rom sched s (replicate 16 0) 1
 
+-- the number that a step comes to, 0 where the cycle was done, and the state
+abbrev pub step_number : Result Done Halt → ℕ
+step_number (Ok d) = 0
+step_number (Err h) = end_number h.end
+
+abbrev pub step_state : Result Done Halt → State
+step_state (Ok d) = d.state
+step_state (Err h) = h.state
+
 -- What a walked cycle answers is what the definition's cycle comes to; and where that was done, its line stands at the front of the buffer.
-pub record Stepped (rom sched : List ℕ) (s : State) (over : ℕ) (before after : List ℕ) (r : WalkAnswer) : Type 0 where
-  pub number : r.number ≡ number_of_end (one_cycle rom sched s).end
-  pub state : r.state ≡ (one_cycle rom sched s).state
-  pub over_next : r.number ≡ 0 → r.over ≡ over_after rom (walked_by sched s (one_cycle rom sched s).state over)
-  pub line : r.number ≡ 0
-      → Appended before 0 (line_text rom (walked_by sched s (one_cycle rom sched s).state over) (one_cycle rom sched s).log (one_cycle rom sched s).written) after r.size
+-- Where it wasn't, it has a number, and the buffer is as before.
+pub record Stepped (rom sched : List ℕ) (s : State) (over : ℕ) (before after : List ℕ) (r : Result Done Halt) : Type 0 where
+  pub number : step_number r ≡ number_of_end (one_cycle rom sched s).end
+  pub state : step_state r ≡ (one_cycle rom sched s).state
+  pub over_next : IfOk r (λ d. d.over ≡ over_after rom (walked_by sched s (one_cycle rom sched s).state over))
+  pub line : IfOk r
+      (λ d.
+      Appended before 0 (line_text rom (walked_by sched s (one_cycle rom sched s).state over) (one_cycle rom sched s).log (one_cycle rom sched s).written) after d.size)
+  pub halted : IfErr r (λ h. (end_number h.end ≢ 0) × (after ≡ before))

@@ -2,19 +2,19 @@
 // lines that changed. It may not know how a run goes, what an instruction does, nor where text goes to.
 #![tactic(auto)]
 
-ghost use Rattle.std.specs.Prelude.{◌≡◌, ◌++◌, ◌+◌, ◌*◌, ◌-◌, ◌%◌, ◌<◌, ◌≤◌, length, get_or};
+ghost use Rattle.std.specs.Prelude.{◌≡◌, ◌++◌, ◌+◌, ◌*◌, ◌%◌, ◌<◌, ◌≤◌, length};
 ghost use Rattle.upd546.specs.TheLineSchedule.{schedule_number};
 ghost use Rattle.upd546.specs.Instructions.{instruction};
 ghost use Rattle.upd546.specs.TheMachine.{byte_at, follows};
 ghost use Rattle.mnemonics.specs.Mnemonics.{instruction_text};
-ghost use Rattle.text.specs.Writing.{Appended};
-ghost use Rattle.walk_text.specs.Fields.{decimal_at, cycle_column, ticks_column, timer_column, address_column, mark_column, word_m, register_columns, interrupt_columns, owed_column};
+ghost use Rattle.text.specs.Writing.{HasRoom, Pushed};
+ghost use Rattle.walk_text.specs.Fields.{decimal_at, cycle_column, timer_column, address_column, mark_column, word_m, register_columns, interrupt_columns, owed_column};
 ghost use Rattle.walk_text.specs.CycleLine.{doing_of, over_after, place_by, words_by, head_text, marks_text, out_text, outs_text, change_text, changes_text, line_text, lines_before, walked_by, Stepped};
 
 use runs::{MachineCycles, RunEnd};
+use text::Text;
 use upd546::{
-    LOG_RECORD, Lines, MARK_EI, MARK_LDI, MARK_OTHER, MARK_STM, RAM_WORDS, RESET_COUNT, State,
-    Timer,
+    LOG_RECORD, Lines, MARK_EI, MARK_LDI, MARK_OTHER, MARK_STM, RESET_COUNT, State, Timer,
 };
 
 // Every line fits this many bytes.
@@ -37,14 +37,19 @@ pub struct Walked {
     pub over: u8,
 }
 
-// A cycle that was walked, or wasn't: its number, 0 where it was done; the state after it; of the cycles owed then, how many are those of a
-// skip; and the length of its line.
+// A cycle that was done: the state after it; of the cycles owed then, how many are those of a skip; and the length of its line.
 #[derive(Clone, Copy)]
-pub struct WalkAnswer {
-    pub number: u8,
+pub struct Done {
     pub state: State,
     pub over: u8,
     pub size: usize,
+}
+
+// A cycle that wasn't done: how its run ended, by a stop or a refusal, and the state.
+#[derive(Clone, Copy)]
+pub struct Halt {
+    pub end: RunEnd,
+    pub state: State,
 }
 
 // What a cycle did.
@@ -58,6 +63,7 @@ pub enum Kind {
 }
 
 // The decimal digit at a power of ten, or a space before the first.
+#[tactic(auto, unfolding(crate::specs::Fields::decimal_at))]
 fn decimal_at(n: u64, power: u64) -> u8
     requires { 0 < power }
     ensures { result ≡ decimal_at n power }
@@ -74,6 +80,8 @@ fn unit(n: u64) -> u8
     b'0' + (n % 10) as u8
 }
 
+// Ten columns. They show the last ten digits of a longer number, as `cycle_column` has it, where `{n:>10}` would take more columns.
+#[tactic(auto, unfolding(crate::specs::Fields::cycle_column))]
 fn cycle_column(n: u64) -> [u8; 10]
     ensures { result ≡ cycle_column n }
 {
@@ -91,24 +99,15 @@ fn cycle_column(n: u64) -> [u8; 10]
     ]
 }
 
-fn ticks_column(n: u64) -> [u8; 4]
-    ensures { result ≡ ticks_column n }
-{
-    [
-        decimal_at(n, 1000),
-        decimal_at(n, 100),
-        decimal_at(n, 10),
-        unit(n),
-    ]
-}
-
 // The ticks left of a running timer; else whether TM is set.
+#[tactic(auto, unfolding(crate::specs::Fields::timer_column, crate::specs::Fields::cycle_column))]
 fn timer_column(t: Timer) -> [u8; 4]
     ensures { result ≡ timer_column t }
 {
-    if (0 < t.register) & (t.register < 64) {
+    if 0 < t.register && t.register < 64 {
         let positions = tables::position_table();
-        return ticks_column(jump::ticks_left(&positions, t));
+        let columns = cycle_column(jump::ticks_left(&positions, t));
+        return [columns[6], columns[7], columns[8], columns[9]];
     }
     if t.tm == 0 {
         return *b"   -";
@@ -116,6 +115,7 @@ fn timer_column(t: Timer) -> [u8; 4]
     *b"  TM"
 }
 
+#[tactic(auto, unfolding(crate::specs::Fields::address_column))]
 fn address_column(a: u16) -> [u8; 5]
     ensures { result ≡ address_column a }
 {
@@ -130,38 +130,17 @@ fn address_column(a: u16) -> [u8; 5]
     ]
 }
 
+#[tactic(auto, unfolding(crate::specs::Fields::mark_column))]
 fn mark_column(mark: u8) -> [u8; 5]
     ensures { result ≡ mark_column mark }
 {
-    if mark == MARK_OTHER {
-        return *b"other";
+    match mark {
+        MARK_OTHER => *b"other",
+        MARK_LDI => *b"LDI  ",
+        MARK_EI => *b"EI   ",
+        MARK_STM => *b"STM  ",
+        _ => *b"LI   ",
     }
-    if mark == MARK_LDI {
-        return *b"LDI  ";
-    }
-    if mark == MARK_EI {
-        return *b"EI   ";
-    }
-    if mark == MARK_STM {
-        return *b"STM  ";
-    }
-    *b"LI   "
-}
-
-fn wide(x: u8) -> usize
-    ensures { (result ≡ x) × (result < 256) }
-{
-    x as usize
-}
-
-// The word at a place of the RAM; behind its end 0.
-fn load(ram: [u8; RAM_WORDS], at: usize) -> u8
-    ensures { result ≡ get_or ram at 0 }
-{
-    if at < RAM_WORDS {
-        return ram[at];
-    }
-    0
 }
 
 // M: rows 5 and 6 read 0.
@@ -171,11 +150,11 @@ fn word_m(s: State) -> u8
     let rows = tables::row_table(ALL_ROWS);
     let row = (s.core.registers.dph % 8) as usize;
     let column = (s.core.registers.dpl % 16) as usize;
-    let ram = s.ram;
-    load(ram, wide(rows[row]) + column)
+    s.ram.get(rows[row] as usize + column).copied().unwrap_or(0)
 }
 
 // Acc, C, DP and M.
+#[tactic(auto, unfolding(crate::specs::Fields::register_columns))]
 fn register_columns(s: State) -> [u8; 11]
     ensures { result ≡ register_columns s }
 {
@@ -194,6 +173,7 @@ fn register_columns(s: State) -> [u8; 11]
     ]
 }
 
+#[tactic(auto, unfolding(crate::specs::Fields::interrupt_columns))]
 fn interrupt_columns(s: State) -> [u8; 10]
     ensures { result ≡ interrupt_columns s }
 {
@@ -211,6 +191,7 @@ fn interrupt_columns(s: State) -> [u8; 10]
     ]
 }
 
+#[tactic(auto, unfolding(crate::specs::Fields::owed_column))]
 fn owed_column(s: State) -> [u8; 7]
     ensures { result ≡ owed_column s }
 {
@@ -225,36 +206,6 @@ fn owed_column(s: State) -> [u8; 7]
     ]
 }
 
-// What a cycle did.
-fn doing(w: Walked) -> Kind
-    ensures { result ≡ doing_of w }
-{
-    let core = w.before.core;
-    if w.after.count == RESET_COUNT {
-        return Kind::Reset;
-    }
-    if steps::accepts(core) {
-        return Kind::Accepts;
-    }
-    if core.owed == 0 {
-        return Kind::Begins;
-    }
-    if w.over < core.owed {
-        return Kind::Owed;
-    }
-    Kind::Skipped
-}
-
-// a less b, or 0.
-fn less(a: u8, b: u8) -> u8
-    ensures { result ≡ a - b }
-{
-    if a < b {
-        return 0;
-    }
-    a - b
-}
-
 // The base cycles of the instruction at an address.
 fn cycles_at(rom: &[u8], a: u16) -> u8
     ensures { result ≡ (instruction (byte_at rom.now a)).cycles }
@@ -262,30 +213,6 @@ fn cycles_at(rom: &[u8], a: u16) -> u8
     let table = tables::instruction_table();
     let size = tables::size_of(&table, fetch::byte_at(rom, a));
     size.cycles
-}
-
-// Of the cycles owed after it, how many are those of a skip.
-fn over_after(rom: &[u8], w: Walked) -> u8
-    ensures { result ≡ over_after rom.now w }
-{
-    if w.before.core.owed != 0 {
-        return w.over;
-    }
-    let own = less(cycles_at(rom, w.before.core.flow.pc), 1);
-    less(w.after.core.owed, own)
-}
-
-// Where PC stood, unless it is ahead of the cycle.
-fn place(kind: Kind, pc: u16) -> [u8; 5]
-    ensures { result ≡ place_by kind pc }
-{
-    match kind {
-        Kind::Owed => *b"     ",
-        Kind::Skipped => *b"     ",
-        Kind::Reset => address_column(pc),
-        Kind::Accepts => address_column(pc),
-        Kind::Begins => address_column(pc),
-    }
 }
 
 fn instruction_at(rom: &[u8], pc: u16) -> [u8; 8]
@@ -296,153 +223,171 @@ fn instruction_at(rom: &[u8], pc: u16) -> [u8; 8]
     mnemonics::instruction(pc, code, second)
 }
 
-fn words(kind: Kind, rom: &[u8], pc: u16) -> [u8; 8]
-    ensures { result ≡ words_by kind rom.now pc }
-{
-    match kind {
-        Kind::Reset => *b"reset   ",
-        Kind::Accepts => *b"accepts ",
-        Kind::Owed => *b"owed    ",
-        Kind::Skipped => *b"skipped ",
-        Kind::Begins => instruction_at(rom, pc),
+impl Walked {
+    // What the cycle did.
+    #[tactic(auto, unfolding(crate::specs::CycleLine::doing_of))]
+    fn doing(self) -> Kind
+        ensures { result ≡ doing_of self }
+    {
+        let core = self.before.core;
+        if self.after.count == RESET_COUNT {
+            Kind::Reset
+        } else if steps::accepts(core) {
+            Kind::Accepts
+        } else if core.owed == 0 {
+            Kind::Begins
+        } else if self.over < core.owed {
+            Kind::Owed
+        } else {
+            Kind::Skipped
+        }
+    }
+
+    // Of the cycles owed after it, how many are those of a skip.
+    #[tactic(auto, unfolding(crate::specs::CycleLine::over_after))]
+    fn over_after(self, rom: &[u8]) -> u8
+        ensures { result ≡ over_after rom.now self }
+    {
+        if self.before.core.owed != 0 {
+            return self.over;
+        }
+        let own = cycles_at(rom, self.before.core.flow.pc).saturating_sub(1);
+        self.after.core.owed.saturating_sub(own)
+    }
+}
+
+impl Kind {
+    // Where PC stood, unless it is ahead of the cycle.
+    fn place(self, pc: u16) -> [u8; 5]
+        ensures { result ≡ place_by self pc }
+    {
+        match self {
+            Kind::Owed | Kind::Skipped => *b"     ",
+            Kind::Reset | Kind::Accepts | Kind::Begins => address_column(pc),
+        }
+    }
+
+    fn words(self, rom: &[u8], pc: u16) -> [u8; 8]
+        ensures { result ≡ words_by self rom.now pc }
+    {
+        match self {
+            Kind::Reset => *b"reset   ",
+            Kind::Accepts => *b"accepts ",
+            Kind::Owed => *b"owed    ",
+            Kind::Skipped => *b"skipped ",
+            Kind::Begins => instruction_at(rom, pc),
+        }
     }
 }
 
 // Acc, C, DP and M, INT and INTE: 21 bytes.
-fn put_registers(out: &mut [u8], at: usize, s: State) -> usize
-    requires { at + 21 ≤ length out.old }
-    ensures { Appended out.old at (register_columns s ++ interrupt_columns s) out.new result × (result ≡ at + 21) }
+fn put_registers(text: &mut Text<'_>, s: State)
+    requires { HasRoom 21 text.old }
+    ensures { Pushed text.old (register_columns s ++ interrupt_columns s) text.new × (text.new.size ≡ text.old.size + 21) }
 {
-    let registers = register_columns(s);
-    let interrupt = interrupt_columns(s);
-    let a = text::put(out, at, &registers);
-    text::put(out, a, &interrupt)
+    text.push(&register_columns(s));
+    text.push(&interrupt_columns(s));
 }
 
 // Mark, owed and the timer: 16 bytes.
-fn put_marks(out: &mut [u8], at: usize, s: State) -> usize
-    requires { at + 16 ≤ length out.old }
-    ensures { Appended out.old at (marks_text s) out.new result × (result ≡ at + 16) }
+fn put_marks(text: &mut Text<'_>, s: State)
+    requires { HasRoom 16 text.old }
+    ensures { Pushed text.old (marks_text s) text.new × (text.new.size ≡ text.old.size + 16) }
 {
-    let mark = mark_column(s.core.mark);
-    let owed = owed_column(s);
-    let t = s.core.timer;
-    let timer = timer_column(t);
-    let a = text::put(out, at, &mark);
-    let b = text::put(out, a, &owed);
-    text::put(out, b, &timer)
+    text.push(&mark_column(s.core.mark));
+    text.push(&owed_column(s));
+    text.push(&timer_column(s.core.timer));
 }
 
 // A port that was written.
-fn put_out(out: &mut [u8], at: usize, log: &[u8; LOG_LENGTH], i: usize) -> usize
-    requires { (at + 8 ≤ length out.old) × (i < 2) }
-    ensures { Appended out.old at (out_text log.now i) out.new result × (result ≤ at + 8) }
+fn put_out(text: &mut Text<'_>, log: &[u8; LOG_LENGTH], i: usize)
+    requires { HasRoom 8 text.old × (i < 2) }
+    ensures { Pushed text.old (out_text log.now i) text.new × (text.new.size ≤ text.old.size + 8) }
 {
     let port = log[LOG_RECORD * i + 6];
-    let value = log[LOG_RECORD * i + 7];
-    if port == 0 {
-        return at;
+    let digit = mnemonics::hex_digit(log[LOG_RECORD * i + 7]);
+    if port != 0 {
+        text.push(b" out ");
+        text.push(&[mnemonics::port_letter(port), b'=', digit]);
     }
-    let letter = b'A' + port % 16;
-    let digit = mnemonics::hex_digit(value);
-    text::put(
-        out,
-        at,
-        &[b' ', b'o', b'u', b't', b' ', letter, b'=', digit],
-    )
 }
 
-// The ports that were written.
-fn put_outs(out: &mut [u8], at: usize, log: &[u8; LOG_LENGTH], written: usize) -> usize
-    requires { at + 16 ≤ length out.old }
-    ensures { Appended out.old at (outs_text log.now written) out.new result × (result ≤ at + 16) }
+// The ports that were written, in so many bytes of log: the log goes with how many bytes of it were written, as `line_text` in the
+// clause `Stepped` of `step` has them.
+fn put_outs(text: &mut Text<'_>, log: &[u8; LOG_LENGTH], written: usize)
+    requires { HasRoom 16 text.old }
+    ensures { Pushed text.old (outs_text log.now written) text.new × (text.new.size ≤ text.old.size + 16) }
 {
     if written < 8 {
-        return at;
+        return;
     }
-    let first = put_out(out, at, log, 0);
+    put_out(text, log, 0);
     if written < 16 {
-        return first;
+        return;
     }
-    put_out(out, first, log, 1)
+    put_out(text, log, 1);
 }
 
 // A line that changed; its name has at most three letters.
-fn put_change(out: &mut [u8], at: usize, name: &[u8], last: u8, new: u8) -> usize
-    requires { (at + 11 ≤ length out.old) × (length name.now ≤ 3) }
-    ensures { Appended out.old at (change_text name.now last new) out.new result × (result ≤ at + 11) }
+fn put_change(text: &mut Text<'_>, name: &[u8], last: u8, new: u8)
+    requires { HasRoom 11 text.old × (length name.now ≤ 3) }
+    ensures { Pushed text.old (change_text name.now last new) text.new × (text.new.size ≤ text.old.size + 11) }
 {
-    if last == new {
-        return at;
+    if last != new {
+        text.push(b" line ");
+        text.push(name);
+        text.push(&[b'=', mnemonics::hex_digit(new)]);
     }
-    let digit = mnemonics::hex_digit(new);
-    let a = text::put(out, at, b" line ");
-    let b = text::put(out, a, name);
-    text::put(out, b, &[b'=', digit])
 }
 
 // The lines that changed.
-fn put_changes(out: &mut [u8], at: usize, last: Lines, new: Lines) -> usize
-    requires { at + 66 ≤ length out.old }
-    ensures { Appended out.old at (changes_text last new) out.new result × (result ≤ at + 66) }
+fn put_changes(text: &mut Text<'_>, last: Lines, new: Lines)
+    requires { HasRoom 66 text.old }
+    ensures { Pushed text.old (changes_text last new) text.new × (text.new.size ≤ text.old.size + 66) }
 {
-    let a = put_change(out, at, b"A", last.a, new.a);
-    let b = put_change(out, a, b"B", last.b, new.b);
-    let c = put_change(out, b, b"C", last.c, new.c);
-    let d = put_change(out, c, b"D", last.d, new.d);
-    let e = put_change(out, d, b"INT", last.int, new.int);
-    put_change(out, e, b"RES", last.res, new.res)
+    put_change(text, b"A", last.a, new.a);
+    put_change(text, b"B", last.b, new.b);
+    put_change(text, b"C", last.c, new.c);
+    put_change(text, b"D", last.d, new.d);
+    put_change(text, b"INT", last.int, new.int);
+    put_change(text, b"RES", last.res, new.res);
 }
 
 // The cycle, where PC stood and what was done: 23 bytes.
-fn put_head(out: &mut [u8], rom: &[u8], w: Walked) -> usize
-    requires { 23 ≤ length out.old }
-    ensures { Appended out.old 0 (head_text rom.now w) out.new result × (result ≡ 23) }
+fn put_head(text: &mut Text<'_>, rom: &[u8], w: Walked)
+    requires { HasRoom 23 text.old }
+    ensures { Pushed text.old (head_text rom.now w) text.new × (text.new.size ≡ text.old.size + 23) }
 {
     let pc = w.before.core.flow.pc;
-    let kind = doing(w);
-    let cycle = cycle_column(w.before.cycle.0);
-    let at = place(kind, pc);
-    let does = words(kind, rom, pc);
-    let a = text::put(out, 0, &cycle);
-    let b = text::put(out, a, &at);
-    text::put(out, b, &does)
+    let kind = w.doing();
+    text.push(&cycle_column(w.before.cycle.0));
+    text.push(&kind.place(pc));
+    text.push(&kind.words(rom, pc));
 }
 
-// The line of a cycle that wrote so many bytes of log.
-fn put_line(out: &mut [u8], rom: &[u8], w: Walked, log: &[u8; LOG_LENGTH], written: usize) -> usize
-    requires { length out.old ≡ 160 }
-    ensures { Appended out.old 0 (line_text rom.now w log.now written) out.new result }
+// The line of a cycle that wrote so many bytes of log, as `line_text` has it.
+fn put_line(text: &mut Text<'_>, rom: &[u8], w: Walked, log: &[u8; LOG_LENGTH], written: usize)
+    requires { HasRoom 160 text.old }
+    ensures { Pushed text.old (line_text rom.now w log.now written) text.new }
 {
     let after = w.after;
-    let last = w.last;
-    let new = w.lines;
-    let a = put_head(out, rom, w);
-    let b = put_registers(out, a, after);
-    let c = put_marks(out, b, after);
-    let d = put_outs(out, c, log, written);
-    let e = put_changes(out, d, last, new);
-    text::put(out, e, b"\n")
+    put_head(text, rom, w);
+    put_registers(text, after);
+    put_marks(text, after);
+    put_outs(text, log, written);
+    put_changes(text, w.last, w.lines);
+    text.push(b"\n");
 }
 
-// The lines of the cycle before cycle n.
+// The lines of the cycle before cycle n; before cycle 0 those of an empty schedule.
 fn lines_before(sched: &[u8], n: u64) -> Lines
     requires { schedule_number sched.now ≡ 0 }
     ensures { result ≡ lines_before sched.now n }
 {
     if n == 0 {
-        return Lines {
-            a: 0,
-            b: 0,
-            c: 0,
-            d: 0,
-            int: 1,
-            res: 0,
-        };
+        return schedule::start(b"", MachineCycles(0)).lines;
     }
-    let cursor = schedule::start(sched, MachineCycles(n - 1));
-    let lines = cursor.lines;
-    lines
+    schedule::start(sched, MachineCycles(n - 1)).lines
 }
 
 // What a cycle came to.
@@ -450,21 +395,24 @@ fn cycle_walked(sched: &[u8], before: State, after: State, over: u8) -> Walked
     requires { schedule_number sched.now ≡ 0 }
     ensures { result ≡ walked_by sched.now before after over }
 {
-    let cursor = schedule::start(sched, MachineCycles(before.cycle.0));
-    let lines = cursor.lines;
-    let last = lines_before(sched, before.cycle.0);
     Walked {
         before,
         after,
-        last,
-        lines,
+        last: lines_before(sched, before.cycle.0),
+        lines: schedule::start(sched, before.cycle).lines,
         over,
     }
 }
 
 // ONE CYCLE OF A PANEL, by the plain runner, and its line at the front of a buffer. Of the cycles owed before it, the last `over` are those
 // of a skip. Where it isn't done, nothing is written.
-pub fn step(rom: &[u8], sched: &[u8], s: State, over: u8, out: &mut [u8; LINE_LENGTH]) -> WalkAnswer
+pub fn step(
+    rom: &[u8],
+    sched: &[u8],
+    s: State,
+    over: u8,
+    out: &mut [u8; LINE_LENGTH],
+) -> Result<Done, Halt>
     ensures { Stepped rom.now sched.now s over out.old out.new result }
 {
     let mut log = [0u8; LOG_LENGTH];
@@ -473,19 +421,14 @@ pub fn step(rom: &[u8], sched: &[u8], s: State, over: u8, out: &mut [u8; LINE_LE
     let end = ran.end;
     let state = ran.state;
     let RunEnd::Finished = end else {
-        return WalkAnswer {
-            number: runs::end_number(end),
-            state,
-            over,
-            size: 0,
-        };
+        return Err(Halt { end, state });
     };
     let w = cycle_walked(sched, s, state, over);
-    let size = put_line(out, rom, w, &log, ran.written);
-    WalkAnswer {
-        number: 0,
+    let mut text = Text::new(out);
+    put_line(&mut text, rom, w, &log, ran.written);
+    Ok(Done {
         state,
-        over: over_after(rom, w),
-        size,
-    }
+        over: w.over_after(rom),
+        size: text.len(),
+    })
 }

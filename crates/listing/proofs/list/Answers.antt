@@ -1,8 +1,6 @@
 -- A ROM that is too long, and one that is listed. Assumes nothing.
 use mathlib.Core.Path.{ap}
-use mathlib.Core.List.{List, [], ◌∷◌}
-use Prim.Native.Nat.{ℕ}
-use lib.ListN.{get_or}
+use lib.ListN.{take}
 use Rattle.text.proofs.Writing.{then}
 use Rattle.listing.proofs.Turns.{too_long, whole}
 use Rattle.listing.proofs.list.Goals as goal
@@ -12,5 +10,6 @@ returns-then-length-gt-ROM_LENGTH c = let a = c.args in too_long a.rom.now a.out
 
 pub returns : goal.returns
 returns c =
-    let digits = ap (λ (w : List ℕ). get_or w 0 0 ∷ get_or w 1 0 ∷ get_or w 2 0 ∷ 10 ∷ []) c.three-digits.ensures in
-    whole c.args.rom.now c.if-length-gt-ROM_LENGTH.false digits (then (then c.put-begun.ensures c.put-headed.ensures) c.put_lines.ensures)
+    let t = c.new-text.ensures in
+    let head = then (then c.push.ensures c.push-2.ensures) c.push-3.ensures in
+    whole c.args.rom.now c.if-length-gt-ROM_LENGTH.false t.same_bytes t.empty (ap (take 3) c.three.ensures) (then head c.put_lines.ensures) c.len.ensures

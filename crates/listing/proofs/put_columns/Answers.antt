@@ -8,6 +8,6 @@ use Rattle.listing.proofs.put_columns.Goals as goal
 pub returns : goal.returns
 returns c =
     let i = item_by c.args.item in
-    let text = then (then (then c.put-begun.ensures c.put-placed.ensures) c.put-told.ensures) c.put.ensures in
-    let all = told (columns-same i c.three-place.ensures c.bytes_shown-bytes.ensures c.cycles_shown-cycles.ensures) text in
-    (all, omega (arith, all.ends, columns-length i))
+    let text = then (then (then c.push.ensures c.push-2.ensures) c.push-3.ensures) c.push-4.ensures in
+    let all = told (columns-same i c.three.ensures c.bytes_shown.ensures c.cycles_shown.ensures) text in
+    (all, omega (arith, all.appended.ends, columns-length i))

@@ -1,27 +1,27 @@
--- Nothing, and the two remarks. Assumes nothing.
+-- The two remarks. Assumes nothing.
 use mathlib.Core.Path.{◌∙◌, sym, ap}
-use mathlib.Core.List.{List, [], ◌∷◌}
-use Prim.Native.Nat.{ℕ}
-use lib.ListN.{get_or}
 use native.Mathlib.Omega.{arith}
-use Rattle.mnemonics.specs.Mnemonics.{kind_for, none_for, long_for}
+use lib.ListN.{length, take}
+use Rattle.mnemonics.specs.Mnemonics.{none_for, long_for}
+use Rattle.mnemonics.specs.declared.Kind.{Kind}
+use Rattle.mnemonics.specs.Kinds.{kind_by}
 use Rattle.listing.specs.Listed.{item_by}
-use Rattle.text.proofs.Writing.{none, told, then}
+use Rattle.text.proofs.Writing.{told, then}
 use Rattle.listing.proofs.Lines.{elsewhere, no_code}
 use Rattle.listing.proofs.put_remark.Goals as goal
 
-pub returns-then-long : goal.returns-then-long
-returns-then-long c =
-    let a = c.args in
-    let none = ap (λ (k : ℕ). none_for (kind_for k)) c.if-item-ne45.false in
-    let two = ap (λ (w : List ℕ). long_for (kind_for (get_or w 3 0))) (sym c.entry-word.ensures) ∙ sym c.long.ensures ∙ c.if-long.true in
-    let place = ap (λ (w : List ℕ). get_or w 0 0 ∷ get_or w 1 0 ∷ get_or w 2 0 ∷ []) c.three-place.ensures in
-    let text = elsewhere (item_by a.item) none two (rw c.follows.ensures at place) in
-    (told text (then c.put-told.ensures c.put.ensures), omega (arith, c.put-told.ensures.ends, c.put.ensures.ends))
+pub returns-then-is_long : goal.returns-then-is_long
+returns-then-is_long c =
+    let none = ap (λ (k : Kind). none_for (kind_by k)) c.in-NoInstruction.is in
+    let two = ap long_for (sym c.entry.ensures.kind) ∙ sym c.is_long.ensures ∙ c.if-is_long.true in
+    let place = ap (take 3) (rw c.follows.ensures at c.three-place.ensures) in
+    let words = c.push.ensures in
+    let digits = c.push-then-is_long.ensures in
+    (told (elsewhere (item_by c.args.item) none two place) (then words digits), omega (arith, words.appended.ends, digits.appended.ends, ap length place))
 
-pub returns : goal.returns
-returns c =
-    let a = c.args in
-    let none = ap (λ (k : ℕ). none_for (kind_for k)) c.if-item-ne45.false in
-    let one = ap (λ (w : List ℕ). long_for (kind_for (get_or w 3 0))) (sym c.entry-word.ensures) ∙ sym c.long.ensures ∙ c.if-long.false in
-    (told (no_code (item_by a.item) none one) c.put-2.ensures, omega (arith, c.put-2.ensures.ends))
+pub returns-else-is_long : goal.returns-else-is_long
+returns-else-is_long c =
+    let none = ap (λ (k : Kind). none_for (kind_by k)) c.in-NoInstruction.is in
+    let one = ap long_for (sym c.entry.ensures.kind) ∙ sym c.is_long.ensures ∙ c.if-is_long.false in
+    let words = c.push-else-is_long.ensures in
+    (told (no_code (item_by c.args.item) none one) words, omega (arith, words.appended.ends))

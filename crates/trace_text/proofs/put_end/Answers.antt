@@ -5,8 +5,6 @@ use Rattle.trace_text.proofs.put_end.Goals as goal
 
 pub returns : goal.returns
 returns c =
-    let a = c.args in
-    told (end_same a.cycles.0 a.begun a.number)
-    (then
-    (then (then c.put-words.ensures c.put_number-counted.ensures.0) c.put_number-told.ensures.0)
-    c.put_number.ensures.0)
+    let e = c.args.ended in
+    let counts = then (then c.push.ensures c.push_number.ensures.0) c.push_number-2.ensures.0 in
+    told (end_same e.cycles.0 e.begun e.number) (then counts c.push_number-3.ensures.0)

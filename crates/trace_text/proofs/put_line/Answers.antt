@@ -6,8 +6,7 @@ use Rattle.trace_text.proofs.put_line.Goals as goal
 
 pub returns : goal.returns
 returns c =
-    let number = c.put_number-to.ensures in
+    let number = c.push_number.ensures in
     let same =
-    line_same c.args.log.now c.args.i c.number_at.ensures.0 c.port_letter-letter.ensures
-    c.hex_digit-digit.ensures in
-    (told same (then number.0 c.put.ensures), omega (arith, number.1, c.put.ensures.ends))
+    line_same c.args.bytes.now 0 c.number_at.ensures.0 c.port_letter-letter.ensures c.requires.2 c.hex_digit-digit.ensures in
+    (told same (then number.0 c.push.ensures), omega (arith, number.1, c.push.ensures.appended.ends))

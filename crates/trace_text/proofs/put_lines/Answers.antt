@@ -1,17 +1,31 @@
 -- After i turns the lines of the first i records stand there. Assumes nothing.
-use mathlib.Core.Path.{refl}
 use native.Mathlib.Omega.{arith}
+use lib.ListN.{length-take}
 use Rattle.text.proofs.Writing.{none, told, then}
-use Rattle.trace_text.proofs.Writing.{no_lines, next_line}
+use Rattle.trace_text.proofs.Writing.{chunk_at, same_record, port_of, value_of, no_lines, next_line}
 use Rattle.trace_text.proofs.put_lines.Goals as goal
 
-pub loop-i-init : goal.loop-i-init
-loop-i-init c =
-    let a = c.args in
-    (omega arith, told (no_lines a.log.now) (none a.at a.out.now (omega arith)), omega arith, refl)
+pub loop-bytes-init : goal.loop-bytes-init
+loop-bytes-init c = (told (no_lines c.args.log.now) (none c.args.text.now), omega arith)
 
-pub loop-i-preserved : goal.loop-i-preserved
-loop-i-preserved c =
+pub put_line-requires : goal.put_line-requires
+put_line-requires c =
     let log = c.args.log.now in
-    let line = c.put_line-to.ensures in
-    (omega arith, told (next_line log c.loop-i.i) (then c.loop-i.invariant.1 line.0), omega (arith, line.1), omega (arith, c.put_line-to.auto))
+    let i = c.loop-bytes.bytes-index in
+    let taken = length-take c.args.count c.as_chunks.result.0.now in
+    let here = chunk_at log c.args.count i c.as_chunks.ensures.front (omega (arith, taken)) c.requires.1 in (
+      omega (arith, c.loop-bytes.invariant.1),
+      rw (here, port_of log i) (c.requires.2.port i (omega arith)),
+      rw (here, value_of log i) (c.requires.2.value i (omega (arith, taken))),
+    )
+
+pub loop-bytes-preserved : goal.loop-bytes-preserved
+loop-bytes-preserved c =
+    let log = c.args.log.now in
+    let i = c.loop-bytes.bytes-index in
+    let taken = length-take c.args.count c.as_chunks.result.0.now in
+    let here = chunk_at log c.args.count i c.as_chunks.ensures.front (omega (arith, taken)) c.requires.1 in
+    let line = c.put_line.ensures in (
+      told (next_line log i) (then c.loop-bytes.invariant.0 (told (same_record log i here (omega (arith, taken, c.requires.1))) line.0)),
+      omega (arith, c.loop-bytes.invariant.1, line.1),
+    )

@@ -3,5 +3,4 @@ use Rattle.text.proofs.Writing.{then}
 use Rattle.trace_text.proofs.put_report.Goals as goal
 
 pub returns : goal.returns
-returns c =
-    then (then c.put-headed.ensures c.put_lines-listed.ensures.0) c.put_end.ensures
+returns c = then (then c.push.ensures c.put_lines.ensures.0) c.put_end.ensures

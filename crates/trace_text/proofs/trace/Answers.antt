@@ -7,13 +7,13 @@ use Rattle.trace_text.proofs.trace.Goals as goal
 
 pub returns-then-input-lt-SCHEDULE_AT : goal.returns-then-input-lt-SCHEDULE_AT
 returns-then-input-lt-SCHEDULE_AT c =
-    let refused = c.put_refused.ensures in
-    let input = c.args.input.now in
-    traced (told (short_text input c.if-input-lt-SCHEDULE_AT.true) refused)
+    let t = c.new-text.ensures in
+    let refused = told (short_text c.args.input.now c.if-input-lt-SCHEDULE_AT.true) c.push_refused.ensures in
+    traced t.same_bytes t.empty refused c.len.ensures
 
 pub returns : goal.returns
 returns c =
-    let ran = c.put_run.ensures in
+    let t = c.new-text.ensures in
     let input = c.args.input.now in
     let same = long_text input c.if-input-lt-SCHEDULE_AT.false refl (mid_tail 2004 input) c.empty_log-log.ensures.0 c.number_at.ensures.0 in
-    traced (told same ran)
+    traced t.same_bytes t.empty (told same c.put_run.ensures) c.len-2.ensures

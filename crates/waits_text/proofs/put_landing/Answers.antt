@@ -1,17 +1,20 @@
 -- Five numbers, one behind the other. Assumes nothing.
-use native.Mathlib.Omega.{arith}
+use Rattle.std.proofs.Common.{arith}
 use Rattle.text.proofs.Writing.{told, then}
 use Rattle.waits_text.proofs.Texts.{line_same}
 use Rattle.waits_text.proofs.put_landing.Goals as goal
 
 pub returns : goal.returns
 returns c =
-    let a = c.args in
-    let named = c.put_number-named.ensures in
-    let closed = c.put_number-closed.ensures in
-    let cycles = c.put_number-cycles.ensures in
-    let longest = c.put_number-longest.ensures in
-    let mark = c.put_number.ensures in (
-      told (line_same a.i a.l) (then (then (then (then named.0 closed.0) cycles.0) longest.0) mark.0),
-      omega (arith, named.1, closed.1, cycles.1, longest.1, mark.1),
+    let closed = then c.push_number.ensures.0 c.push_number-2.ensures.0 in
+    let longest = then (then closed c.push_number-3.ensures.0) c.push_number-4.ensures.0 in (
+      told (line_same c.args.i c.args.landing) (then longest c.push_number-5.ensures.0),
+      omega (
+        arith,
+        c.push_number.ensures.1,
+        c.push_number-2.ensures.1,
+        c.push_number-3.ensures.1,
+        c.push_number-4.ensures.1,
+        c.push_number-5.ensures.1,
+      ),
     )

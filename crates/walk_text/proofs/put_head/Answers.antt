@@ -1,7 +1,6 @@
 -- Three pieces. Assumes nothing.
 use native.Mathlib.Omega.{arith}
 use mathlib.Core.Path.{◌≡◌, ◌∙◌, ap}
-use Prim.Native.Nat.{◌+◌}
 use lib.ListN.{length}
 use Rattle.text.proofs.Writing.{told, then}
 use Rattle.walk_text.proofs.Joined.{cycle_length, place_length, head_same}
@@ -10,18 +9,14 @@ use Rattle.walk_text.proofs.put_head.Goals as goal
 
 pub returns : goal.returns
 returns c =
-    let a = c.args in
-    let cycle = c.cycle_column-cycle in
-    let at = c.place-at in
-    let does = c.words-does in
+    let w = c.args.w in
+    let cycle = c.cycle_column.ensures in
     let kind = c.doing-kind in
-    let first : c.put-a.result ≡ 0 + length cycle.result = c.put-a.ensures.ends in
-    let second : c.put-b.result ≡ c.put-a.result + length at.result = c.put-b.ensures.ends in
-    let third : c.put.result ≡ c.put-b.result + length does.result = c.put.ensures.ends in
-    let ten = ap length cycle.ensures ∙ cycle_length a.w.before.cycle.0 in
-    let five = ap length at.ensures ∙ place_length kind.result a.w.before.core.flow.pc in
-    let eight : length does.result ≡ 8 = search rules in (
-      told (head_same a.rom.now a.w cycle.ensures kind.ensures at.ensures does.ensures)
-          (then (then c.put-a.ensures c.put-b.ensures) c.put.ensures),
-      omega (arith, first, second, third, ten, five, eight),
+    let at = c.place.ensures in
+    let does = c.words.ensures in
+    let ten = ap length cycle ∙ cycle_length w.before.cycle.0 in
+    let five = ap length at ∙ place_length kind.result w.before.core.flow.pc in
+    let eight : length c.words.result ≡ 8 = search rules in (
+      told (head_same c.args.rom.now w cycle kind.ensures at does) (then (then c.push.ensures c.push-2.ensures) c.push-3.ensures),
+      omega (arith, c.push.ensures.appended.ends, c.push-2.ensures.appended.ends, c.push-3.ensures.appended.ends, ten, five, eight),
     )

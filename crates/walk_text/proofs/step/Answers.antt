@@ -14,10 +14,12 @@ pub returns-in_default : goal.returns-in_default
 returns-in_default c =
     let a = c.args in
     let one = as_one a.rom.now a.sched.now a.s c.upd546_sheet-sheet.ensures c.run_plain-ran.ensures in
-    not_done a.rom.now a.sched.now a.s c.run_plain-ran.result _ one a.over a.out.now c.in_default.not-Finished c.end_number.ensures
+    not_done a.rom.now a.sched.now a.s c.run_plain-ran.result _ one a.over a.out.now c.in_default.not-Finished
 
 pub returns : goal.returns
 returns c =
     let a = c.args in
     let one = as_one a.rom.now a.sched.now a.s c.upd546_sheet-sheet.ensures c.run_plain-ran.ensures in
-    done a.rom.now a.sched.now a.s c.run_plain-ran.result _ one a.over c.in-Finished.is c.cycle_walked-w.ensures c.put_line-size.ensures c.over_after.ensures
+    let t = c.new-text.ensures in
+    done a.rom.now a.sched.now a.s c.run_plain-ran.result _ one a.over c.in-Finished.is c.cycle_walked-w.ensures t.same_bytes t.empty
+    c.put_line.ensures c.len.ensures c.over_after.ensures
