@@ -1,19 +1,20 @@
 -- The lines of a text by their places, and the addresses that they reach. Assumes nothing.
-use mathlib.Core.Path.{◌≡◌, ◌∙◌, refl, sym, ap}
+use mathlib.Core.Path.{◌≡◌, ◌∙◌, refl, sym, ap, ap₂}
 use mathlib.Core.Bool.{Bool, true, false, cond}
 use mathlib.Core.List.{List, [], ◌∷◌}
-use Prim.Native.Nat.{ℕ, suc, ◌+◌, ◌-◌, ◌<◌, ◌≤◌}
+use Prim.Native.Nat.{ℕ, zero, suc, ◌+◌, ◌<◌, ◌≤◌}
 use native.Mathlib.Numerals.{add-one}
 use native.Mathlib.Omega.{arith}
 use lib.Dec.{eqb, leb}
-use lib.ListN.{length, get_or, take, drop, drop_of_length-le, length-drop}
-use lib.Seq.{drop-cons, drop-drop, length-take-le}
-use borrow.Author.Tests.{leb-true, leb-false, le-leb, lt-leb}
+use lib.ListN.{length, get_or, drop, drop_of_length-le}
+use lib.Seq.{drop-cons}
+use borrow.Author.Tests.{leb-true}
+use native.Mathlib.Nat.{not-suc-le-zero, le_of_suc-le-suc}
+use Rattle.std.specs.List.{slice_split, onto_first, enumerate_from}
 use Rattle.upd546.specs.Sequences.{same_numbers}
 use Rattle.mnemonics.specs.Mnemonics.{Kind, long_for}
 use Rattle.assembly.specs.Grammar.{Line, is_newline, before, onwards, onto, lines_of, parsed, parsed_all}
 use Rattle.assembly.specs.Assembling.{Value, Action, nothing, sets_length, sets_address, gives, unknown, good, wrong, label_unknown, last_address, limited, number_from, number_up_to, action_for, size_for, moved_by, moved, place_from}
-use Rattle.assembly.proofs.Parts.{take-before, drop-before, before_most}
 
 -- THE LINES FROM A PLACE ON
 
@@ -39,55 +40,83 @@ first_line (c ∷ t) = go (is_newline c) (first_line t)
     go true e = refl
     go false e = ap (onto c) e
 
--- those of a text from a place on; behind the end there is none
-abbrev pub lines_at : List ℕ → ℕ → List (List ℕ)
-lines_at text from = cond (leb from (length text)) (lines_of (drop from text)) []
+-- as std cuts a text at its newlines
+pub split_is : (text : List ℕ) → slice_split is_newline text ≡ lines_of text
+unfolding lines_of
+split_is [] = refl
+split_is (c ∷ t) = go (is_newline c) (slice_split is_newline t) (lines_of t) (split_is t)
+  where
+    same : (ls : List (List ℕ)) → onto_first c ls ≡ onto c ls
+    same [] = refl
+    same (l ∷ ls) = refl
 
-pub lines_all : (text : List ℕ) → lines_at text 0 ≡ lines_of text
-lines_all text = rw (le-leb 0 (length text) (omega arith))
+    go : (b : Bool) (p q : List (List ℕ)) → p ≡ q → cond b ([] ∷ p) (onto_first c p) ≡ elim b [ true ↦ [] ∷ q | false ↦ onto c q ]
+    go true p q e = ap (λ (ls : List (List ℕ)). [] ∷ ls) e
+    go false p q e = same p ∙ ap (onto c) e
 
-pub lines_end : (text : List ℕ) (from : ℕ) → length text < from → lines_at text from ≡ []
-lines_end text from h = rw (lt-leb from (length text) h)
+-- how far lines reach, each with its newline
+unfoldable pub reach : List (List ℕ) → ℕ
+reach [] = 0
+reach (l ∷ ls) = length l + 1 + reach ls
 
-rest_by : (text : List ℕ) (to : ℕ) (b : Bool) → leb (to + 1) (length text) ≡ b → rest_of (drop to text) ≡ lines_at text (to + 1)
-rest_by text to true f =
-    let within : to < length text = omega (arith, leb-true (to + 1) (length text) f) in
-    ap rest_of (drop-cons text to 0 within) ∙ ap (λ (k : ℕ). lines_of (drop k text)) (sym (add-one to))
-    ∙ sym (ap (λ (t : Bool). cond t (lines_of (drop (to + 1) text)) []) f)
-rest_by text to false f =
-    let outside : length text ≤ to = omega (arith, leb-false (to + 1) (length text) f) in
-    ap rest_of (drop_of_length-le text outside) ∙ sym (ap (λ (t : Bool). cond t (lines_of (drop (to + 1) text)) []) f)
+pub reach_next : {all : List (List ℕ)} {l : List ℕ} {rest : List (List ℕ)} → all ≡ l ∷ rest → reach all ≡ length l + 1 + reach rest
+unfolding reach
+reach_next e = ap reach e
 
-module _ (text : List ℕ) (from : ℕ) (h : from ≤ length text) {to : ℕ} (e : to ≡ from + length (before is_newline (drop from text))) where
-  abbrev line : List ℕ
-  line = take (to - from) (drop from text)
+reach_onto : (c : ℕ) (ls : List (List ℕ)) {l : List ℕ} {rest : List (List ℕ)} → ls ≡ l ∷ rest → reach (onto c ls) ≡ suc (reach ls)
+unfolding reach
+reach_onto c ls {l} {rest} e = ap (λ (k : List (List ℕ)). reach (onto c k)) e ∙ more ∙ ap (λ (k : List (List ℕ)). suc (reach k)) (sym e)
+  where
+    more : suc (length l) + 1 + reach rest ≡ suc (length l + 1 + reach rest)
+    more = omega arith
 
-  line_is : before is_newline (drop from text) ≡ line
-  line_is =
-      let n : length (before is_newline (drop from text)) ≡ to - from = omega (arith, e) in
-      sym (take-before is_newline (drop from text)) ∙ ap (λ (k : ℕ). take k (drop from text)) n
+pub reach_all : (text : List ℕ) → reach (lines_of text) ≡ length text + 1
+unfolding lines_of reach
+reach_all [] = refl
+reach_all (c ∷ t) = go (is_newline c) (reach_all t)
+  where
+    go : (b : Bool) → reach (lines_of t) ≡ length t + 1 → reach (lines_by b c t) ≡ suc (length t) + 1
+    go true e = omega (arith, e)
+    go false e = omega (arith, reach_onto c (lines_of t) (first_line t), e)
 
-  rest : rest_of (onwards is_newline (drop from text)) ≡ lines_at text (to + 1)
-  rest =
-      let here : onwards is_newline (drop from text) ≡ drop to text
-      = sym (drop-before is_newline (drop from text)) ∙ drop-drop (length (before is_newline (drop from text))) from text ∙ ap (λ (k : ℕ). drop k text) (sym e) in
-      ap rest_of here ∙ rest_by text to (leb (to + 1) (length text)) refl
+pub reach_split : (text : List ℕ) → reach (slice_split is_newline text) ≡ length text + 1
+reach_split text = ap reach (split_is text) ∙ reach_all text
 
-  pub line_on : lines_at text from ≡ line ∷ lines_at text (to + 1)
-  line_on =
-      ap (λ (t : Bool). cond t (lines_of (drop from text)) []) (le-leb from (length text) h) ∙ first_line (drop from text)
-      ∙ ap (λ (l : List ℕ). l ∷ rest_of (onwards is_newline (drop from text))) line_is ∙ ap (λ (ls : List (List ℕ)). line ∷ ls) rest
+pub reach_drop : (k : ℕ) (ls : List (List ℕ)) → reach (drop k ls) ≤ reach ls
+unfolding reach
+reach_drop zero ls = omega arith
+reach_drop (suc k) [] = omega arith
+reach_drop (suc k) (l ∷ ls) = omega (arith, reach_drop k ls)
 
-  pub parsed_on : parsed_all (lines_at text from) ≡ parsed line ∷ parsed_all (lines_at text (to + 1))
-  unfolding parsed_all
-  parsed_on = ap parsed_all line_on
+pub few_lines : (ls : List (List ℕ)) → length ls ≤ reach ls
+unfolding reach
+few_lines [] = omega arith
+few_lines (l ∷ ls) = omega (arith, few_lines ls)
 
-  pub line_length : length line ≡ to - from
-  line_length = length-take-le (to - from) (drop from text) (omega (arith, e, length-drop from text, before_most is_newline (drop from text)))
+-- a line's turn, and the end
+pub turn_is : (all : List (List ℕ)) (k : ℕ) (x : List ℕ) → k < length all → x ≡ get_or all k x → drop k all ≡ x ∷ drop (k + 1) all
+turn_is all k x h e = drop-cons all k x h ∙ ap₂ (λ (l : List ℕ) (i : ℕ). l ∷ drop i all) (sym e) (sym (add-one k))
 
-pub parsed_end : (text : List ℕ) (from : ℕ) → length text < from → parsed_all (lines_at text from) ≡ []
+pub numbered_turn : (n : ℕ) (all : List (List ℕ)) (k : ℕ) (x : ℕ × List ℕ) → k < length (enumerate_from n all) → x ≡ get_or (enumerate_from n all) k x
+    → (x.0 ≡ n + k) × (drop k all ≡ x.1 ∷ drop (k + 1) all) × (k < length all)
+numbered_turn n [] k x h e = absurd (not-suc-le-zero h)
+numbered_turn n (l ∷ ls) zero x h e = (ap (λ (p : ℕ × List ℕ). p.0) e ∙ omega arith, ap (λ (p : ℕ × List ℕ). p.1 ∷ ls) (sym e), omega arith)
+numbered_turn n (l ∷ ls) (suc k) x h e =
+    let more = numbered_turn (n + 1) ls k x (le_of_suc-le-suc h) e in
+    let next : suc (k + 1) ≡ suc k + 1 = omega arith in
+    (omega (arith, more.0), more.1 ∙ ap (λ (i : ℕ). x.1 ∷ drop i (l ∷ ls)) next, omega (arith, more.2))
+
+pub numbered_length : (n : ℕ) (all : List (List ℕ)) → length (enumerate_from n all) ≡ length all
+numbered_length n [] = refl
+numbered_length n (l ∷ ls) = ap suc (numbered_length (n + 1) ls)
+
+pub parsed_next : {all : List (List ℕ)} {l : List ℕ} {rest : List (List ℕ)} → all ≡ l ∷ rest → parsed_all all ≡ parsed l ∷ parsed_all rest
 unfolding parsed_all
-parsed_end text from h = ap parsed_all (lines_end text from h)
+parsed_next e = ap parsed_all e
+
+pub parsed_end : (all : List (List ℕ)) (k : ℕ) → k ≡ length all → parsed_all (drop k all) ≡ []
+unfolding parsed_all
+parsed_end all k e = let most : length all ≤ k = omega (arith, e) in ap parsed_all (drop_of_length-le all most)
 
 -- THE ADDRESS OF A LABEL
 

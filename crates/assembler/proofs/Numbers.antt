@@ -2,16 +2,18 @@
 use mathlib.Core.Path.{◌≡◌, ◌∙◌, refl, sym, ap}
 use mathlib.Core.Bool.{Bool, true, false, cond, ◌&&◌}
 use mathlib.Core.List.{List, [], ◌∷◌}
-use Prim.Native.Nat.{ℕ, zero, suc, ◌+◌, ◌-◌, ◌%◌, ◌<◌, ◌≤◌}
+use Prim.Native.Nat.{ℕ, zero, suc, ◌+◌, ◌-◌, ◌%◌, ◌≤◌}
 use native.Mathlib.Omega.{arith}
 use lib.Dec.{eqb, leb, ltb}
 use lib.ListN.{length, get_or}
-use borrow.Author.Tests.{ltb-true, ltb-false, lt-ltb, le-ltb, eq-eqb, ne_eqb}
-use Rattle.mnemonics.specs.Mnemonics.{Kind, without, kind_for, long_for}
-use Rattle.assembly.specs.Assembling.{Value, Action, Coded, good, wrong, last_address, limited, number_from, place_of, address_of, absent, operand_for, coded_by, coded, first_of, elsewhere, labelled, action_for}
+use borrow.Author.Tests.{ltb-true, ltb-false, le-leb, lt-ltb, le-ltb}
+use Rattle.mnemonics.specs.Mnemonics.{Kind, long_for}
+use Rattle.assembly.specs.Assembling.{Value, Coded, good, wrong, last_address, limited, number_from, place_of, address_of, absent, operand_for, coded_by, coded, first_of}
 use Rattle.assembly.specs.Grammar.{Line}
-use Rattle.assembly.specs.declared.Asked.{Asked}
-use Rattle.assembly.specs.Places.{action_of}
+use Rattle.std.specs.Char.{is_ascii_digit}
+use Rattle.assembly.specs.declared.Mistake.{Mistake}
+use Rattle.assembly.specs.declared.Mistake.TheVariants.{TextBehind, UnknownWord, OperandMissing, OperandUnwanted, NoNumber, NumberTooLarge, LabelUnknown, LabelTwice, NotInPage, NoCzpAddress, BeyondEnd, ByteTwice, SecondElsewhere, RomNotFirst}
+use Rattle.assembly.specs.Places.{mistake_number}
 
 some : (n : ℕ) → suc n ≡ 0 → ⊥
 some n e = omega (arith, e)
@@ -35,24 +37,13 @@ beyond at size count h = go (ltb size (at + count)) refl
     go true e = lt-ltb (size - count) at (omega (arith, ltb-true size (at + count) e))
     go false e = le-ltb (size - count) at (omega (arith, ltb-false size (at + count) e))
 
--- what a word asks for, by what the code found
-pub asked_by : {r x : Asked} {w v : List ℕ} → action_of r ≡ action_for w → w ≡ v → r ≡ x → action_for v ≡ action_of x
-asked_by e f g = sym (ap action_for f) ∙ sym e ∙ ap action_of g
-
--- one byte or two
-abbrev pub coded_one : ℕ → ℕ → Coded
-coded_one m b = record { mistake = m; bytes = b ∷ [] }
-
-abbrev pub coded_two : ℕ → ℕ → Coded
-coded_two b d = record { mistake = 0; bytes = b ∷ d ∷ [] }
-
-pub plus_none : (n : ℕ) → n + 0 ≡ n
-plus_none n = omega arith
-
-pub none_plus : (n : ℕ) → 0 + n ≡ n
-none_plus n = omega arith
-
 -- an address
+pub digit_is : (c : ℕ) → is_ascii_digit c ≡ (leb 48 c && leb c 57)
+digit_is c = refl
+
+pub limited_wrong : (limit m : ℕ) → limited limit (wrong m) ≡ wrong m
+limited_wrong limit m = let least : leb 0 limit ≡ true = le-leb 0 limit (omega arith) in ap (λ (t : Bool). cond t (wrong m) (wrong 6)) least
+
 pub address-none : (lines : List Line) (l : List ℕ) → length l ≡ 0 → wrong 3 ≡ address_of lines l
 unfolding address_of
 address-none lines [] h = refl
@@ -70,38 +61,45 @@ address-number lines l h e = address-by lines l h e
 pub address-label : (lines : List Line) (l : List ℕ) → (length l ≡ 0 → ⊥) → (leb 48 (get_or l 0 0) && leb (get_or l 0 0) 57) ≡ false → limited last_address (place_of lines l) ≡ address_of lines l
 address-label lines l h e = address-by lines l h e
 
--- a label
-pub label_none : (lines : List Line) (l : List ℕ) (at : ℕ) → length l ≡ 0 → 0 ≡ labelled lines l at
-label_none lines [] at h = refl
-label_none lines (c ∷ t) at h = absurd (some (length t) h)
-
-label_by : (lines : List Line) (l : List ℕ) (at : ℕ) → (length l ≡ 0 → ⊥) → elsewhere (place_of lines l) at ≡ labelled lines l at
-label_by lines [] at h = absurd (h refl)
-label_by lines (c ∷ t) at h = refl
-
-module _ (lines : List Line) (l : List ℕ) (at : ℕ) (h : length l ≡ 0 → ⊥) {v : Value} (e : v ≡ place_of lines l) where
-  pub label_here : v.value ≡ at → 0 ≡ labelled lines l at
-  label_here s = sym (ap (λ (t : Bool). cond t 0 8) (eq-eqb v.value at s)) ∙ ap (λ (w : Value). elsewhere w at) e ∙ label_by lines l at h
-
-  pub label_there : (v.value ≡ at → ⊥) → 8 ≡ labelled lines l at
-  label_there s = sym (ap (λ (t : Bool). cond t 0 8) (ne_eqb v.value at s)) ∙ ap (λ (w : Value). elsewhere w at) e ∙ label_by lines l at h
-
--- a letter that is none of a kind's
-pub kind_other : (k : ℕ) → (k ≡ 98 → ⊥) → (k ≡ 107 → ⊥) → (k ≡ 115 → ⊥) → (k ≡ 102 → ⊥) → (k ≡ 122 → ⊥) → (k ≡ 112 → ⊥) → (k ≡ 45 → ⊥) → kind_for k ≡ without
-kind_other k a b c d e f g = rw (ne_eqb k 98 a, ne_eqb k 107 b, ne_eqb k 115 c, ne_eqb k 102 d, ne_eqb k 122 e, ne_eqb k 112 f, ne_eqb k 45 g)
+-- every mistake has a number
+pub number_some : (m : Mistake) → mistake_number m ≡ 0 → ⊥
+number_some TextBehind e = omega (arith, e)
+number_some UnknownWord e = omega (arith, e)
+number_some OperandMissing e = omega (arith, e)
+number_some OperandUnwanted e = omega (arith, e)
+number_some NoNumber e = omega (arith, e)
+number_some NumberTooLarge e = omega (arith, e)
+number_some LabelUnknown e = omega (arith, e)
+number_some LabelTwice e = omega (arith, e)
+number_some NotInPage e = omega (arith, e)
+number_some NoCzpAddress e = omega (arith, e)
+number_some BeyondEnd e = omega (arith, e)
+number_some ByteTwice e = omega (arith, e)
+number_some SecondElsewhere e = omega (arith, e)
+number_some RomNotFirst e = omega (arith, e)
 
 -- the bytes of a statement, part by part
-abbrev coded_of' : ℕ → List ℕ → Coded
-coded_of' m l = record { mistake = m; bytes = l }
+module _ (k : Kind) (first : ℕ) (lines : List Line) (operand : List ℕ) (at : ℕ) where
+  abbrev coded_with : Value → Coded → ℕ → Coded
+  coded_with v b e = record { mistake = first_of v.mistake (first_of b.mistake e); bytes = b.bytes }
 
-abbrev coded_with : Value → Coded → ℕ → Coded
-coded_with v b e = record { mistake = first_of v.mistake (first_of b.mistake e); bytes = b.bytes }
+  abbrev away : ℕ
+  away = cond (long_for k && eqb (at % 256) 255) 13 0
 
-pub coded_is : (k : Kind) (first at : ℕ) (lines : List Line) (operand : List ℕ) {n : Value} {b : Coded} {e m₁ m₂ : ℕ} → n ≡ operand_for k lines operand → b ≡ coded_by k first at n.value
-    → e ≡ cond (long_for k && eqb (at % 256) 255) 13 0 → m₁ ≡ first_of b.mistake e → m₂ ≡ first_of n.mistake m₁
-    → record { mistake = m₂; bytes = b.bytes } ≡ coded k first lines operand at
-unfolding coded
-coded_is k first at lines operand {n} {b} {e} {m₁} {m₂} v c f g h =
-    let away : ℕ = cond (long_for k && eqb (at % 256) 255) 13 0 in
-    let mistakes : coded_of' m₂ b.bytes ≡ coded_with n b e = ap (λ (m : ℕ). coded_of' m b.bytes) (h ∙ ap (first_of n.mistake) g) in
-    mistakes ∙ ap (coded_with n b) f ∙ ap (λ (d : Coded). coded_with n d away) c ∙ ap (λ (w : Value). coded_with w (coded_by k first at w.value) away) v
+  coded_of' : (v : Value) → v ≡ operand_for k lines operand → coded_with v (coded_by k first at v.value) away ≡ coded k first lines operand at
+  unfolding coded
+  coded_of' v e = ap (λ (w : Value). coded_with w (coded_by k first at w.value) away) e
+
+  pub coded_value : {m : ℕ} → (m ≡ 0 → ⊥) → wrong m ≡ operand_for k lines operand → m ≡ (coded k first lines operand at).mistake
+  coded_value {m} h e =
+      first_some m (first_of (coded_by k first at 0).mistake away) h ∙ ap (λ (c : Coded). c.mistake) (coded_of' (wrong m) e)
+
+  module _ {n : ℕ} (e : good n ≡ operand_for k lines operand) where
+    pub coded_bytes : {m : ℕ} → (m ≡ 0 → ⊥) → m ≡ (coded_by k first at n).mistake → m ≡ (coded k first lines operand at).mistake
+    coded_bytes {m} h f = first_some m away h ∙ ap (λ (d : ℕ). first_of d away) f ∙ ap (λ (c : Coded). c.mistake) (coded_of' (good n) e)
+
+    pub coded_good : {b : Bool} → 0 ≡ (coded_by k first at n).mistake → (long_for k && eqb (at % 256) 255) ≡ b → cond b 13 0 ≡ (coded k first lines operand at).mistake
+    coded_good f g = ap (λ (b : Bool). cond b 13 0) (sym g) ∙ ap (λ (d : ℕ). first_of d away) f ∙ ap (λ (c : Coded). c.mistake) (coded_of' (good n) e)
+
+    pub coded_told : {l : List ℕ} → l ≡ (coded_by k first at n).bytes → l ≡ (coded k first lines operand at).bytes
+    coded_told f = f ∙ ap (λ (c : Coded). c.bytes) (coded_of' (good n) e)

@@ -1,24 +1,20 @@
 -- Bytes put to the ROM, by the tests of the code. Assumes nothing.
-use mathlib.Core.Path.{◌≡◌, ◌∙◌, refl, sym, ap, subst}
+use mathlib.Core.Path.{◌≡◌, ◌∙◌, refl, sym, ap, ap₂, subst}
 use mathlib.Core.Bool.{Bool, true, false, cond, not}
 use mathlib.Core.List.{List, [], ◌∷◌}
 use Prim.Native.Nat.{ℕ, zero, suc, ◌+◌, ◌<◌, ◌≤◌}
 use native.Mathlib.Numerals.{add-one}
 use native.Mathlib.Omega.{arith}
-use lib.Dec.{T, eqb, leb, ltb}
-use lib.ListN.{length, get_or, take, set}
+use lib.Dec.{T, eqb, ltb}
+use lib.ListN.{length, get_or, take, drop, set, drop_of_length-le}
+use lib.Seq.{drop-cons}
+use Rattle.std.proofs.lemmas.List.{get_or-set_other}
 use borrow.Author.Tests.{ltb-true, ltb-false, le-leb, lt-leb, eq-eqb, ne_eqb}
 use Rattle.assembly.specs.Assembling.{Assembled, assembled_from, filled, State, Step, Coded, coded, first_of, gives, action_for, behind_text, labelled, done_by, step, given_twice, placed, put}
 use Rattle.assembly.specs.Grammar.{Line}
 use Rattle.assembly.specs.Places.{is_there}
 use Rattle.mnemonics.specs.Mnemonics.{Kind}
 use Rattle.assembler.proofs.Numbers.{first_some}
-
-pub wrong_step : {A : Type 0} (m : ℕ) → 0 < m → m ≡ 0 → A
-wrong_step m h e = absurd (never m h e)
-  where
-    never : (m : ℕ) → 0 < m → m ≡ 0 → ⊥
-    never m h e = omega (arith, h, e)
 
 -- a state behind a statement
 abbrev pub state_at : ℕ → ℕ → List ℕ → State
@@ -42,64 +38,73 @@ module _ (s : State) (bytes : List ℕ) where
   unfolding put
   put_beyond h = sym (ap (λ (t : Bool). cond t (cond (given_twice s.cells s.at bytes) 12 0) 11) (lt-leb (s.at + length bytes) s.size (ltb-true s.size (s.at + length bytes) h)))
 
-  put_within : {t : Bool} → ltb s.size (s.at + length bytes) ≡ false → given_twice s.cells s.at bytes ≡ t → cond t 12 0 ≡ (put s bytes).mistake
+  pub put_within : {t : Bool} → ltb s.size (s.at + length bytes) ≡ false → given_twice s.cells s.at bytes ≡ t → cond t 12 0 ≡ (put s bytes).mistake
   unfolding put
   put_within {t} h g =
       ap (λ (b : Bool). cond b 12 0) (sym g)
       ∙ sym (ap (λ (b : Bool). cond b (cond (given_twice s.cells s.at bytes) 12 0) 11) (le-leb (s.at + length bytes) s.size (ltb-false s.size (s.at + length bytes) h)))
 
-  pub put_state : record { at = s.at + length bytes; size = s.size; begun = true; cells = placed s.cells s.at bytes } ≡ (put s bytes).state
+  pub put_leaves : record { at = s.at + length bytes; size = s.size; begun = true; cells = placed s.cells s.at bytes } ≡ (put s bytes).state
   unfolding put
-  put_state = refl
+  put_leaves = refl
 
-module _ (s : State) (b : ℕ) (h : ltb s.size (s.at + 1) ≡ false) where
-  pub one_twice : (get_or s.cells s.at 0 ≡ 256 → ⊥) → 12 ≡ (put s (b ∷ [])).mistake
-  one_twice g = put_within s (b ∷ []) h (given_first s.cells s.at b [] g)
+-- what stands in front of an address doesn't say whether a byte is given there
+given_behind : (cells : List ℕ) (at b j : ℕ) (bytes : List ℕ) → at < j → given_twice (set cells at b) j bytes ≡ given_twice cells j bytes
+unfolding given_twice
+given_behind cells at b j [] h = refl
+given_behind cells at b j (c ∷ t) h =
+    ap₂ (λ (n : ℕ) (g : Bool). cond (eqb n 256) g true) (get_or-set_other cells at j b 0 (λ e. omega (arith, h, e)))
+    (given_behind cells at b (suc j) t (omega (arith, h)))
 
-  pub one_good : get_or s.cells s.at 0 ≡ 256 → 0 ≡ (put s (b ∷ [])).mistake
-  one_good g = put_within s (b ∷ []) h (given_rest s.cells s.at b [] g ∙ given_none s.cells (suc s.at))
+-- THE BYTES FROM A PLACE ON, behind those that are put
 
-pub placed_one : (cells : List ℕ) (at b : ℕ) → set cells at b ≡ placed cells at (b ∷ [])
-unfolding placed
-placed_one cells at b = refl
+module _ (cells : List ℕ) (at : ℕ) (bytes : List ℕ) (i : ℕ) (h : i < length bytes) where
+  pub rest_twice : (get_or cells at 0 ≡ 256 → ⊥) → given_twice cells at (drop i bytes) ≡ true
+  rest_twice g = ap (given_twice cells at) (drop-cons bytes i 0 h) ∙ given_first cells at (get_or bytes i 0) (drop (suc i) bytes) g
 
-pub placed_two : (cells : List ℕ) (at b d : ℕ) → set (set cells at b) (at + 1) d ≡ placed cells at (b ∷ d ∷ [])
-unfolding placed
-placed_two cells at b d = ap (λ (k : ℕ). set (set cells at b) k d) (add-one at)
+  pub rest_given : get_or cells at 0 ≡ 256 → given_twice (set cells at (get_or bytes i 0)) (at + 1) (drop (i + 1) bytes) ≡ given_twice cells at (drop i bytes)
+  rest_given g =
+      rw (add-one at, add-one i)
+      (given_behind cells at (get_or bytes i 0) (suc at) (drop (suc i) bytes) (omega arith)
+      ∙ sym (given_rest cells at (get_or bytes i 0) (drop (suc i) bytes) g) ∙ sym (ap (given_twice cells at) (drop-cons bytes i 0 h)))
 
-module _ (s : State) (b d : ℕ) (h : ltb s.size (s.at + 2) ≡ false) where
-  pub two_twice : (get_or s.cells s.at 0 ≡ 256 → ⊥) → 12 ≡ (put s (b ∷ d ∷ [])).mistake
-  two_twice g = put_within s (b ∷ d ∷ []) h (given_first s.cells s.at b (d ∷ []) g)
+  pub rest_placed : placed (set cells at (get_or bytes i 0)) (at + 1) (drop (i + 1) bytes) ≡ placed cells at (drop i bytes)
+  unfolding placed
+  rest_placed = rw (add-one at, add-one i) (sym (ap (placed cells at) (drop-cons bytes i 0 h)))
 
-  module _ (g : get_or s.cells s.at 0 ≡ 256) where
-    pub two_second : (get_or s.cells (s.at + 1) 0 ≡ 256 → ⊥) → 12 ≡ (put s (b ∷ d ∷ [])).mistake
-    two_second k =
-        let other : get_or s.cells (suc s.at) 0 ≡ 256 → ⊥ = λ e. k (ap (λ (i : ℕ). get_or s.cells i 0) (add-one s.at) ∙ e) in
-        put_within s (b ∷ d ∷ []) h (given_rest s.cells s.at b (d ∷ []) g ∙ given_first s.cells (suc s.at) d [] other)
+pub rest_shorter : (at : ℕ) (bytes : List ℕ) (i : ℕ) → i < length bytes → at + 1 + length (drop (i + 1) bytes) ≡ at + length (drop i bytes)
+rest_shorter at bytes i h =
+    let one : length (drop i bytes) ≡ suc (length (drop (suc i) bytes)) = ap (λ (l : List ℕ). length l) (drop-cons bytes i 0 h) in
+    rw (add-one i) (omega (arith, one))
 
-    pub two_good : get_or s.cells (s.at + 1) 0 ≡ 256 → 0 ≡ (put s (b ∷ d ∷ [])).mistake
-    two_good k =
-        let same : get_or s.cells (suc s.at) 0 ≡ 256 = ap (λ (i : ℕ). get_or s.cells i 0) (sym (add-one s.at)) ∙ k in
-        put_within s (b ∷ d ∷ []) h (given_rest s.cells s.at b (d ∷ []) g ∙ given_rest s.cells (suc s.at) d [] same ∙ given_none s.cells (suc (suc s.at)))
+-- all bytes are put
+module _ (s : State) (bytes : List ℕ) (h : ltb s.size (s.at + length bytes) ≡ false) (cells : List ℕ) (at i : ℕ) (e : length bytes ≤ i) where
+  none : drop i bytes ≡ []
+  none = drop_of_length-le bytes e
+
+  pub put_good : given_twice cells at (drop i bytes) ≡ given_twice s.cells s.at bytes → 0 ≡ (put s bytes).mistake
+  put_good g =
+      let free : given_twice cells at [] ≡ given_twice s.cells s.at bytes = ap (given_twice cells at) (sym none) ∙ g in
+      put_within s bytes h (sym free ∙ given_none cells at)
+
+  pub put_state : placed cells at (drop i bytes) ≡ placed s.cells s.at bytes → at + length (drop i bytes) ≡ s.at + length bytes
+      → state_at at s.size cells ≡ (put s bytes).state
+  unfolding placed
+  put_state g k =
+      let all : cells ≡ placed s.cells s.at bytes = ap (placed cells at) (sym none) ∙ g in
+      let end : at ≡ s.at + length bytes = omega (arith, k, ap (λ (l : List ℕ). length l) none) in
+      ap₂ (λ (n : ℕ) (l : List ℕ). state_at n s.size l) end all ∙ put_leaves s bytes
 
 -- a word that gives bytes
-module _ (k : Kind) (first : ℕ) (lines : List Line) (operand : List ℕ) (s : State) {b : Coded} (e : b ≡ coded k first lines operand s.at) where
-  abbrev given : Coded → Step
-  given c = record { mistake = first_of c.mistake (put s c.bytes).mistake; state = (put s c.bytes).state }
+module _ (k : Kind) (first : ℕ) (lines : List Line) (operand : List ℕ) (s : State) where
+  abbrev c : Coded
+  c = coded k first lines operand s.at
 
-  given_is : given b ≡ done_by (gives k first) lines operand s
-  given_is = ap given e
+  pub give_fail : {m : ℕ} → (m ≡ 0 → ⊥) → m ≡ c.mistake → m ≡ (done_by (gives k first) lines operand s).mistake
+  give_fail {m} h e = first_some m (put s c.bytes).mistake h ∙ ap (λ (n : ℕ). first_of n (put s c.bytes).mistake) e
 
-  pub give_fail : (b.mistake ≡ 0 → ⊥) → b.mistake ≡ (done_by (gives k first) lines operand s).mistake
-  give_fail h = first_some b.mistake (put s b.bytes).mistake h ∙ ap (λ (d : Step). d.mistake) given_is
-
-  pub give_good : b.mistake ≡ 0 → {m : ℕ} → m ≡ (put s b.bytes).mistake → m ≡ (done_by (gives k first) lines operand s).mistake
-  give_good h {m} f =
-      let none : (put s b.bytes).mistake ≡ first_of b.mistake (put s b.bytes).mistake = sym (ap (λ (n : ℕ). first_of n (put s b.bytes).mistake) h) in
-      f ∙ none ∙ ap (λ (d : Step). d.mistake) given_is
-
-  pub give_state : {t : State} → t ≡ (put s b.bytes).state → t ≡ (done_by (gives k first) lines operand s).state
-  give_state f = f ∙ ap (λ (d : Step). d.state) given_is
+  pub give_same : {l : List ℕ} → 0 ≡ c.mistake → l ≡ c.bytes → put s l ≡ done_by (gives k first) lines operand s
+  give_same e f = ap₂ (λ (m : ℕ) (l : List ℕ). record { mistake = first_of m (put s l).mistake; state = (put s l).state }) e f
 
 -- a line
 behind_there : (m : List ℕ) → is_there m ≡ true → behind_text m ≡ 1
@@ -124,22 +129,16 @@ module _ (lines : List Line) (s : State) (l : Line) where
   unfolding step
   step_more h = sym (ap (λ (k : ℕ). first_of k (first_of (labelled lines l.label s.at) stated.mistake)) (behind_there l.more h))
 
-  pub step_state : {t : State} → t ≡ stated.state → t ≡ (step lines s l).state
-  unfolding step
-  step_state f = f
-
-  module _ (h : is_there l.more ≡ false) {w : ℕ} (e : w ≡ labelled lines l.label s.at) where
-    step_by : first_of w stated.mistake ≡ (step lines s l).mistake
+  module _ (h : is_there l.more ≡ false) where
+    pub step_label : {w : ℕ} → w ≡ labelled lines l.label s.at → (w ≡ 0 → ⊥) → w ≡ (step lines s l).mistake
     unfolding step
-    step_by =
-        ap (λ (k : ℕ). first_of k stated.mistake) e
+    step_label {w} e n =
+        first_some w stated.mistake n ∙ ap (λ (k : ℕ). first_of k stated.mistake) e
         ∙ sym (ap (λ (k : ℕ). first_of k (first_of (labelled lines l.label s.at) stated.mistake)) (behind_none l.more h))
 
-    pub step_label : (w ≡ 0 → ⊥) → w ≡ (step lines s l).mistake
-    step_label n = first_some w stated.mistake n ∙ step_by
-
-    pub step_done : w ≡ 0 → {m : ℕ} → m ≡ stated.mistake → m ≡ (step lines s l).mistake
-    step_done z f = f ∙ sym (ap (λ (k : ℕ). first_of k stated.mistake) z) ∙ step_by
+    pub step_same : 0 ≡ labelled lines l.label s.at → stated ≡ step lines s l
+    unfolding step
+    step_same e = ap₂ (λ (m n : ℕ). record { mistake = first_of m (first_of n stated.mistake); state = stated.state }) (sym (behind_none l.more h)) e
 
 -- THE LINES, ONE AFTER THE OTHER
 

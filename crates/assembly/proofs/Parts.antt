@@ -1,15 +1,20 @@
 -- Parts of a text by the places that the code finds, and the parts of a line. Assumes nothing.
-use mathlib.Core.Path.{◌≡◌, ◌∙◌, refl, sym, ap}
-use mathlib.Core.Bool.{Bool, true, false, not}
-use mathlib.Core.List.{List, [], ◌∷◌, ◌++◌, append_assoc, append-nil}
+use mathlib.Core.Path.{◌≡◌, ◌∙◌, refl, sym, ap, ap₂}
+use mathlib.Core.Bool.{Bool, true, false, not, cond}
+use mathlib.Core.List.{List, [], ◌∷◌, ◌++◌, map}
 use Prim.Native.Nat.{ℕ, suc, ◌+◌, ◌-◌, ◌<◌, ◌≤◌}
-use native.Mathlib.Numerals.{add-one}
 use native.Mathlib.Omega.{arith}
-use lib.Dec.{eqb}
-use borrow.Author.Tests.{ne_eqb}
-use lib.ListN.{length, get_or, take, drop, set, drop_of_length-le, length-drop}
-use lib.Seq.{drop-cons, take-suc-set, drop-set-lt, take_all}
-use Rattle.assembly.specs.Grammar.{Line, upper, uppers, is_semicolon, is_colon, before, onwards, first_word, behind, line_by, split, parsed}
+use lib.Dec.{eqb, ltb}
+use borrow.Author.Tests.{ne_eqb, le-leb, lt-leb, ltb-true, ltb-false}
+use lib.ListN.{length, get_or, take, drop, drop_of_length-le, length-drop}
+use lib.Seq.{drop-cons, take_all}
+use Rattle.std.proofs.Common.{Option, Some, None}
+use Rattle.std.proofs.lemmas.Bool.{false≢true}
+use Rattle.std.proofs.lemmas.List.Recursion.{is_position_or_len}
+use Rattle.std.specs.Char.{to_ascii_uppercase}
+use Rattle.std.specs.List.{position_or_len}
+use Rattle.std.specs.Option.{unwrap_or, is_some}
+use Rattle.assembly.specs.Grammar.{upper, uppers, is_semicolon, is_colon, before, onwards, first_word, behind, line_by, split, parsed}
 use Rattle.assembly.specs.Places.{front_by, statement_by, front_of, statement_of, is_there, has_more}
 
 -- THE PLACE OF A LETTER
@@ -20,20 +25,6 @@ module _ (test : ℕ → Bool) where
 
   abbrev onwards_by : Bool → ℕ → List ℕ → List ℕ
   onwards_by b c t = elim b [ true ↦ c ∷ t | false ↦ onwards test t ]
-
-  by_letter : (l : List ℕ) (i : ℕ) {b : Bool} → i < length l → test (get_or l i 0) ≡ b → before test (drop i l) ≡ before_by b (get_or l i 0) (drop (suc i) l)
-  unfolding before
-  by_letter l i h e = ap (before test) (drop-cons l i 0 h) ∙ ap (λ (b : Bool). before_by b (get_or l i 0) (drop (suc i) l)) e
-
-  pub found_on : (l : List ℕ) (i : ℕ) → i < length l → test (get_or l i 0) ≡ false → i + 1 + length (before test (drop (i + 1) l)) ≡ i + length (before test (drop i l))
-  found_on l i h e = rw (by_letter l i h e, add-one i) (omega arith)
-
-  pub found_here : (l : List ℕ) (i : ℕ) → i < length l → test (get_or l i 0) ≡ true → i + length (before test (drop i l)) ≡ i
-  found_here l i h e = rw (by_letter l i h e) (omega arith)
-
-  pub found_end : (l : List ℕ) (i : ℕ) → length l ≤ i → i + length (before test (drop i l)) ≡ i
-  unfolding before
-  found_end l i h = rw (drop_of_length-le l h) (omega arith)
 
   pub before_most : (l : List ℕ) → length (before test l) ≤ length l
   unfolding before
@@ -62,6 +53,42 @@ module _ (test : ℕ → Bool) where
       go true e = refl
       go false e = e
 
+module _ (test : ℕ → Bool) where
+  at_first : (l : List ℕ) → position_or_len test l ≡ length (before test l)
+  unfolding before
+  at_first l = sym (is_position_or_len (λ (l : List ℕ). length (before test l)) test refl (λ c t. go (test c) c t) l)
+    where
+      go : (b : Bool) (c : ℕ) (t : List ℕ) → length (before_by test b c t) ≡ cond b 0 (1 + length (before test t))
+      go true c t = refl
+      go false c t = omega arith
+
+  -- what `position` gives
+  abbrev pub first_place : List ℕ → Option ℕ
+  first_place l = cond (ltb (position_or_len test l) (length l)) (Some (position_or_len test l)) None
+
+  pub found : (l : List ℕ) {r : Option ℕ} {n : ℕ} → r ≡ first_place l → n ≡ unwrap_or r (length l) → n ≡ length (before test l)
+  found l {n = n} e f = go (ltb (position_or_len test l) (length l)) refl (f ∙ ap (λ (o : Option ℕ). unwrap_or o (length l)) e)
+    where
+      go : (b : Bool) → ltb (position_or_len test l) (length l) ≡ b → n ≡ unwrap_or (cond b (Some (position_or_len test l)) None) (length l) → n ≡ length (before test l)
+      go true t g = g ∙ at_first l
+      go false t g = omega (arith, ltb-false (position_or_len test l) (length l) t, at_first l, before_most test l, g)
+
+  pub found_some : (l : List ℕ) {r : Option ℕ} {k : ℕ} → r ≡ first_place l → r ≡ Some k → (k ≡ length (before test l)) × (k < length l)
+  found_some l {k = k} e f = go (ltb (position_or_len test l) (length l)) refl (sym e ∙ f)
+    where
+      go : (b : Bool) → ltb (position_or_len test l) (length l) ≡ b → cond b (Some (position_or_len test l)) None ≡ Some k → (k ≡ length (before test l)) × (k < length l)
+      go true t g =
+          let same : position_or_len test l ≡ k = ap (λ (o : Option ℕ). unwrap_or o 0) g in
+          (sym same ∙ at_first l, omega (arith, same, ltb-true (position_or_len test l) (length l) t))
+      go false t g = absurd (false≢true (ap is_some g))
+
+  pub found_none : (l : List ℕ) {r : Option ℕ} → r ≡ first_place l → r ≡ None → length l ≤ length (before test l)
+  found_none l e f = go (ltb (position_or_len test l) (length l)) refl (sym e ∙ f)
+    where
+      go : (b : Bool) → ltb (position_or_len test l) (length l) ≡ b → cond b (Some (position_or_len test l)) None ≡ None → length l ≤ length (before test l)
+      go true t g = absurd (false≢true (sym (ap is_some g)))
+      go false t g = omega (arith, ltb-false (position_or_len test l) (length l) t, at_first l)
+
 pub take_rest : (n : ℕ) (l : List ℕ) → take (length l - n) (drop n l) ≡ drop n l
 take_rest n l = take_all (length l - n) (drop n l) (omega (arith, length-drop n l))
 
@@ -74,7 +101,7 @@ colon_there s h = sym (drop-before is_colon s) ∙ drop-cons s (length (before i
 colon_none : (s : List ℕ) → length s ≤ length (before is_colon s) → onwards is_colon s ≡ []
 colon_none s h = sym (drop-before is_colon s) ∙ drop_of_length-le s h
 
-module _ (line : List ℕ) {s : List ℕ} (e : s ≡ before is_semicolon line) {colon : ℕ} (f : colon ≡ length (before is_colon s)) where
+module _ (line : List ℕ) {s : List ℕ} (e : s ≡ before is_semicolon line) where
   front_by_lem : front_by s (onwards is_colon s) ≡ front_of line
   unfolding front_of
   front_by_lem = ap (λ (t : List ℕ). front_by t (onwards is_colon t)) e
@@ -83,23 +110,23 @@ module _ (line : List ℕ) {s : List ℕ} (e : s ≡ before is_semicolon line) {
   unfolding statement_of
   statement_by_lem = ap (λ (t : List ℕ). statement_by t (onwards is_colon t)) e
 
-  pub front_there : colon < length s → take colon s ≡ front_of line
-  front_there h =
+  pub front_there : {colon : ℕ} → colon ≡ length (before is_colon s) → colon < length s → take colon s ≡ front_of line
+  front_there {colon} f h =
       let at : take colon s ≡ before is_colon s = ap (λ (k : ℕ). take k s) f ∙ take-before is_colon s in
       let by : before is_colon s ≡ front_by s (onwards is_colon s) = sym (ap (front_by s) (colon_there s (omega (arith, f)))) in
       at ∙ by ∙ front_by_lem
 
-  pub front_none : length s ≤ colon → [] ≡ front_of line
-  front_none h = sym (ap (front_by s) (colon_none s (omega (arith, f)))) ∙ front_by_lem
+  pub front_none : length s ≤ length (before is_colon s) → [] ≡ front_of line
+  front_none h = sym (ap (front_by s) (colon_none s h)) ∙ front_by_lem
 
-  pub statement_there : colon < length s → drop (colon + 1) s ≡ statement_of line
-  statement_there h =
+  pub statement_there : {colon : ℕ} → colon ≡ length (before is_colon s) → colon < length s → drop (colon + 1) s ≡ statement_of line
+  statement_there {colon} f h =
       let place : colon + 1 ≡ suc (length (before is_colon s)) = omega (arith, f) in
       let at : drop (colon + 1) s ≡ drop (suc (length (before is_colon s))) s = ap (λ (k : ℕ). drop k s) place in
       at ∙ sym (ap (statement_by s) (colon_there s (omega (arith, f)))) ∙ statement_by_lem
 
-  pub statement_none : length s ≤ colon → s ≡ statement_of line
-  statement_none h = sym (ap (statement_by s) (colon_none s (omega (arith, f)))) ∙ statement_by_lem
+  pub statement_none : length s ≤ length (before is_colon s) → s ≡ statement_of line
+  statement_none h = sym (ap (statement_by s) (colon_none s h)) ∙ statement_by_lem
 
 pub parsed_by : (line : List ℕ) → parsed line ≡ line_by (front_of line) (statement_of line)
 unfolding parsed front_of statement_of
@@ -136,20 +163,15 @@ module _ (line : List ℕ) {w : List ℕ} (e : w ≡ first_word (behind (front_o
 
 -- CAPITAL LETTERS
 
-pub upper_on : (text whole : List ℕ) (i : ℕ) → i < length text → take i text ++ uppers (drop i text) ≡ whole
-    → take (i + 1) (set text i (upper (get_or text i 0))) ++ uppers (drop (i + 1) (set text i (upper (get_or text i 0)))) ≡ whole
-unfolding uppers
-upper_on text whole i h e =
-    let u = upper (get_or text i 0) in
-    let rest : uppers (drop i text) ≡ u ∷ uppers (drop (suc i) text) = ap uppers (drop-cons text i 0 h) in
-    let front : take (suc i) (set text i u) ≡ take i text ++ (u ∷ []) = take-suc-set text i u h in
-    let back : drop (suc i) (set text i u) ≡ drop (suc i) text = drop-set-lt (suc i) text i u (omega arith) in
-    let joined : take (suc i) (set text i u) ++ uppers (drop (suc i) (set text i u)) ≡ (take i text ++ (u ∷ [])) ++ uppers (drop (suc i) text) = rw (front, back) in
-    let told : take i text ++ u ∷ uppers (drop (suc i) text) ≡ whole = ap (λ (l : List ℕ). take i text ++ l) (sym rest) ∙ e in
-    rw (add-one i) (joined ∙ append_assoc (take i text) (u ∷ []) (uppers (drop (suc i) text)) ∙ told)
+pub upper_by : (c : ℕ) → to_ascii_uppercase c ≡ upper c
+upper_by c = go (ltb c 97) refl (ltb c 123) refl
+  where
+    go : (a : Bool) → ltb c 97 ≡ a → (z : Bool) → ltb c 123 ≡ z → cond a c (cond z (c - 32) c) ≡ upper c
+    go true e z f = rw (lt-leb 97 c (ltb-true c 97 e)) refl
+    go false e true f = rw (le-leb 97 c (ltb-false c 97 e), le-leb c 122 (omega (arith, ltb-true c 123 f))) refl
+    go false e false f = rw (le-leb 97 c (ltb-false c 97 e), lt-leb c 122 (omega (arith, ltb-false c 123 f))) refl
 
-pub upper_end : (text whole : List ℕ) (i : ℕ) → length text ≤ i → take i text ++ uppers (drop i text) ≡ whole → text ≡ whole
+pub uppers_by : (text : List ℕ) → map to_ascii_uppercase text ≡ uppers text
 unfolding uppers
-upper_end text whole i h e =
-    let none : take i text ++ uppers (drop i text) ≡ text ++ [] = rw (take_all i text h, drop_of_length-le text h) in
-    sym (none ∙ append-nil text) ∙ e
+uppers_by [] = refl
+uppers_by (c ∷ t) = ap₂ (λ (u : ℕ) (l : List ℕ). u ∷ l) (upper_by c) (uppers_by t)

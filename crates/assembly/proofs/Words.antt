@@ -1,19 +1,19 @@
 -- Numbers read digit by digit, words compared letter by letter, and the first code that has a word. Assumes nothing.
 use mathlib.Core.Path.{◌≡◌, ◌∙◌, refl, sym, ap}
-use mathlib.Core.Bool.{Bool, true, false, ◌&&◌}
+use mathlib.Core.Bool.{Bool, true, false, cond, ◌&&◌}
 use mathlib.Core.List.{List, [], ◌∷◌, ◌++◌}
-use Prim.Native.Nat.{ℕ, zero, suc, ◌+◌, ◌-◌, ◌<◌, ◌≤◌}
-use native.Mathlib.Nat.{not-suc-le-zero, le_of_suc-le-suc}
+use Prim.Native.Nat.{ℕ, suc, ◌+◌, ◌-◌, ◌<◌, ◌≤◌}
 use native.Mathlib.Numerals.{add-one}
 use native.Mathlib.Omega.{arith}
-use lib.Dec.{eqb, ltb}
+use lib.Dec.{eqb, leb, ltb}
 use lib.ListN.{length, get_or, take, drop, drop_of_length-le}
 use lib.Seq.{drop-cons}
-use borrow.Author.Tests.{lt-ltb, le-ltb, eq-eqb, ne_eqb}
+use borrow.Author.Tests.{lt-ltb, le-ltb, le-leb}
+use lib.Pointwise.{pointwise}
 use Rattle.upd546.specs.Sequences.{same_numbers}
 use Rattle.mnemonics.specs.Texts.{ascii}
-use Rattle.mnemonics.specs.Mnemonics.{no_instruction, entry_of, word_of, kind_of}
-use Rattle.assembly.specs.Assembling.{Value, Action, good, wrong, no_number, digit_of, grown, number_from, limited, number_up_to, nothing, sets_length, sets_address, gives, unknown, code_from, code_for, action_for}
+use Rattle.mnemonics.specs.Mnemonics.{no_instruction, word_of, kind_of}
+use Rattle.assembly.specs.Assembling.{Action, good, wrong, no_number, digit_of, grown, number_from, limited, number_up_to, nothing, sets_length, sets_address, gives, unknown, code_from, code_for, action_for}
 
 -- NUMBERS
 
@@ -53,71 +53,24 @@ operand_none limit (c ∷ t) h = absurd (some (length t) h)
     some : (n : ℕ) → suc n ≡ 0 → ⊥
     some n e = omega (arith, e)
 
+-- an operand that is no number
+pub operand_wrong : (limit n : ℕ) (l : List ℕ) → (length l ≡ 0 → ⊥) → wrong n ≡ number_from 0 l → wrong n ≡ number_up_to limit l
+operand_wrong limit n l h e =
+    let least : leb 0 limit ≡ true = le-leb 0 limit (omega arith) in
+    sym (ap (λ (t : Bool). cond t (wrong n) (wrong 6)) least) ∙ ap (limited limit) e ∙ operand_there limit l h
+
 -- WORDS
 
-pub same_lengths : (a b : List ℕ) → (length a ≡ length b → ⊥) → false ≡ same_numbers a b
-same_lengths [] [] h = absurd (h refl)
-same_lengths [] (y ∷ ys) h = refl
-same_lengths (x ∷ xs) [] h = refl
-same_lengths (x ∷ xs) (y ∷ ys) h = go (eqb x y) (same_lengths xs ys (λ e. h (ap suc e)))
-  where
-    go : (t : Bool) → false ≡ same_numbers xs ys → false ≡ (t && same_numbers xs ys)
-    go true e = e
-    go false e = refl
+-- what `==` says of two lists of numbers
+pub same_is : (a b : List ℕ) → pointwise eqb a b ≡ same_numbers a b
+same_is [] [] = refl
+same_is [] (y ∷ ys) = refl
+same_is (x ∷ xs) [] = refl
+same_is (x ∷ xs) (y ∷ ys) = ap (λ (t : Bool). eqb x y && t) (same_is xs ys)
 
-module _ (a b : List ℕ) (i : ℕ) (h : i < length a) (k : i < length b) where
-  one_letter : same_numbers (drop i a) (drop i b) ≡ (eqb (get_or a i 0) (get_or b i 0) && same_numbers (drop (suc i) a) (drop (suc i) b))
-  one_letter =
-      ap (λ (l : List ℕ). same_numbers l (drop i b)) (drop-cons a i 0 h)
-      ∙ ap (same_numbers (get_or a i 0 ∷ drop (suc i) a)) (drop-cons b i 0 k)
-
-  pub same_on : get_or a i 0 ≡ get_or b i 0 → same_numbers (drop (i + 1) a) (drop (i + 1) b) ≡ same_numbers (drop i a) (drop i b)
-  same_on e =
-      let by : (eqb (get_or a i 0) (get_or b i 0) && same_numbers (drop (suc i) a) (drop (suc i) b)) ≡ same_numbers (drop (suc i) a) (drop (suc i) b)
-      = ap (λ (t : Bool). t && same_numbers (drop (suc i) a) (drop (suc i) b)) (eq-eqb (get_or a i 0) (get_or b i 0) e) in
-      rw (add-one i) (sym (one_letter ∙ by))
-
-  pub same_other : (get_or a i 0 ≡ get_or b i 0 → ⊥) → false ≡ same_numbers (drop i a) (drop i b)
-  same_other n = sym (one_letter ∙ ap (λ (t : Bool). t && same_numbers (drop (suc i) a) (drop (suc i) b)) (ne_eqb (get_or a i 0) (get_or b i 0) n))
-
-pub same_end : (a b : List ℕ) (i : ℕ) → length a ≤ i → length b ≤ i → true ≡ same_numbers (drop i a) (drop i b)
-same_end a b i h k = sym (ap (λ (l : List ℕ). same_numbers l (drop i b)) (drop_of_length-le a h) ∙ ap (same_numbers []) (drop_of_length-le b k))
-
-pub any_default : (l : List ℕ) (i d e : ℕ) → i < length l → get_or l i d ≡ get_or l i e
-any_default [] i d e h = absurd (not-suc-le-zero h)
-any_default (x ∷ xs) zero d e h = refl
-any_default (x ∷ xs) (suc i) d e h = any_default xs i d e (le_of_suc-le-suc h)
-
-pub three_letters : (w : List ℕ) → get_or w 0 32 ∷ get_or w 1 32 ∷ get_or w 2 32 ∷ [] ≡ take 3 (w ++ ascii "   ")
-three_letters [] = refl
-three_letters (a ∷ []) = refl
-three_letters (a ∷ b ∷ []) = refl
-three_letters (a ∷ b ∷ c ∷ t) = refl
-
--- two words of three letters
-front_three : (l : List ℕ) → 3 ≤ length l → l ≡ get_or l 0 0 ∷ get_or l 1 0 ∷ get_or l 2 0 ∷ drop 3 l
-front_three l h =
-    drop-cons l 0 0 (omega arith)
-    ∙ ap (λ (t : List ℕ). get_or l 0 0 ∷ t) (drop-cons l 1 0 (omega arith))
-    ∙ ap (λ (t : List ℕ). get_or l 0 0 ∷ get_or l 1 0 ∷ t) (drop-cons l 2 0 (omega arith))
-
-pub word_there : (e w : List ℕ) → length e ≡ 4 → length w ≡ 3
-    → ((eqb (get_or e 0 0) (get_or w 0 0) && eqb (get_or e 1 0) (get_or w 1 0)) && eqb (get_or e 2 0) (get_or w 2 0)) ≡ same_numbers (take 3 e) w
-word_there e w h k =
-    let first : take 3 e ≡ get_or e 0 0 ∷ get_or e 1 0 ∷ get_or e 2 0 ∷ [] = ap (take 3) (front_three e (omega (arith, h))) in
-    let most : length w ≤ 3 = omega (arith, k) in
-    let end : drop 3 w ≡ [] = drop_of_length-le w most in
-    let whole : w ≡ get_or w 0 0 ∷ get_or w 1 0 ∷ get_or w 2 0 ∷ []
-    = front_three w (omega (arith, k)) ∙ ap (λ (t : List ℕ). get_or w 0 0 ∷ get_or w 1 0 ∷ get_or w 2 0 ∷ t) end in
-    let by : same_numbers (get_or e 0 0 ∷ get_or e 1 0 ∷ get_or e 2 0 ∷ []) (get_or w 0 0 ∷ get_or w 1 0 ∷ get_or w 2 0 ∷ []) ≡ same_numbers (take 3 e) w
-    = sym (ap (λ (l : List ℕ). same_numbers l w) first ∙ ap (same_numbers (get_or e 0 0 ∷ get_or e 1 0 ∷ get_or e 2 0 ∷ [])) whole) in
-    joined (eqb (get_or e 0 0) (get_or w 0 0)) (eqb (get_or e 1 0) (get_or w 1 0)) (eqb (get_or e 2 0) (get_or w 2 0)) ∙ by
-  where
-    joined : (p q r : Bool) → ((p && q) && r) ≡ (p && (q && (r && true)))
-    joined true true true = refl
-    joined true true false = refl
-    joined true false r = refl
-    joined false q r = refl
+-- a word that is compared with a text
+pub text_told : (w : List ℕ) {s r : List ℕ} {t : Bool} → t ≡ pointwise eqb w s → s ≡ r → same_numbers w r ≡ t
+text_told w {s} p q = ap (same_numbers w) (sym q) ∙ sym (p ∙ same_is w s)
 
 -- CODES
 
@@ -145,9 +98,9 @@ pub code_end : (w : List ℕ) (code : ℕ) → 256 ≤ code → unknown ≡ code
 unfolding code_from
 code_end w code h = let none : 256 - code ≡ 0 = omega arith in sym (ap (code_from w code) none)
 
--- the entry of a code has a word
-pub code_told : (code : ℕ) {e s w : List ℕ} {t : Bool} → e ≡ entry_of code → s ≡ w → t ≡ same_numbers (take 3 e) s → same_numbers (word_of code) w ≡ t
-code_told code {e} {s} {w} {t} p q r = ap (λ (l : List ℕ). same_numbers (take 3 l) w) (sym p) ∙ ap (same_numbers (take 3 e)) (sym q) ∙ sym r
+-- the word of a code is the one that is sought
+pub code_told : (code : ℕ) {e s w : List ℕ} {t : Bool} → e ≡ word_of code → s ≡ w → t ≡ pointwise eqb e s → same_numbers (word_of code) w ≡ t
+code_told code {e} {s} {w} p q r = ap (λ (l : List ℕ). same_numbers l w) (sym p) ∙ ap (same_numbers e) (sym q) ∙ sym (r ∙ same_is e s)
 
 pub word_long : (w : List ℕ) → 3 < length w → unknown ≡ code_for w
 unfolding code_for

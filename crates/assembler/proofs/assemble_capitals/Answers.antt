@@ -1,8 +1,9 @@
--- A mistake, and the bytes. Assumes nothing.
+-- The bytes stand at the front. Assumes nothing.
+use borrow.Author.Rules.{rules}
 use Rattle.assembler.proofs.Filling.{some_bytes}
 use Rattle.assembler.proofs.assemble_capitals.Goals as goal
 
 pub returns : goal.returns
 returns c =
-    let a = c.args in
-    some_bytes _ a.rom.now c.take_lines-found.result _ c.take_lines-found.ensures c.if-found-ne0.false c.cells-2-1.given c.requires.1 _ c.at_most-size.ensures _ c.fill.ensures
+    some_bytes _ c.args.rom.now c.in_ok-take_lines.field-0 c.take_lines.new.cells c.in_ok-take_lines.ensures (search rules) c.requires _
+    c.min-size.ensures _ c.fill.ensures

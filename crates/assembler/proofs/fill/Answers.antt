@@ -24,8 +24,4 @@ one_more rom₀ cells size i rom a b e h =
 pub loop-i-preserved : goal.loop-i-preserved
 loop-i-preserved c =
     let l = c.loop-i in
-    let less = c.loop-i-test.true in (
-      ap (λ (v : ℕ). set l.rom l.i (v % 256)) c.cell.ensures
-          ∙ one_more c.args.rom.now c.args.cells.now c.args.size l.i l.rom c.requires.0 c.requires.1 l.invariant.0 less,
-      omega arith,
-    )
+    one_more c.args.rom.now c.args.cells.now c.args.size l.i l.rom c.requires.0 c.requires.1 l.invariant c.loop-i-test.true

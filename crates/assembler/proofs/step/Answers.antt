@@ -1,28 +1,36 @@
 -- Text behind, the label, and then the statement. Assumes nothing.
-use mathlib.Core.Path.{◌∙◌, sym, ap}
+use mathlib.Core.Path.{◌∙◌, sym, ap, ap₂, subst}
 use mathlib.Core.List.{List}
 use Prim.Native.Nat.{ℕ}
-use native.Mathlib.Omega.{arith}
+use Rattle.std.proofs.lemmas.Result.{err_from_is_err_and}
 use Rattle.assembly.specs.Grammar.{parsed}
-use Rattle.assembly.specs.Assembling.{labelled}
-use Rattle.assembler.specs.Answers.{lines_found, state_of}
-use Rattle.assembler.proofs.Puts.{wrong_step, step_more, step_label, step_done, step_state}
+use Rattle.assembly.specs.Assembling.{Step, labelled, action_for, done_by}
+use Rattle.assembler.specs.Answers.{lines_found, state_of, StepIs}
+use Rattle.assembler.proofs.Numbers.{number_some}
+use Rattle.assembler.proofs.Puts.{step_more, step_label, step_same}
 use Rattle.assembler.proofs.step.Goals as goal
 
-pub returns-then-has_more : goal.returns-then-has_more
-returns-then-has_more c =
+pub returns-then-line : goal.returns-then-line
+returns-then-line c =
     let a = c.args in
-    (step_more (lines_found a.text.now) (state_of a.place a.cells.now) (parsed a.line.now) (sym c.has_more.ensures ∙ c.if-has_more.true), wrong_step 1 (omega arith))
+    step_more (lines_found a.text.now) (state_of a.place a.cells.now) (parsed a.part.now) (sym c.parse-line.ensures.more ∙ c.if-line.true)
 
-pub returns-then-wrong-ne0 : goal.returns-then-wrong-ne0
-returns-then-wrong-ne0 c =
+pub returns-in_err-labelled : goal.returns-in_err-labelled
+returns-in_err-labelled c =
     let a = c.args in
-    (step_label (lines_found a.text.now) (state_of a.place a.cells.now) (parsed a.line.now) (sym c.has_more.ensures ∙ c.if-has_more.false) (c.labelled-wrong.ensures ∙ ap (λ (n : List ℕ). labelled (lines_found a.text.now) n a.place.at) c.label.ensures) c.if-wrong-ne0.true, λ e. absurd (c.if-wrong-ne0.true e))
+    let lines = lines_found a.text.now in
+    let p = err_from_is_err_and c.from_residual.result c.from_residual.ensures.1 in
+    let m = c.in_err-labelled.field-0.0 in
+    let wrong = c.in_err-labelled.ensures ∙ ap (λ (l : List ℕ). labelled lines l a.place.at) c.parse-line.ensures.label in
+    rw (p.1, p.2)
+    (step_label lines (state_of a.place a.cells.now) (parsed a.part.now) (sym c.parse-line.ensures.more ∙ c.if-line.false) wrong (number_some m))
 
 pub returns : goal.returns
 returns c =
     let a = c.args in
-    let d = c.done.ensures in (
-      step_done (lines_found a.text.now) (state_of a.place a.cells.now) (parsed a.line.now) (sym c.has_more.ensures ∙ c.if-has_more.false) (c.labelled-wrong.ensures ∙ ap (λ (n : List ℕ). labelled (lines_found a.text.now) n a.place.at) c.label.ensures) c.if-wrong-ne0.false d.0,
-      λ e. step_state (lines_found a.text.now) (state_of a.place a.cells.now) (parsed a.line.now) (d.1 e),
-    )
+    let lines = lines_found a.text.now in
+    let s = state_of a.place a.cells.now in
+    let right = c.in_ok-labelled.ensures ∙ ap (λ (l : List ℕ). labelled lines l a.place.at) c.parse-line.ensures.label in
+    let same = ap₂ (λ (w o : List ℕ). done_by (action_for w) lines o s) c.parse-line.ensures.word c.parse-line.ensures.operand in
+    subst (λ (d : Step). StepIs c.done.result c.done.new.cells d)
+    (same ∙ step_same lines s (parsed a.part.now) (sym c.parse-line.ensures.more ∙ c.if-line.false) right) c.done.ensures

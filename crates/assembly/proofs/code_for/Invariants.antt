@@ -1,6 +1,6 @@
--- The codes passed have another word.  Assumes nothing.
+-- The codes passed have another word. Assumes nothing.
 use mathlib.Core.Path.{◌≡◌}
-use Prim.Native.Nat.{◌-◌, ◌≤◌}
+use Prim.Native.Nat.{◌-◌}
 use mathlib.Core.List.{◌++◌}
 use lib.ListN.{take}
 use Rattle.mnemonics.specs.Texts.{ascii}
@@ -8,8 +8,4 @@ use Rattle.assembly.specs.Assembling.{code_from}
 use Rattle.assembly.proofs.code_for.Given as goal
 
 abbrev pub invariant-loop-code : goal.invariant-loop-code
-invariant-loop-code l =
-    (l.code ≤ 256) × (code_from (take 3 (l.word ++ ascii "   ")) l.code (256 - l.code) ≡ code_from (take 3 (l.word ++ ascii "   ")) 0 256)
-
-abbrev pub decreases-loop-code : goal.decreases-loop-code
-decreases-loop-code l = 256 - l.code
+invariant-loop-code l = code_from (take 3 (l.word ++ ascii "   ")) l.code (256 - l.code) ≡ code_from (take 3 (l.word ++ ascii "   ")) 0 256
