@@ -5,45 +5,45 @@
 ghost use Rattle.std.specs.Prelude.{◌≡◌, ◌<◌};
 ghost use Rattle.tables.specs.Tables.{instruction_table, position_table};
 
-use streams::Output;
+use std::io::{Write, writer};
+use streams::{Cut, Failure, Output};
 use tables::{InstructionTable, PositionTable};
 
 fn main(rt: HostRuntime) {
+    let mut out = Output::new(writer(&rt));
+    let done = chart(&mut out);
+    streams::end(&rt, b"chart", out, done);
+}
+
+fn chart(out: &mut Output<impl Write>) -> Result<(), Failure> {
     let instructions = tables::instruction_table();
     let positions = tables::position_table();
-    let mut out = streams::write(&rt, Output::Whole(0), b"bytes/cycles of code 00, 01, ..\n");
-    let mut high: u8 = 0;
-    while high < 16 {
-        out = codes(&rt, &instructions, high, out);
-        high += 1;
+    out.write(b"bytes/cycles of code 00, 01, ..\n")?;
+    for high in 0..16 {
+        codes(out, &instructions, high)?;
     }
-    out = streams::write(&rt, out, b"positions of register 1, 2, ..\n");
-    let mut register: u8 = 1;
-    while register < 64 {
-        out = place(&rt, &positions, register, out);
-        register += 1;
+    out.write(b"positions of register 1, 2, ..\n")?;
+    for register in 1..64 {
+        place(out, &positions, register)?;
     }
-    out = streams::write(&rt, out, b"\n");
-    streams::end_whole(&rt, b"chart", out);
+    out.write(b"\n")?;
+    Ok(())
 }
 
 // The line of the 16 codes with this high half.
-fn codes(rt: &impl Print, table: &InstructionTable, high: u8, before: Output) -> Output
+fn codes(out: &mut Output<impl Write>, table: &InstructionTable, high: u8) -> Result<(), Cut>
     requires { (table.now ≡ instruction_table) × (high < 16) }
 {
-    let mut out = before;
-    let mut low: u8 = 0;
-    while low < 16 {
+    for low in 0..16 {
         let size = tables::size_of(table, 16 * high + low);
-        out = streams::write_number(rt, out, size.bytes as u64, b'/');
-        out = streams::write_number(rt, out, size.cycles as u64, b' ');
-        low += 1;
+        out.write_number(size.bytes.into(), b'/')?;
+        out.write_number(size.cycles.into(), b' ')?;
     }
-    streams::write(rt, out, b"\n")
+    out.write(b"\n")
 }
 
-fn place(rt: &impl Print, table: &PositionTable, register: u8, before: Output) -> Output
+fn place(out: &mut Output<impl Write>, table: &PositionTable, register: u8) -> Result<(), Cut>
     requires { (table.now ≡ position_table) × (0 < register) × (register < 64) }
 {
-    streams::write_number(rt, before, tables::position(table, register) as u64, b' ')
+    out.write_number(tables::position(table, register).into(), b' ')
 }

@@ -3,16 +3,17 @@
 // how the page is laid out.
 #![tactic(auto)]
 
-use bar_rows::{NUMBERS, Row};
-use bars::Drawn;
-use day_page::Day;
+use bar_rows::Row;
+use bars::Bar;
+use day_page::Rows;
 use log_form::{LOG_RECORD, PORT_RESET};
 use runs::MachineCycles;
+use seconds::{CLOCK_LEAST, CLOCK_MOST, Clock, NEC_CLOCK};
 use std::env::FillError;
-use std::io::{Error, ErrorKind};
+use std::io::{Error, ErrorKind, Write, writer};
 use std::rt::{Env, Runtime};
-use streams::{Input, Output};
-use waiting::{Landing, Reading};
+use streams::{Failure, Output};
+use waiting::{LANDINGS, Reading};
 
 // So many parts are 2^62 bytes, more than any input has.
 const PARTS: u64 = 0x4000_0000_0000;
@@ -20,161 +21,104 @@ const PARTS: u64 = 0x4000_0000_0000;
 // The place of the port in a record.
 const PORT_AT: usize = 6;
 
-// The row of the resets.
-const RESETS: usize = 4;
+// What is told if the second argument is none.
+const EXPECTED: &str = "day: a clock is given in hertz, 1000 to 100000000\n";
 
 // What was read so far, and the rows of its bars.
 #[derive(Clone, Copy)]
 struct Going {
     reading: Reading,
-    rows: [Row; 5],
+    rows: Rows,
 }
 
 fn main(rt: HostRuntime) {
-    let clock = given_clock(&rt);
-    if clock == 0 {
-        streams::end_mistake(&rt, b"day: a clock is given in hertz, 1000 to 100000000\n");
-        return;
-    }
-    let mut numbers = [0u64; NUMBERS];
+    let mut out = Output::new(writer(&rt));
+    let done = run(&rt, &mut out);
+    streams::end(&rt, b"day", out, done);
+}
+
+fn run(rt: &impl Runtime, out: &mut Output<impl Write>) -> Result<(), Failure> {
+    let clock = given_clock(rt).ok_or(Failure::Mistake(EXPECTED))?;
     let mut from = rt.reader();
     let mut part = io::large_buffer();
-    let mut going = begun();
-    let mut k = 0;
-    while k < PARTS {
-        let read = streams::fill(&mut from, &mut part);
-        if let Input::Unread(e) = read {
-            streams::end_unread(&rt, b"day", e);
-            return;
+    let mut going = Going::new();
+    for _ in 0..PARTS {
+        let got = streams::fill(&mut from, &mut part).map_err(Failure::Unread)?;
+        going.read(&part[..got]);
+        if got < part.len() {
+            return tell(out, &going, clock);
         }
-        if let Input::Ended(got) = read {
-            let all = records(going, &part[..got], &mut numbers);
-            tell(&rt, all, &numbers, clock);
-            return;
+    }
+    Err(Failure::Unread(Error::from(ErrorKind::FileTooLarge)))
+}
+
+impl Going {
+    fn new() -> Going {
+        Going {
+            reading: waits_text::no_parts(),
+            rows: Rows {
+                landings: [Row::empty(); LANDINGS],
+                resets: Row::empty(),
+            },
         }
-        going = records(going, &part, &mut numbers);
-        k += 1;
     }
-    streams::end_unread(&rt, b"day", Error::from(ErrorKind::FileTooLarge));
-}
 
-fn begun() -> Going {
-    let row = bar_rows::empty_row();
-    Going {
-        reading: waits_text::no_parts(),
-        rows: [row, row, row, row, row],
+    // The records of a part, each a part of its own for the report; and what is left after the last of them.
+    fn read(&mut self, part: &[u8]) {
+        let (records, rest) = part.as_chunks::<LOG_RECORD>();
+        for record in records {
+            self.read_record(record);
+        }
+        self.reading = waits_text::part_read(self.reading, rest);
     }
-}
 
-// The records of a part, each a part of its own for the report; and what is left behind the last of them.
-fn records(before: Going, part: &[u8], numbers: &mut [u64; NUMBERS]) -> Going {
-    let mut going = before;
-    let count = part.len() / LOG_RECORD;
-    let mut k = 0;
-    while k < count {
-        let at = LOG_RECORD * k;
-        let port = part[at + PORT_AT];
-        going = one(going, &part[at..at + LOG_RECORD], port, numbers);
-        k += 1;
-    }
-    let from = LOG_RECORD * count;
-    let reading = going.reading;
-    let rows = going.rows;
-    Going {
-        reading: waits_text::part_read(reading, &part[from..]),
-        rows: rows,
+    // One record: the bars of the waits that it closed, and of its reset. The landings go by number: three arrays have each, and two of `zip`
+    // in a row are no plainer.
+    fn read_record(&mut self, record: &[u8; LOG_RECORD]) {
+        let was = self.reading;
+        let is = waits_text::part_read(was, record);
+        for i in 0..LANDINGS {
+            if let Some(bar) = bars::closed_bar(was.carried.landings[i], is.carried.landings[i]) {
+                self.rows.landings[i].put(bar);
+            }
+        }
+        if record[PORT_AT] == PORT_RESET {
+            self.rows.resets.put(Bar {
+                start: is.carried.last,
+                length: MachineCycles(0),
+            });
+        }
+        self.reading = is;
     }
 }
 
-// One record, with its port: the bars of the waits that it closed.
-fn one(before: Going, bytes: &[u8], port: u8, numbers: &mut [u64; NUMBERS]) -> Going {
-    let was = before.reading;
-    let is = waits_text::part_read(was, bytes);
-    let a = was.carried.landings;
-    let b = is.carried.landings;
-    let r = before.rows;
-    let at = is.carried.last;
-    Going {
-        reading: is,
-        rows: [
-            drawn(numbers, 0, r[0], a[0], b[0]),
-            drawn(numbers, 1, r[1], a[1], b[1]),
-            drawn(numbers, 2, r[2], a[2], b[2]),
-            drawn(numbers, 3, r[3], a[3], b[3]),
-            reset(numbers, r[RESETS], port, at),
-        ],
-    }
-}
-
-fn drawn(numbers: &mut [u64; NUMBERS], i: usize, row: Row, was: Landing, is: Landing) -> Row {
-    let closed = bars::closed_bar(was, is);
-    let Drawn::Wait(bar) = closed else {
-        return row;
-    };
-    bar_rows::put(numbers, i, row, bar)
-}
-
-fn reset(numbers: &mut [u64; NUMBERS], row: Row, port: u8, at: MachineCycles) -> Row {
-    if port != PORT_RESET {
-        return row;
-    }
-    bar_rows::put(
-        numbers,
-        RESETS,
-        row,
-        bars::Bar {
-            start: at,
-            length: MachineCycles(0),
-        },
-    )
-}
-
-// The clock that is given as the second argument, in hertz; NEC's where none is given, and 0 where it is no clock.
-fn given_clock(rt: &impl Env) -> u64 {
+// The clock that is given as the second argument, in hertz and by digits alone; NEC's if none is given.
+fn given_clock(rt: &impl Env) -> Option<Clock> {
     let mut word = [0u8; 16];
     let length = match rt.arg(2, &mut word) {
         Ok(length) => length,
-        Err(FillError::NotPresent) => return seconds::NEC_CLOCK,
-        Err(FillError::TooLong) => return 0,
+        Err(FillError::NotPresent) => return Some(NEC_CLOCK),
+        Err(FillError::TooLong) => return None,
     };
-    let mut clock = 0;
-    let mut k = 0;
-    while k < length {
-        let digit = word[k % 16];
-        if (digit < b'0') | (b'9' < digit) {
-            return 0;
-        }
-        clock = seconds::plus(seconds::times(clock, 10), (digit % 16) as u64);
-        k += 1;
+    let digits = &word[..length];
+    if !digits.iter().all(|digit| digit.is_ascii_digit()) {
+        return None;
     }
-    if (clock < seconds::CLOCK_LEAST) | (seconds::CLOCK_MOST < clock) {
-        return 0;
+    let hertz = str::from_utf8(digits).ok()?.parse::<u64>().ok()?;
+    if CLOCK_LEAST <= hertz && hertz <= CLOCK_MOST {
+        Some(Clock(hertz))
+    } else {
+        None
     }
-    clock
 }
 
 // A refused log's page ends with the program's line of the refusal.
-fn tell(rt: &impl Runtime, going: Going, numbers: &[u64; NUMBERS], clock: u64) {
+fn tell(out: &mut Output<impl Write>, going: &Going, clock: Clock) -> Result<(), Failure> {
     let number = going.reading.number;
-    let carried = going.reading.carried;
-    let rows = going.rows;
     if number == 0 {
-        let day = Day {
-            carried: carried,
-            rows: rows,
-            clock: clock,
-        };
-        streams::end_whole(
-            rt,
-            b"day",
-            day_page::page(rt, Output::Whole(0), day, numbers),
-        );
-        return;
+        day_page::page(out, going.reading.carried, &going.rows, clock)?;
+        return Ok(());
     }
-    streams::end_refused_behind(
-        rt,
-        b"day",
-        day_page::no_answer(rt, Output::Whole(0), number),
-        number,
-    );
+    day_page::no_answer(out, number)?;
+    Err(Failure::Refused(number))
 }

@@ -2,60 +2,46 @@
 // its number. The input is that of `storing` without an image. It may not know how a store is judged, nor what an entry is.
 #![tactic(auto)]
 
-use runs::Outcome;
+use std::io::{Write, writer};
 use std::rt::Runtime;
 use store::NAME_LENGTH;
-use streams::{Input, Output};
+use streams::{Failure, Output};
 
-// The input: the name, the store's length in so many bytes, the store.
+// The bytes of the store's length.
 const COUNT_LENGTH: usize = 4;
 
-const STORE_AT: usize = NAME_LENGTH + COUNT_LENGTH;
-
 // The longest store that is taken: 700 entries, as `storing` takes them. It doesn't fill the buffer.
-const MOST_BYTES: u64 = 63000;
+const MOST_BYTES: usize = 63000;
+
+const EXPECTED: &str =
+    "recalling: expected on standard input a name of 8 bytes, the length of a store in 4 bytes, 63000 at most, and the store\n";
 
 fn main(rt: HostRuntime) {
+    let mut out = Output::new(writer(&rt));
+    let done = run(&rt, &mut out);
+    streams::end(&rt, b"recalling", out, done);
+}
+
+// An input that fills the buffer has too long a store.
+fn run(rt: &impl Runtime, out: &mut Output<impl Write>) -> Result<(), Failure> {
     let mut input = io::large_buffer();
-    let read = streams::fill(&mut rt.reader(), &mut input);
-    match read {
-        Input::Full => expected(&rt),
-        Input::Ended(got) => parts(&rt, &input[..got]),
-        Input::Unread(e) => streams::end_unread(&rt, b"recalling", e),
-    }
-}
-
-fn parts(rt: &impl Runtime, input: &[u8]) {
-    if input.len() < STORE_AT {
-        expected(rt);
-        return;
-    }
-    let bytes = big_endian::number_at(input, NAME_LENGTH, COUNT_LENGTH);
-    if MOST_BYTES < bytes {
-        expected(rt);
-        return;
-    }
-    if input.len() != STORE_AT + bytes as usize {
-        expected(rt);
-        return;
-    }
-    answer(rt, &input[0..NAME_LENGTH], &input[STORE_AT..]);
-}
-
-fn answer(rt: &impl Runtime, name: &[u8], kept: &[u8]) {
+    let got = streams::fill(&mut rt.reader(), &mut input).map_err(Failure::Unread)?;
+    let (name, kept) = parts(&input[..got]).ok_or(Failure::Mistake(EXPECTED))?;
     let sheet = upd546::upd546_sheet();
-    let judged = store::recall_check(kept, name, sheet);
-    if let Outcome::Refused(why) = judged {
-        streams::end_refused(rt, b"recalling", runs::refusal_number(why));
-        return;
-    }
-    let out = streams::write(rt, Output::Whole(0), store::recall(kept, name, sheet));
-    streams::end_whole(rt, b"recalling", out);
+    store::recall_check(kept, name, sheet).map_err(|why| Failure::Refused(runs::refusal_number(
+        why,
+    )))?;
+    out.write(store::recall(kept, name, sheet))?;
+    Ok(())
 }
 
-fn expected(rt: &impl Runtime) {
-    streams::end_mistake(
-        rt,
-        b"recalling: expected on standard input a name of 8 bytes, the length of a store in 4 bytes, 63000 at most, and the store\n",
-    );
+// The input: the name, the store's length, the store, and nothing behind it.
+fn parts(input: &[u8]) -> Option<(&[u8; NAME_LENGTH], &[u8])> {
+    let (name, rest) = input.split_first_chunk::<NAME_LENGTH>()?;
+    let (count, kept) = rest.split_first_chunk::<COUNT_LENGTH>()?;
+    let bytes = u32::from_be_bytes(*count) as usize;
+    if MOST_BYTES < bytes || kept.len() != bytes {
+        return None;
+    }
+    Some((name, kept))
 }

@@ -3,22 +3,14 @@
 // goes, nor how the records are found.
 #![tactic(auto)]
 
-ghost use Rattle.std.specs.Prelude.{◌+◌, ◌*◌, ◌≤◌, length};
-
 use runs::MachineCycles;
 use shortest::Shortest;
+use std::io::{Write, writer};
 use std::rt::Runtime;
-use streams::{Input, Output};
-use upd546::{CYCLE_BYTES, ROM_LENGTH, State};
-
-// The input: 0 for the text, else the shortened panel is wanted; n; the ROM; all behind it is the schedule.
-const N_AT: usize = 1;
+use streams::{Cut, Failure, Output};
+use upd546::{ROM_LENGTH, State};
 
 const N_LENGTH: usize = 4;
-
-const ROM_AT: usize = N_AT + N_LENGTH;
-
-const SCHEDULE_AT: usize = ROM_AT + ROM_LENGTH;
 
 // "a log of 16n bytes", of 400,000 cycles: what a stack of eight megabytes bears. A longer panel is refused with 81.
 const LOG_LENGTH: usize = 16 * 400000;
@@ -28,160 +20,120 @@ const RECORD_LENGTH: usize = 10;
 // So many of the records that are enough are shown, the last of them.
 const SHOWN: usize = 8;
 
-// The buffer holds more than every input that isn't refused, so what is behind it need not be read.
-fn main(rt: HostRuntime) {
-    let mut input = io::large_buffer();
-    let read = streams::fill(&mut rt.reader(), &mut input);
-    match read {
-        Input::Full => parts(&rt, &input),
-        Input::Ended(got) => parts(&rt, &input[..got]),
-        Input::Unread(e) => streams::end_unread(&rt, b"shortening", e),
-    }
+// Whether the shortened panel is wanted and not the text; and the panel: the bytes of its n, its ROM, its schedule.
+#[derive(Clone, Copy)]
+struct Asked<'a> {
+    shortened: bool,
+    n: &'a [u8; N_LENGTH],
+    rom: &'a [u8],
+    sched: &'a [u8],
 }
 
-// "under 2,004 bytes being 21", as `trace` has it.
-fn parts(rt: &impl Runtime, input: &[u8]) {
-    if input.len() < SCHEDULE_AT {
-        streams::end_refused(rt, b"shortening", 21);
-        return;
-    }
-    let n = MachineCycles(big_endian::number_at(input, N_AT, N_LENGTH));
-    lend(
-        rt,
-        &input[N_AT..ROM_AT],
-        &input[ROM_AT..SCHEDULE_AT],
-        &input[SCHEDULE_AT..],
-        n,
-        input[0] != 0,
-    );
+fn main(rt: HostRuntime) {
+    let mut out = Output::new(writer(&rt));
+    let done = run(&rt, &mut out);
+    streams::end(&rt, b"shortening", out, done);
+}
+
+// The buffer holds more than every input that isn't refused, so what is behind it need not be read. "under 2,004 bytes being 21", as `trace`
+// has it.
+fn run(rt: &impl Runtime, out: &mut Output<impl Write>) -> Result<(), Failure> {
+    let mut input = io::large_buffer();
+    let got = streams::fill(&mut rt.reader(), &mut input).map_err(Failure::Unread)?;
+    let asked = Asked::of(&input[..got]).ok_or(Failure::Refused(21))?;
+    lend(out, asked)
 }
 
 // The log for the trials.
-fn lend(
-    rt: &impl Runtime,
-    count: &[u8],
-    rom: &[u8],
-    sched: &[u8],
-    n: MachineCycles,
-    shortened: bool,
-) {
+fn lend(out: &mut Output<impl Write>, asked: Asked) -> Result<(), Failure> {
     let mut log = [0u8; LOG_LENGTH];
-    panel(rt, count, rom, sched, n, shortened, &mut log);
+    answer(out, asked, &mut log)
 }
 
-// The panel from the fresh state: the bytes of its n, its ROM, its schedule.
-fn panel(
-    rt: &impl Runtime,
-    count: &[u8],
-    rom: &[u8],
-    sched: &[u8],
-    n: MachineCycles,
-    shortened: bool,
-    log: &mut [u8],
-) {
+// The panel from the fresh state.
+fn answer(out: &mut Output<impl Write>, asked: Asked, log: &mut [u8]) -> Result<(), Failure> {
+    let Asked {
+        shortened,
+        n,
+        rom,
+        sched,
+    } = asked;
+    let cycles = MachineCycles(u32::from_be_bytes(*n).into());
     let sheet = upd546::upd546_sheet();
     let state = upd546::fresh_state();
-    let found = shortest::find(rom, sched, state, n, log, sheet);
+    let found = shortest::find(rom, sched, state, cycles, log, sheet);
     let number = shortest::number_of(found);
-    let Shortest::Stops(k, _) = found else {
-        streams::end_refused(rt, b"shortening", number);
-        return;
+    let Ok(Shortest { records, .. }) = found else {
+        return Err(Failure::Refused(number));
     };
-    let kept = first_records(sched, k);
+    // What is found are at most the records that there are.
+    let kept = sched
+        .get(..records.saturating_mul(RECORD_LENGTH))
+        .unwrap_or(sched);
     if shortened {
-        end_panel(rt, count, rom, kept);
-        return;
+        // A panel that `trace` reads, with the records kept.
+        out.write(n)?;
+        out.write(rom)?;
+        out.write(kept)?;
+        return Ok(());
     }
-    let ran = runner::run_skipping(rom, kept, state, log, n, sheet);
-    let stopped = ran.state;
-    end_text(rt, number, stopped, kept, sched.len());
+    let ran = runner::run_skipping(rom, kept, state, log, cycles, sheet);
+    write_stop(out, number, ran.state)?;
+    let (records, _) = kept.as_chunks::<RECORD_LENGTH>();
+    write_records(out, records, sched.len() / RECORD_LENGTH)?;
+    Ok(())
 }
 
-// The first k records. What is found are at most those that there are.
-fn first_records(sched: &[u8], k: usize) -> &[u8] {
-    if sched.len() / RECORD_LENGTH < k {
-        return sched;
+impl<'a> Asked<'a> {
+    // The input: 0 for the text, else the shortened panel is wanted; n; the ROM; all behind it is the schedule.
+    fn of(input: &'a [u8]) -> Option<Asked<'a>> {
+        let (kind, panel) = input.split_first()?;
+        let (n, rest) = panel.split_first_chunk::<N_LENGTH>()?;
+        let (rom, sched) = rest.split_at_checked(ROM_LENGTH)?;
+        Some(Asked {
+            shortened: *kind != 0,
+            n,
+            rom,
+            sched,
+        })
     }
-    &sched[..RECORD_LENGTH * k]
 }
 
-// A panel that `trace` reads, with the records kept.
-fn end_panel(rt: &impl Runtime, count: &[u8], rom: &[u8], kept: &[u8]) {
-    let counted = streams::write(rt, Output::Whole(0), count);
-    let coded = streams::write(rt, counted, rom);
-    let out = streams::write(rt, coded, kept);
-    streams::end_whole(rt, b"shortening", out);
+// The stop of the shortened panel.
+fn write_stop(out: &mut Output<impl Write>, number: u8, stopped: State) -> Result<(), Cut> {
+    out.write(b"stop ")?;
+    out.write_number(number.into(), b' ')?;
+    out.write(b"cycle ")?;
+    out.write_number(stopped.cycle.0, b' ')?;
+    out.write(b"address ")?;
+    let address = stopped.core.flow.pc % 4096;
+    out.write_short(format_args!("{address:03X}\n"))
 }
 
-// The stop of the shortened panel, how many records it has and all of them, and the last records of it.
-fn end_text(rt: &impl Runtime, number: u8, stopped: State, kept: &[u8], length: usize) {
-    let stop = streams::write(rt, Output::Whole(0), b"stop ");
-    let numbered = streams::write_number(rt, stop, number as u64, b' ');
-    let at = streams::write(rt, numbered, b"cycle ");
-    let timed = streams::write_number(rt, at, stopped.cycle.0, b' ');
-    let placed = write_address(rt, timed, stopped.core.flow.pc);
-    let enough = streams::write(rt, placed, b"records ");
-    let counted = streams::write_number(rt, enough, (kept.len() / RECORD_LENGTH) as u64, b' ');
-    let of = streams::write(rt, counted, b"of ");
-    let headed = streams::write_number(rt, of, (length / RECORD_LENGTH) as u64, b'\n');
-    let listed = streams::write(rt, headed, b"record cycle A B C D INT RES\n");
-    let out = write_records(rt, listed, kept);
-    streams::end_whole(rt, b"shortening", out);
-}
-
-// Three digits, as an address has them.
-fn write_address(rt: &impl Print, before: Output, address: u16) -> Output {
-    let word = streams::write(rt, before, b"address ");
-    let high = hex_digit((address / 256 % 16) as u8);
-    let middle = hex_digit((address / 16 % 16) as u8);
-    let low = hex_digit((address % 16) as u8);
-    streams::write(rt, word, &[high, middle, low, b'\n'])
-}
-
-// The last records, oldest first.
-fn write_records(rt: &impl Print, before: Output, kept: &[u8]) -> Output {
-    let count = kept.len() / RECORD_LENGTH;
-    let mut out = before;
-    let mut i = if count < SHOWN { 0 } else { count - SHOWN };
-    while i < count {
-        let so_far = out;
-        out = write_record(rt, so_far, kept, i);
-        i += 1;
+// How many records the shortened panel has, of how many, and the last of them, oldest first, each with its place, counted from 1.
+fn write_records(
+    out: &mut Output<impl Write>,
+    records: &[[u8; RECORD_LENGTH]],
+    all: usize,
+) -> Result<(), Cut> {
+    out.write(b"records ")?;
+    out.write_number(records.len() as u64, b' ')?;
+    out.write(b"of ")?;
+    out.write_number(all as u64, b'\n')?;
+    out.write(b"record cycle A B C D INT RES\n")?;
+    let hidden = records.len().saturating_sub(SHOWN);
+    for (i, record) in records.iter().enumerate().skip(hidden) {
+        out.write_number(i as u64 + 1, b' ')?;
+        write_record(out, record)?;
     }
-    out
+    Ok(())
 }
 
-// A record: its place, counted from 1, its cycle, and the lines from there on.
-fn write_record(rt: &impl Print, before: Output, kept: &[u8], i: usize) -> Output
-    requires { 10 * (i + 1) ≤ length kept.now }
-{
-    let at = RECORD_LENGTH * i;
-    let placed = streams::write_number(rt, before, i as u64 + 1, b' ');
-    let cycle = big_endian::number_at(kept, at, CYCLE_BYTES);
-    let timed = streams::write_number(rt, placed, cycle, b' ');
-    let ab = kept[at + 6];
-    let cd = kept[at + 7];
-    let int = kept[at + 8];
-    let res = kept[at + 9];
-    let ports = [
-        hex_digit(ab / 16),
-        b' ',
-        hex_digit(ab),
-        b' ',
-        hex_digit(cd / 16),
-        b' ',
-        hex_digit(cd),
-        b' ',
-    ];
-    let lined = streams::write(rt, timed, &ports);
-    streams::write(rt, lined, &[hex_digit(int), b' ', hex_digit(res), b'\n'])
-}
-
-// The digit of the low four bits.
-fn hex_digit(value: u8) -> u8 {
-    let digit = value % 16;
-    if digit < 10 {
-        return b'0' + digit;
-    }
-    b'A' + (digit - 10)
+// The cycle of a record, and the lines from there on.
+fn write_record(out: &mut Output<impl Write>, record: &[u8; RECORD_LENGTH]) -> Result<(), Cut> {
+    let [a, b, c, d, e, f, ab, cd, int, res] = *record;
+    out.write_number(u64::from_be_bytes([0, 0, a, b, c, d, e, f]), b' ')?;
+    let (a, b, c, d) = (ab / 16, ab % 16, cd / 16, cd % 16);
+    out.write_short(format_args!("{a:X} {b:X} {c:X} {d:X} "))?;
+    out.write_short(format_args!("{:X} {:X}\n", int % 16, res % 16))
 }

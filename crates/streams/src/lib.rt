@@ -3,54 +3,72 @@
 // It may not know what is read or written, but for the line of a refusal.
 #![tactic(auto)]
 
-ghost use Rattle.std.specs.Prelude.{◌≡◌, ◌+◌, ◌≤◌, ◌∷◌, [], ◌++◌, length};
+ghost use Rattle.std.specs.Prelude.{◌≡◌, ◌+◌, ◌<◌, ◌^◌, ◌∷◌, [], ◌++◌, length, Ok};
 ghost use Rattle.upd546.specs.Reports.{decimal};
-ghost use Rattle.streams.specs.Streams.{IsTurn, moved_by, Filled, IsPart, Wrote, is_refusal};
+ghost use Rattle.streams.specs.Streams.{IsTurn, Filled, IsPart, SoFar, Wrote, WroteShort, told, is_refusal};
+ghost use Rattle.streams.specs.declared.Failure.TheVariants.{Cut};
 
 use std::fmt;
 use std::fmt::{Display, Formatter, InlineText};
 use std::fs::{File, OpenOptions};
 use std::io::{Error, ErrorKind, Read, Write, writer};
+use std::marker::Model;
 use std::rt::{Env, Runtime};
+use text::Text;
 
-// What filling a buffer came to.
+// Standard output was cut off: so many bytes of it were written, then a write failed.
 #[derive(Clone, Copy)]
-pub enum Input {
-    // The buffer is full, and more may follow.
-    Full,
-    // The input ended: so many bytes of it stand at the front of the buffer.
-    Ended(usize),
-    // A read failed. What stands in the buffer isn't the input.
+pub struct Cut {
+    pub written: u64,
+    pub why: Error,
+}
+
+impl Cut {
+    // The same cut, of what stands behind so many bytes.
+    fn behind(self, before: u64) -> Cut
+        requires { before + self.written < 2 ^ 64 }
+        ensures { result ≡ record { written = before + self.written; why = self.why } }
+    {
+        Cut {
+            written: before + self.written,
+            ..self
+        }
+    }
+}
+
+// STANDARD OUTPUT, or what else is written to, with what it has so far: so many bytes, all that were to be written; or it was cut off, and
+// nothing is written to it any more.
+#[derive(Drop)]
+pub struct Output<W> {
+    to: W,
+    so_far: Result<u64, Cut>,
+}
+
+impl<W> Model for Output<W> {
+    ghost Value = { SoFar };
+
+    ghost view = { λ out. out.so_far };
+}
+
+// Why a program ends otherwise than with all that it was asked for.
+#[derive(Clone, Copy)]
+pub enum Failure {
+    // "A refusal prints only `refused` and the number."
+    Refused(u8),
+    // It was asked for something else than it does: the line for standard error.
+    Mistake(&'static str),
+    // Standard input could not be read.
     Unread(Error),
+    // Standard output was cut off.
+    Cut(Cut),
 }
 
-// What standard output has so far, in bytes.
-#[derive(Clone, Copy)]
-pub enum Output {
-    // All that was to be written.
-    Whole(u64),
-    // Not all: a write failed, and nothing was written after it.
-    Cut(u64, Error),
-}
+impl From<Cut> for Failure {
+    ghost from_gives = { λ cut failure. failure ≡ Cut cut };
 
-// What one call of `read` or `write` came to.
-#[derive(Clone, Copy)]
-enum Turn {
-    // So many bytes were moved, one at least.
-    Moved(usize),
-    // A signal came before a byte was moved: the call is made again.
-    Interrupted,
-    // No byte was moved, and nothing failed: the end of the input.
-    Ended,
-    Failed(Error),
-}
-
-// What writing bytes came to.
-#[derive(Clone, Copy)]
-enum Sent {
-    All,
-    // So many of them, the first ones; then a write failed.
-    Part(usize, Error),
+    fn from(cut: Cut) -> Failure {
+        Failure::Cut(cut)
+    }
 }
 
 // The most calls for a buffer: each moves a byte at least, or was interrupted.
@@ -77,49 +95,21 @@ const NUMBER_LENGTH: usize = 21;
 
 const REFUSED_SPACE: usize = 29;
 
+const SHORT_LENGTH: usize = 16;
+
 // The longest line of a refusal: `refused`, a space, three digits and the line's end. `refused_most` is the same number.
 const REFUSED_LENGTH: usize = 12;
 
-// What a call came to, by its answer: the bytes that it moved, or why it failed.
-fn judged(answer: Result<usize, Error>) -> Turn
+// What a call of `read` or `write` came to, by its answer: the bytes that it moved, none at the end of an input; nothing, where a signal
+// interrupted it and it is made again; or why it failed.
+fn judged(answer: Result<usize, Error>) -> Result<Option<usize>, Error>
     ensures { IsTurn answer result }
 {
     match answer {
-        Ok(0) => Turn::Ended,
-        Ok(n) => Turn::Moved(n),
-        Err(e) => {
-            if e.kind() == ErrorKind::Interrupted {
-                return Turn::Interrupted;
-            }
-            Turn::Failed(e)
-        }
+        Ok(n) => Ok(Some(n)),
+        Err(e) if e.kind() == ErrorKind::Interrupted => Ok(None),
+        Err(e) => Err(e),
     }
-}
-
-// The bytes that a call moved.
-fn moved(turn: Turn) -> usize
-    ensures { result ≡ moved_by turn }
-{
-    let Turn::Moved(n) = turn else {
-        return 0;
-    };
-    n
-}
-
-// One read into the buffer from a place on.
-fn read_once<R: Read>(from: &mut R, buf: &mut [u8], at: usize) -> Turn
-    requires { at ≤ length buf.old }
-    ensures { at + moved_by result ≤ length buf.old }
-{
-    judged(from.read(&mut buf[at..]))
-}
-
-// One write of the bytes from a place on.
-fn write_once<W: Write>(to: &mut W, bytes: &[u8], at: usize) -> Turn
-    requires { at ≤ length bytes.now }
-    ensures { at + moved_by result ≤ length bytes.now }
-{
-    judged(to.write(&bytes[at..]))
 }
 
 // The error of a call that signals interrupted again and again.
@@ -127,95 +117,123 @@ fn interrupted() -> Error {
     Error::from_raw_os_error(EINTR)
 }
 
-// FILLS A BUFFER FROM A READER, which is standard input, up to the end of the input.
-pub fn fill<R: Read>(from: &mut R, buf: &mut [u8]) -> Input
+// FILLS A BUFFER FROM A READER, which is standard input, and answers how many bytes of it stand at the front: as many as the buffer has, or
+// all up to the end of the input. After a read that failed, what stands in the buffer isn't the input.
+pub fn fill<R: Read>(from: &mut R, buf: &mut [u8]) -> Result<usize, Error>
     ensures { Filled result buf.new }
 {
     let mut at = 0;
-    let mut calls = CALLS;
-    while 0 < calls {
+    for _ in 0..CALLS {
         if buf.len() <= at {
-            return Input::Full;
+            return Ok(buf.len());
         }
-        let turn = read_once(from, buf, at);
-        if let Turn::Ended = turn {
-            return Input::Ended(at);
+        match judged(from.read(&mut buf[at..]))? {
+            Some(0) => return Ok(at),
+            Some(n) => at += n,
+            None => {}
         }
-        if let Turn::Failed(e) = turn {
-            return Input::Unread(e);
-        }
-        at += moved(turn);
-        calls -= 1;
     }
-    Input::Unread(interrupted())
+    Err(interrupted())
 }
 
 // Writes the bytes: all, or those before the first write that failed.
-fn put<W: Write>(to: &mut W, bytes: &[u8]) -> Sent
+fn put<W: Write>(to: &mut W, bytes: &[u8]) -> Result<(), Cut>
     ensures { IsPart result (length bytes.now) }
 {
     let mut at = 0;
-    let mut calls = CALLS;
-    while 0 < calls {
+    for _ in 0..CALLS {
         if bytes.len() <= at {
-            return Sent::All;
+            return Ok(());
         }
-        let turn = write_once(to, bytes, at);
-        if let Turn::Ended = turn {
-            return Sent::Part(at, Error::from(ErrorKind::WriteZero));
+        let written = at as u64;
+        match judged(to.write(&bytes[at..])) {
+            Ok(Some(0)) => {
+                let why = Error::from(ErrorKind::WriteZero);
+                return Err(Cut { written, why });
+            }
+            Ok(Some(n)) => at += n,
+            Ok(None) => {}
+            Err(why) => return Err(Cut { written, why }),
         }
-        if let Turn::Failed(e) = turn {
-            return Sent::Part(at, e);
-        }
-        at += moved(turn);
-        calls -= 1;
     }
     if bytes.len() <= at {
-        return Sent::All;
+        return Ok(());
     }
-    Sent::Part(at, interrupted())
+    let written = at as u64;
+    let why = interrupted();
+    Err(Cut { written, why })
 }
 
-// WRITES BYTES TO STANDARD OUTPUT, unless an earlier write has failed.
-pub fn write(rt: &impl Print, before: Output, bytes: &[u8]) -> Output
-    ensures { Wrote before (length bytes.now) result }
-{
-    let Output::Whole(n) = before else {
-        return before;
-    };
-    let length = bytes.len();
-    if length == 0 {
-        return before;
+impl<W: Write> Output<W> {
+    // Nothing is written yet.
+    pub fn new(to: W) -> Output<W>
+        ensures { result ≡ Ok 0 }
+    {
+        Output { to, so_far: Ok(0) }
     }
-    if MOST_BYTES <= n {
-        return Output::Cut(n, Error::from(ErrorKind::FileTooLarge));
-    }
-    if let Sent::Part(written, e) = put(&mut writer(rt), bytes) {
-        return Output::Cut(n + written as u64, e);
-    }
-    Output::Whole(n + length as u64)
-}
 
-// The first bytes, so many; where there are fewer, none of them, and not all is written.
-pub fn write_first(rt: &impl Print, before: Output, bytes: &[u8], count: usize) -> Output
-    ensures { Wrote before count result }
-{
-    if count <= bytes.len() {
-        return write(rt, before, &bytes[..count]);
+    // WRITES BYTES, unless an earlier write has failed.
+    pub fn write(&mut self, bytes: &[u8]) -> Result<(), Cut>
+        ensures wrote { Wrote self.old (length bytes.now) self.new }
+        ensures told { result ≡ told self.new }
+    {
+        let written = self.so_far?;
+        if bytes.is_empty() {
+            return Ok(());
+        }
+        self.so_far = if MOST_BYTES <= written {
+            let why = Error::from(ErrorKind::FileTooLarge);
+            Err(Cut { written, why })
+        } else {
+            match put(&mut self.to, bytes) {
+                Ok(()) => Ok(written + bytes.len() as u64),
+                Err(cut) => Err(cut.behind(written)),
+            }
+        };
+        self.told()
     }
-    let Output::Whole(n) = before else {
-        return before;
-    };
-    Output::Cut(n, Error::from(ErrorKind::InvalidInput))
-}
 
-// A number and one byte behind it. A number of 64 bits has at most 20 digits.
-pub fn write_number(rt: &impl Print, before: Output, n: u64, after: u8) -> Output
-    ensures { Wrote before (length (decimal n ++ (after ∷ []))) result }
-{
-    let mut space = [0u8; NUMBER_LENGTH];
-    let size = text::put_number(&mut space, 0, n, after);
-    write_first(rt, before, &space, size)
+    // The first bytes, so many; where there are fewer, none of them, and not all is written.
+    pub fn write_first(&mut self, bytes: &[u8], count: usize) -> Result<(), Cut>
+        ensures wrote { Wrote self.old count self.new }
+        ensures told { result ≡ told self.new }
+    {
+        if count <= bytes.len() {
+            return self.write(&bytes[..count]);
+        }
+        let written = self.so_far?;
+        let why = Error::from(ErrorKind::InvalidInput);
+        self.so_far = Err(Cut { written, why });
+        self.told()
+    }
+
+    // A number and one byte behind it. A number of 64 bits has at most 20 digits.
+    pub fn write_number(&mut self, n: u64, after: u8) -> Result<(), Cut>
+        ensures wrote { Wrote self.old (length (decimal n ++ (after ∷ []))) self.new }
+        ensures told { result ≡ told self.new }
+    {
+        let mut space = [0u8; NUMBER_LENGTH];
+        let mut text = Text::new(&mut space);
+        text.push_number(n, after);
+        self.write(text.as_slice())
+    }
+
+    // A short text, as of digits in hexadecimal: of one that is longer than 16 bytes a part, and dots.
+    pub fn write_short<D: Display + Drop>(&mut self, text: D) -> Result<(), Cut>
+        ensures wrote { WroteShort (D.output text) self.old self.new }
+        ensures told { result ≡ told self.new }
+    {
+        let short = InlineText::<SHORT_LENGTH>::of(text);
+        self.write(short.as_str().as_bytes())
+    }
+
+    // Whether all was written that was to be.
+    fn told(&self) -> Result<(), Cut>
+        ensures { result ≡ told self.now }
+    {
+        self.so_far?;
+        Ok(())
+    }
 }
 
 // The descriptor to which the caller wants the last word: the program's first argument, one of 3 to 9.
@@ -296,46 +314,15 @@ fn tell(rt: &impl Eprint, what: impl Display + Drop, why: Error) {
     let _ = eprintln!(rt; "{what}: {reason}");
 }
 
-// THE END OF A PROGRAM whose output this is: where all of it was written, the last word; else none, and a line on standard error.
-fn end(rt: &impl Runtime, name: &[u8], out: Output, word: &[u8]) {
-    if let Output::Cut(n, e) = out {
-        let name = Words(name);
-        tell(
-            rt,
-            format_args!("{name}: standard output ends after {n} bytes and must not be used"),
-            e,
-        );
-        return;
-    }
-    last_word(rt, word);
-}
-
-// The end of a program that did not refuse.
-pub fn end_whole(rt: &impl Runtime, name: &[u8], out: Output) {
-    end(rt, name, out, b"whole\n");
-}
-
-// The end of a program whose whole output is a text. Where that is the line of a refusal, so is the last word.
-pub fn end_text(rt: &impl Runtime, name: &[u8], text: &[u8]) {
-    let out = write(rt, Output::Whole(0), text);
-    if is_refusal(text) {
-        end(rt, name, out, text);
-        return;
-    }
-    end_whole(rt, name, out);
-}
-
-// The end of a program that refuses: "A refusal prints only `refused` and the number."
-pub fn end_refused(rt: &impl Runtime, name: &[u8], number: u8) {
-    end_refused_behind(rt, name, Output::Whole(0), number);
-}
-
-// The end of a program that refuses, whose line stands behind what was written: a page for people, which tells of the refusal too.
-pub fn end_refused_behind(rt: &impl Runtime, name: &[u8], before: Output, number: u8) {
-    let mut line = [0u8; REFUSED_SPACE];
-    let size = text::put_refused(&mut line, number);
-    let out = write_first(rt, before, &line, size);
-    end(rt, name, out, &line[..size]);
+// The end of a program whose standard output was cut off: there is no last word.
+fn end_cut(rt: &impl Eprint, name: &[u8], cut: Cut) {
+    let Cut { written, why } = cut;
+    let name = Words(name);
+    tell(
+        rt,
+        format_args!("{name}: standard output ends after {written} bytes and must not be used"),
+        why,
+    );
 }
 
 // The end of a program whose input could not be read: nothing was written, and there is no last word.
@@ -354,12 +341,53 @@ pub fn end_mistake(rt: &impl Runtime, words: &[u8]) {
     last_word(rt, b"mistake\n");
 }
 
+// The end of a program that has written its answer: the last word, where all of it was written.
+fn end_written(rt: &impl Runtime, name: &[u8], answer: Result<(), Cut>, word: &[u8]) {
+    match answer {
+        Ok(()) => last_word(rt, word),
+        Err(cut) => end_cut(rt, name, cut),
+    }
+}
+
+// THE END OF A PROGRAM, by what it came to. The line of a refusal stands behind what was written: a page for people, which tells of the
+// refusal too; of most programs it is all.
+// Each `main` makes an output, runs, and calls this, or `end_text`. One function for them all, which takes the run as a closure, was tried: no
+// proof is made of the call, since its answer has a `&'static str` in it (a call gives a callee another lifetime for `'static`).
+pub fn end<W: Write + Drop>(
+    rt: &impl Runtime,
+    name: &[u8],
+    mut out: Output<W>,
+    done: Result<(), Failure>,
+) {
+    match done {
+        Ok(()) => end_written(rt, name, out.told(), b"whole\n"),
+        Err(Failure::Refused(number)) => {
+            let mut line = [0u8; REFUSED_SPACE];
+            let mut text = Text::new(&mut line);
+            text.push_refused(number);
+            end_written(rt, name, out.write(text.as_slice()), text.as_slice());
+        }
+        Err(Failure::Mistake(words)) => end_mistake(rt, words.as_bytes()),
+        Err(Failure::Unread(why)) => end_unread(rt, name, why),
+        Err(Failure::Cut(cut)) => end_cut(rt, name, cut),
+    }
+}
+
+// The end of a program whose whole output is a text, unless its input could not be read. Where the text is the line of a refusal, so is the
+// last word.
+pub fn end_text(rt: &impl Runtime, name: &[u8], text: Result<&[u8], Error>) {
+    match text {
+        Ok(text) => {
+            let word: &[u8] = if is_refusal(text) { text } else { b"whole\n" };
+            end_written(rt, name, Output::new(writer(rt)).write(text), word);
+        }
+        Err(why) => end_unread(rt, name, why),
+    }
+}
+
 // Whether a text is the line of a refusal: any other is longer, or begins otherwise.
 fn is_refusal(text: &[u8]) -> bool
     ensures { result ≡ is_refusal text.now }
 {
-    if text.len() == 0 {
-        return false;
-    }
-    (text[0] == b'r') & (text.len() <= REFUSED_LENGTH)
+    text.first() == Some(&b'r') && text.len() <= REFUSED_LENGTH
 }

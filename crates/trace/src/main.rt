@@ -2,22 +2,21 @@
 // split, how a run goes, nor how its text is laid out.
 #![tactic(auto)]
 
+use std::io::Error;
 use std::rt::Runtime;
-use streams::Input;
+use trace_text::TEXT_LENGTH;
 
-// The buffer holds more than every input that isn't refused, so what is behind it need not be read.
 fn main(rt: HostRuntime) {
-    let mut input = io::large_buffer();
-    let read = streams::fill(&mut rt.reader(), &mut input);
-    match read {
-        Input::Full => panel(&rt, &input),
-        Input::Ended(got) => panel(&rt, &input[..got]),
-        Input::Unread(e) => streams::end_unread(&rt, b"trace", e),
-    }
+    let mut text = io::large_buffer();
+    let told = run(&rt, &mut text);
+    streams::end_text(&rt, b"trace", told);
 }
 
-fn panel(rt: &impl Runtime, input: &[u8]) {
-    let mut text = io::large_buffer();
-    let size = trace_text::trace(input, &mut text);
-    streams::end_text(rt, b"trace", &text[..size]);
+// The text of a panel, at the front of a buffer. The buffer of the input holds more than every input that isn't refused, so what is behind
+// it need not be read.
+fn run<'a>(rt: &impl Runtime, text: &'a mut [u8; TEXT_LENGTH]) -> Result<&'a [u8], Error> {
+    let mut input = io::large_buffer();
+    let got = streams::fill(&mut rt.reader(), &mut input)?;
+    let size = trace_text::trace(&input[..got], text);
+    Ok(&text[..size])
 }

@@ -4,37 +4,30 @@
 
 use std::io::{Error, ErrorKind};
 use std::rt::Runtime;
-use streams::Input;
-use waiting::Reading;
+use waits_text::TEXT_LENGTH;
 
 // So many parts are 2^62 bytes, more than any input has; up to 2^63 bytes the parts give the report of the whole log.
 const PARTS: u64 = 0x4000_0000_0000;
 
-// The buffer holds whole records, and is full but for the last part, so no record lies across two parts. A part that is refused with 42
-// doesn't end it: 41 comes before 42, and the log's length is known at its end.
 fn main(rt: HostRuntime) {
-    let mut from = rt.reader();
-    let mut part = io::large_buffer();
-    let mut reading: Reading = waits_text::no_parts();
-    let mut k = 0;
-    while k < PARTS {
-        let read = streams::fill(&mut from, &mut part);
-        if let Input::Unread(e) = read {
-            streams::end_unread(&rt, b"waits", e);
-            return;
-        }
-        if let Input::Ended(got) = read {
-            tell(&rt, waits_text::part_read(reading, &part[..got]));
-            return;
-        }
-        reading = waits_text::part_read(reading, &part);
-        k += 1;
-    }
-    streams::end_unread(&rt, b"waits", Error::from(ErrorKind::FileTooLarge));
+    let mut text = io::buffer();
+    let told = run(&rt, &mut text);
+    streams::end_text(&rt, b"waits", told);
 }
 
-fn tell(rt: &impl Runtime, reading: Reading) {
-    let mut text = io::buffer();
-    let size = waits_text::waits(reading, &mut text);
-    streams::end_text(rt, b"waits", &text[..size]);
+// The text of a log, at the front of a buffer. The buffer of a part holds whole records, and is full but for the last part, so no record lies
+// across two parts. A part that is refused with 42 doesn't end it: 41 comes before 42, and the log's length is known at its end.
+fn run<'a>(rt: &impl Runtime, text: &'a mut [u8; TEXT_LENGTH]) -> Result<&'a [u8], Error> {
+    let mut from = rt.reader();
+    let mut part = io::large_buffer();
+    let mut reading = waits_text::no_parts();
+    for _ in 0..PARTS {
+        let got = streams::fill(&mut from, &mut part)?;
+        reading = waits_text::part_read(reading, &part[..got]);
+        if got < part.len() {
+            let size = waits_text::waits(reading, text);
+            return Ok(&text[..size]);
+        }
+    }
+    Err(Error::from(ErrorKind::FileTooLarge))
 }
