@@ -11,13 +11,14 @@ ghost use Rattle.upd546.specs.Reports.{decimal, trace_text};
 ghost use Rattle.waiting.specs.WaitingTimes.{start_of_day, waiting_times};
 ghost use Rattle.waits_text.specs.Parts.{part_read};
 ghost use Rattle.waits_text.specs.Texts.{waits_text};
-ghost use Rattle.streams.specs.Streams.{Wrote};
+ghost use Rattle.streams.specs.Streams.{Wrote, told};
 ghost use Rattle.store.specs.Answers.{store_answer, recall_number};
 ghost use Rattle.store_calls.specs.Copy.{copy_answer};
 ghost use Rattle.callers.specs.Uses.{FirstCall, TwoCalls, Fronts};
 
 use runs::{MachineCycles, Version};
-use streams::Output;
+use std::io::Write;
+use streams::{Cut, Output};
 use trace_text::TEXT_LENGTH as PANEL_TEXT;
 use upd546::{Sheet, State};
 use waiting::Reading;
@@ -30,7 +31,8 @@ pub struct Numbers {
     pub second: u8,
 }
 
-// The image of a panel that was never run, and a call on it.
+// The image of a panel that was never run, and a call on it. Its parameters are those of `wharfnettle_call`, one by one, as C passes them;
+// so are those of the other functions here that call what C calls.
 pub fn first_call(
     image: &mut [u8],
     rom: &[u8],
@@ -87,9 +89,7 @@ pub fn run_number(
 ) -> u8
     ensures { result ≡ number_of_end (plain (chip sheet) rom.now schedule.now s log.old n.0).end }
 {
-    let answer = runner::run_plain(rom, schedule, s, log, n, sheet);
-    let end = answer.end;
-    runs::end_number(end)
+    runs::end_number(runner::run_plain(rom, schedule, s, log, n, sheet).end)
 }
 
 // The number of a save; the number of a restore of what it leaves, and the state.
@@ -112,13 +112,10 @@ pub fn switch_off(
 {
     let saved = runs::outcome_number(save::save(s, version, buffer, evening));
     let back = restore::restore(buffer, morning);
-    let outcome = back.outcome;
-    let state = back.state;
-    let restored = runs::outcome_number(outcome);
     SwitchedOff {
         saved,
-        restored,
-        state,
+        restored: runs::outcome_number(back.outcome),
+        state: back.state,
     }
 }
 
@@ -187,15 +184,16 @@ pub fn last_part(before: Reading, part: &[u8], out: &mut [u8; WAITS_TEXT]) -> us
 }
 
 // The first bytes, so many, and a number with one byte behind it.
-pub fn bytes_and_number(
-    rt: &impl Print,
-    before: Output,
+pub fn bytes_and_number<W: Write>(
+    out: &mut Output<W>,
     bytes: &[u8],
     count: usize,
     n: u64,
     after: u8,
-) -> Output
-    ensures { Wrote before (count + length (decimal n ++ (after ∷ []))) result }
+) -> Result<(), Cut>
+    ensures wrote { Wrote out.old (count + length (decimal n ++ (after ∷ []))) out.new }
+    ensures told { result ≡ told out.new }
 {
-    streams::write_number(rt, streams::write_first(rt, before, bytes, count), n, after)
+    out.write_first(bytes, count)?;
+    out.write_number(n, after)
 }

@@ -4,65 +4,62 @@
 // The ROM is document 01's example: OCD A5, LI 3, OE, and then a code that is none.
 #![tactic(auto)]
 
-ghost use Rattle.std.specs.Prelude.{◌≡◌};
+ghost use Rattle.std.specs.Prelude.{◌≡◌, length};
 ghost use Rattle.runs.specs.Lists.{run_answer};
 ghost use Rattle.upd546.specs.TwoRunners.{chip};
 ghost use Rattle.driver.specs.Lending.{runner_kind, brought_to};
 
-use driver::{DriveAnswer, KeptMachine, Runner};
-use runs::{MachineCycles, Outcome, Version};
-use streams::Output;
+use driver::{DriveAnswer, KeptMachine, Report, Runner};
+use runs::{MachineCycles, Refusal, Version};
+use std::io::{Write, writer};
+use streams::{Cut, Failure, Output};
 use upd546::layout::{COUNT_AT, IMAGE_LENGTH, IMAGE_LENGTH_ONE};
 use upd546::{CYCLE_BYTES, LOG_RECORD, ROM_LENGTH, Sheet};
 
 // 10 cycles in two runs: each run of n cycles has 16n bytes of it.
 const LOG_LENGTH: usize = 16 * 10;
 
-// What standard output has so far, and the place where the log is empty.
-#[derive(Clone, Copy)]
-struct Told {
-    out: Output,
-    at: usize,
+fn main(rt: HostRuntime) {
+    let mut out = Output::new(writer(&rt));
+    let done = evening_and_morning(&mut out).map_err(Failure::Cut);
+    streams::end(&rt, b"example", out, done);
 }
 
-fn main(rt: HostRuntime) {
-    let mut rom = [0u8; ROM_LENGTH];
-    rom[0] = 0x1E;
-    rom[1] = 0xA5;
-    rom[2] = 0x93;
-    rom[3] = 0x44;
-    rom[4] = 0x1C;
-    let mut log = [0u8; LOG_LENGTH];
-    let mut old = [0u8; IMAGE_LENGTH_ONE];
-    let mut image = [0u8; IMAGE_LENGTH];
-    let told = evening(&rt, &rom, &mut log, &mut old);
-    let out = morning(&rt, told, &rom, &mut log, &old, &mut image);
+fn evening_and_morning<W: Write>(out: &mut Output<W>) -> Result<(), Cut> {
+    let mut rom = [0; ROM_LENGTH];
+    rom[..5].copy_from_slice(&[0x1E, 0xA5, 0x93, 0x44, 0x1C]);
+    let mut log = [0; LOG_LENGTH];
+    let mut old = [0; IMAGE_LENGTH_ONE];
+    let mut image = [0; IMAGE_LENGTH];
+    let written = evening(out, &rom, &mut log, &mut old)?;
+    morning(out, &rom, &mut log, written, &old, &mut image)?;
     image[COUNT_AT] = 5;
-    streams::end_whole(&rt, b"example", damaged(&rt, out, &image));
+    damaged(out, &image)
 }
 
 // Three cycles from the fresh state by the plain runner, and a save of version 1. Where RES was high in the last cycle, that would be
-// refused with 54: version 1 has no place for the count.
-fn evening(rt: &impl Print, rom: &[u8], log: &mut [u8], old: &mut [u8]) -> Told {
-    let schedule = [0u8; 0];
+// refused with 54: version 1 has no place for the count. The place from which on the log is empty.
+fn evening<W: Write>(
+    out: &mut Output<W>,
+    rom: &[u8],
+    log: &mut [u8],
+    old: &mut [u8],
+) -> Result<usize, Cut> {
+    let sheet = upd546::upd546_sheet();
     let state = upd546::fresh_state();
     let answer = lend(
         KeptMachine { state },
         Runner::Plain,
         rom,
-        &schedule,
+        &[],
         log,
         MachineCycles(3),
-        upd546::upd546_sheet(),
+        sheet,
     );
-    let shown = show(rt, Output::Whole(0), answer, log, 0);
-    let machine = answer.machine;
-    let outcome = save::save(machine.state, Version::One, old, upd546::upd546_sheet());
-    let out = tell(rt, shown, b"saved as version 1", outcome);
-    Told {
-        out,
-        at: answer.report.written,
-    }
+    show(out, answer.report, log)?;
+    let saved = save::save(answer.machine.state, Version::One, old, sheet);
+    tell(out, b"saved as version 1", saved)?;
+    Ok(answer.report.written)
 }
 
 // The machine stands in a local, and is lent for the run. `driver::advance` says the same with the machine by value.
@@ -84,86 +81,66 @@ fn lend(
 
 // An image of either version is restored; of version 1 the count is 0. The panel goes on by the timer-skipping runner, stops at the code
 // that is none, with number 23, and is saved as version 2.
-fn morning(
-    rt: &impl Print,
-    told: Told,
+fn morning<W: Write>(
+    out: &mut Output<W>,
     rom: &[u8],
     log: &mut [u8],
+    at: usize,
     old: &[u8],
     image: &mut [u8],
-) -> Output {
-    let kept = restore::restore(old, upd546::upd546_sheet());
-    let outcome = kept.outcome;
-    let before = told.out;
-    let out = tell(rt, before, b"restored", outcome);
-    let schedule = [0u8; 0];
-    let state = kept.state;
+) -> Result<(), Cut> {
+    let sheet = upd546::upd546_sheet();
+    let kept = restore::restore(old, sheet);
+    tell(out, b"restored", kept.outcome)?;
     let answer = driver::advance_from(
-        KeptMachine { state },
+        KeptMachine { state: kept.state },
         Runner::Skipping,
         rom,
-        &schedule,
+        &[],
         log,
-        told.at,
+        at,
         MachineCycles(7),
-        upd546::upd546_sheet(),
+        sheet,
     );
-    let shown = show(rt, out, answer, log, told.at);
-    let machine = answer.machine;
-    tell(
-        rt,
-        shown,
-        b"saved as version 2",
-        save::save(machine.state, Version::Two, image, upd546::upd546_sheet()),
-    )
+    show(out, answer.report, &log[at.min(log.len())..])?;
+    let saved = save::save(answer.machine.state, Version::Two, image, sheet);
+    tell(out, b"saved as version 2", saved)
 }
 
 // No count is above 4, so the image is refused with 34. The answer's state is the fresh one.
-fn damaged(rt: &impl Print, before: Output, image: &[u8]) -> Output {
+fn damaged<W: Write>(out: &mut Output<W>, image: &[u8]) -> Result<(), Cut> {
     let kept = restore::restore(image, upd546::upd546_sheet());
-    let outcome = kept.outcome;
-    tell(rt, before, b"damaged", outcome)
+    tell(out, b"damaged", kept.outcome)
 }
 
-// The records that a run wrote from a place of the log on, its cycles and instructions, and its number.
-fn show(rt: &impl Print, before: Output, answer: DriveAnswer, log: &[u8], at: usize) -> Output {
-    let report = answer.report;
-    let listed = records(rt, before, log, at, report.written);
-    let end = report.end;
-    let mut out = streams::write(rt, listed, b"end ");
-    out = streams::write_number(rt, out, report.cycles.0, b' ');
-    out = streams::write_number(rt, out, report.begun, b' ');
-    streams::write_number(rt, out, runs::end_number(end) as u64, b'\n')
-}
-
-// Each record: the cycle, the port and its latch after the write.
-fn records(rt: &impl Print, before: Output, log: &[u8], from: usize, written: usize) -> Output {
-    let mut out = before;
-    let mut at = from;
-    let mut left = written;
-    while LOG_RECORD <= left {
-        if log.len() < LOG_RECORD {
-            return out;
-        }
-        if log.len() - LOG_RECORD < at {
-            return out;
-        }
-        out = streams::write(rt, out, b"record ");
-        out = streams::write_number(rt, out, big_endian::number_at(log, at, CYCLE_BYTES), b' ');
-        out = byte(rt, out, log[at + 6], b' ');
-        out = byte(rt, out, log[at + 7], b'\n');
-        at += LOG_RECORD;
-        left -= LOG_RECORD;
+// The records that a run wrote, at the front of its part of the log; its cycles and instructions, and its number.
+fn show<W: Write>(out: &mut Output<W>, report: Report, log: &[u8]) -> Result<(), Cut> {
+    let written = &log[..report.written.min(log.len())];
+    for record in written.chunks_exact(LOG_RECORD) {
+        write_record(out, record)?;
     }
-    out
+    out.write(b"end ")?;
+    out.write_number(report.cycles.0, b' ')?;
+    out.write_number(report.begun, b' ')?;
+    out.write_number(u64::from(runs::end_number(report.end)), b'\n')
 }
 
-fn tell(rt: &impl Print, before: Output, what: &[u8], outcome: Outcome) -> Output {
-    let named = streams::write(rt, before, what);
-    let out = streams::write(rt, named, b" ");
-    streams::write_number(rt, out, runs::outcome_number(outcome) as u64, b'\n')
+// A record: the cycle, the port and its latch after the write.
+fn write_record<W: Write>(out: &mut Output<W>, bytes: &[u8]) -> Result<(), Cut>
+    requires { length bytes.now ≡ 8 }
+{
+    out.write(b"record ")?;
+    out.write_number(big_endian::number_at(bytes, 0, CYCLE_BYTES), b' ')?;
+    out.write_number(u64::from(bytes[6]), b' ')?;
+    out.write_number(u64::from(bytes[7]), b'\n')
 }
 
-fn byte(rt: &impl Print, before: Output, b: u8, after: u8) -> Output {
-    streams::write_number(rt, before, b as u64, after)
+fn tell<W: Write>(
+    out: &mut Output<W>,
+    what: &[u8],
+    outcome: Result<(), Refusal>,
+) -> Result<(), Cut> {
+    out.write(what)?;
+    out.write(b" ")?;
+    out.write_number(u64::from(runs::outcome_number(outcome)), b'\n')
 }

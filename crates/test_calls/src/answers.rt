@@ -1,101 +1,86 @@
 // What the calls leave: told in a line, chained to one digest, or summed to a list.
-use test_stream::{
-    Command, Session, Sums, column, digest, digest_first, eight, last_column, mixed, untouched,
-    with_list,
-};
+use test_stream::{Command, Done, Session, Wanted, digest, eight, front, is_refusal, untouched};
 
 // The bytes of a report.
 const REPORT: usize = 32;
 
-// What a call left, as the command wants it. `before` is the image's digest before the call.
-pub(crate) fn answered(
-    rt: &impl Print,
-    c: Command,
-    s: Session,
-    number: u8,
-    before: u64,
-    image: &[u8],
-    log: &[u8],
-    report: &[u8],
-) -> Session {
-    let value = c.value;
-    match value {
-        0 => tell(rt, s, number, image, log, report),
-        1 => chained(s, number, image, log, report),
-        _ => listed(s, c.n, number, before, image, log, report),
+// A call's number, the digest of its image before it, and what it left.
+#[derive(Clone, Copy)]
+pub(crate) struct Left<'a> {
+    pub number: u8,
+    pub before: u64,
+    pub image: &'a [u8],
+    pub log: &'a [u8],
+    pub report: &'a [u8],
+}
+
+impl Left<'_> {
+    // What it left, as the command wants it.
+    pub(crate) fn answer(self, rt: &impl Print, c: Command, session: &mut Session) {
+        match c.wanted() {
+            Wanted::Line => self.tell(rt),
+            Wanted::Group => self.chain(session),
+            Wanted::List | Wanted::Other => self.list(c.n, session),
+        }
     }
-}
 
-// A line: number, the report's counts, and digests of image, log and report.
-fn tell(
-    rt: &impl Print,
-    s: Session,
-    number: u8,
-    image: &[u8],
-    log: &[u8],
-    report: &[u8],
-) -> Session {
-    column(rt, number as u64);
-    column(rt, eight(report, 0));
-    column(rt, eight(report, 8));
-    column(rt, eight(report, 16));
-    column(rt, eight(report, 24));
-    column(rt, digest(0, image));
-    column(rt, digest(0, log));
-    last_column(rt, digest(0, report));
-    s
-}
-
-// One call more of a group: its number, report, image and log.
-fn chained(s: Session, number: u8, image: &[u8], log: &[u8], report: &[u8]) -> Session {
-    let h = digest(mixed(s.digest, number as u64), report);
-    let h = digest(h, image);
-    test_stream::chained(s, number, digest(h, log))
-}
-
-// One call more of a list.
-fn listed(
-    s: Session,
-    asked: u64,
-    number: u8,
-    before: u64,
-    image: &[u8],
-    log: &[u8],
-    report: &[u8],
-) -> Session {
-    let list = s.list;
-    if test_stream::is_refusal(number) {
-        let clean = (digest(0, image) == before) & untouched(log, 0) & counts_nothing(report);
-        return with_list(s, test_stream::refused(list, number, clean));
+    // Cycles, instructions, log bytes and steps, as the report has them.
+    fn counts(self) -> [u64; 4] {
+        [0, 8, 16, 24].map(|at| eight(self.report, at))
     }
-    let written = eight(report, 16);
-    let mut sums = test_stream::called(
-        list,
-        asked,
-        number,
-        eight(report, 0),
-        eight(report, 8),
-        written,
-    );
-    sums.log = digest_first(list.log, log, written as usize);
-    sums.right = sums.right & untouched(log, written as usize);
-    with_list(s, sums)
-}
 
-// Whether a report is that of a refusal: 32 zeros; one that is shorter stays as it was.
-fn counts_nothing(report: &[u8]) -> bool {
-    if report.len() < REPORT {
-        return untouched(report, 0);
+    // A line: number, the report's counts, and digests of image, log and report.
+    fn tell(self, rt: &impl Print) {
+        let number = self.number;
+        let [cycles, begun, written, steps] = self.counts();
+        let _ = println!(rt;
+            "{number} {cycles} {begun} {written} {steps} {} {} {}",
+            digest(0, self.image),
+            digest(0, self.log),
+            digest(0, self.report)
+        );
     }
-    (eight(report, 0) == 0)
-        & (eight(report, 8) == 0)
-        & (eight(report, 16) == 0)
-        & (eight(report, 24) == 0)
-}
 
-// The list with the image that it ends with.
-pub(crate) fn with_image(s: Session, image: &[u8]) -> Sums {
-    let mut list = s.list;
-    list.kept = digest_first(0, image, s.image);
-    list
+    // One call more of a group: its number, report, image and log.
+    fn chain(self, session: &mut Session) {
+        let h = digest(session.next(self.number), self.report);
+        let h = digest(h, self.image);
+        session.chained(self.number, digest(h, self.log));
+    }
+
+    // One call more of a list.
+    fn list(self, asked: u64, session: &mut Session) {
+        let number = self.number;
+        let list = &mut session.list;
+        if is_refusal(number) {
+            list.refused(number, self.changes_nothing());
+            return;
+        }
+        let [cycles, begun, written, _] = self.counts();
+        list.called(
+            asked,
+            Done {
+                number,
+                cycles,
+                begun,
+                written,
+            },
+        );
+        let size = written as usize;
+        list.sums.log = digest(list.sums.log, front(self.log, size));
+        list.wrong |= !untouched(self.log, size);
+    }
+
+    // Whether a refused call left image and log as they were, and a report that counts nothing.
+    fn changes_nothing(self) -> bool {
+        digest(0, self.image) == self.before && untouched(self.log, 0) && self.counts_nothing()
+    }
+
+    // Whether the report is that of a refusal: 32 zeros; one that is shorter stays as it was.
+    fn counts_nothing(self) -> bool {
+        if self.report.len() < REPORT {
+            return untouched(self.report, 0);
+        }
+        self.report.iter().take(REPORT).all(|x| *x == 0)
+    }
 }

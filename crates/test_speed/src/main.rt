@@ -2,24 +2,18 @@
 // It may not know how a run goes, nor the time.
 #![tactic(auto)]
 
-ghost use Rattle.std.specs.Prelude.{◌<◌, ◌≤◌, length};
-
 use runs::MachineCycles;
-use test_stream::{column, last_column};
+use test_stream::{byte, front, long, word};
 use upd546::{RunAnswer, Sheet, State};
 
 // Before the ROM stand the runner (1 byte: 0 plain, any other timer-skipping), how many slices there are, how many cycles each has (4
-// bytes each), and the sheet: ROM bytes (2), rows (1) and levels (1). Behind the ROM, which has as many bytes as the sheet says, stands the
+// bytes each), and the sheet: ROM bytes (2), rows (1) and levels (1). After the ROM, which has as many bytes as the sheet says, stands the
 // schedule. Numbers are big-endian.
 const SLICES_AT: usize = 1;
 
 const CYCLES_AT: usize = 5;
 
-const NUMBER_LENGTH: usize = 4;
-
 const ROM_BYTES_AT: usize = 9;
-
-const ROM_BYTES_LENGTH: usize = 2;
 
 const ROWS_AT: usize = 11;
 
@@ -27,11 +21,29 @@ const LEVELS_AT: usize = 12;
 
 const ROM_AT: usize = 13;
 
+// The bytes of a record.
+const LOG_RECORD: usize = 8;
+
+// The buffer holds more than every load.
+const LONGEST: usize = 65536;
+
 // 16n bytes for a slice of 100,000 cycles, which has room for all its records.
 const LOG_LENGTH: usize = 16 * 100000;
 
-// What the slices gave together, and the last PC. The digest is of the last bytes that each slice wrote.
+// What is run, and whether by the timer-skipping runner: a bool, since the driver's `Runner` is of a crate that this program does without,
+// to measure the runner alone.
 #[derive(Clone, Copy)]
+struct Load<'a> {
+    skips: bool,
+    slices: u32,
+    cycles: MachineCycles,
+    sheet: Sheet,
+    rom: &'a [u8],
+    schedule: &'a [u8],
+}
+
+// What the slices gave together, and the last PC. The digest is of the last bytes that each slice wrote.
+#[derive(Clone, Copy, Default)]
 struct Sums {
     cycles: u64,
     begun: u64,
@@ -41,135 +53,86 @@ struct Sums {
     pc: u16,
 }
 
-// The buffer holds more than every load.
 fn main(rt: HostRuntime) {
-    let mut input = io::large_buffer();
+    let mut input = [0; LONGEST];
     let got = test_stream::read_full(&rt, &mut input);
-    measure(&rt, &input[..got]);
-}
-
-// Where the schedule begins, or a place past the input's end where the input is cut short before it.
-fn schedule_at(input: &[u8]) -> usize
-    ensures { 13 ≤ result }
-{
-    if input.len() < ROM_AT {
-        return ROM_AT;
-    }
-    ROM_AT + big_endian::number_at(input, ROM_BYTES_AT, ROM_BYTES_LENGTH) as usize
-}
-
-fn sheet_of(input: &[u8]) -> Sheet
-    requires { 13 ≤ length input.now }
-{
-    Sheet {
-        rom: big_endian::number_at(input, ROM_BYTES_AT, ROM_BYTES_LENGTH),
-        rows: wide(input[ROWS_AT]),
-        levels: wide(input[LEVELS_AT]),
+    match Load::of(&input[..got]) {
+        Some(load) => load.run().tell(&rt),
+        None => test_stream::put(&rt, b"the input is cut short\n"),
     }
 }
 
-fn measure(rt: &impl Print, input: &[u8]) {
-    let end = schedule_at(input);
-    if input.len() < end {
-        test_stream::put(rt, b"the input is cut short\n");
-        return;
+impl Load<'_> {
+    // The load that an input is, unless it is cut short.
+    fn of(input: &[u8]) -> Option<Load<'_>> {
+        let (head, rest) = input.split_at_checked(ROM_AT)?;
+        let rom_bytes = word(head, ROM_BYTES_AT);
+        let (rom, schedule) = rest.split_at_checked(usize::from(rom_bytes))?;
+        Some(Load {
+            skips: byte(head, 0) != 0,
+            slices: long(head, SLICES_AT),
+            cycles: MachineCycles(u64::from(long(head, CYCLES_AT))),
+            sheet: Sheet {
+                rom: u64::from(rom_bytes),
+                rows: u64::from(byte(head, ROWS_AT)),
+                levels: u64::from(byte(head, LEVELS_AT)),
+            },
+            rom,
+            schedule,
+        })
     }
-    let slices = big_endian::number_at(input, SLICES_AT, NUMBER_LENGTH);
-    let n = MachineCycles(big_endian::number_at(input, CYCLES_AT, NUMBER_LENGTH));
-    print(
-        rt,
-        run_slices(
-            &input[ROM_AT..end],
-            &input[end..],
-            input[0],
-            slices,
-            n,
-            sheet_of(input),
-        ),
-    );
+
+    // The slices, one after the other, each with the same log.
+    fn run(self) -> Sums {
+        let mut log = [0; LOG_LENGTH];
+        let mut state = upd546::fresh_state();
+        let mut sums = Sums::default();
+        for _ in 0..self.slices {
+            let answer = self.run_slice(state, &mut log);
+            sums.count(&answer, front(&log, answer.written));
+            state = answer.state;
+        }
+        sums
+    }
+
+    fn run_slice(self, state: State, log: &mut [u8; LOG_LENGTH]) -> RunAnswer {
+        if self.skips {
+            runner::run_skipping(self.rom, self.schedule, state, log, self.cycles, self.sheet)
+        } else {
+            runner::run_plain(self.rom, self.schedule, state, log, self.cycles, self.sheet)
+        }
+    }
 }
 
-// The slices, one after the other, each with the same log.
-fn run_slices(
-    rom: &[u8],
-    schedule: &[u8],
-    runner: u8,
-    slices: u64,
-    n: MachineCycles,
-    sheet: Sheet,
-) -> Sums
-    requires { slices < 4294967296 }
-{
-    let mut log = [0u8; LOG_LENGTH];
-    let mut state = upd546::fresh_state();
-    let mut sums = Sums {
-        cycles: 0,
-        begun: 0,
-        bytes: 0,
-        steps: 0,
-        digest: 0,
-        pc: 0,
-    };
-    let mut k: u64 = 0;
-    while k < slices {
-        let answer = run_slice(rom, schedule, state, &mut log, runner, n, sheet);
-        sums = counted(sums, answer, &log);
-        let next = answer.state;
-        state = next;
-        k += 1;
+impl Sums {
+    // One slice more, and the bytes of the log that it wrote.
+    fn count(&mut self, answer: &RunAnswer, written: &[u8]) {
+        self.cycles = self.cycles.wrapping_add(answer.cycles.0);
+        self.begun = self.begun.wrapping_add(answer.begun);
+        self.bytes = self.bytes.wrapping_add(answer.written as u64);
+        self.steps = self.steps.wrapping_add(answer.steps);
+        self.digest = digest(self.digest, written);
+        self.pc = answer.state.core.flow.pc;
     }
-    sums
-}
 
-fn run_slice(
-    rom: &[u8],
-    schedule: &[u8],
-    state: State,
-    log: &mut [u8; LOG_LENGTH],
-    runner: u8,
-    n: MachineCycles,
-    sheet: Sheet,
-) -> RunAnswer {
-    if runner != 0 {
-        return runner::run_skipping(rom, schedule, state, log, n, sheet);
-    }
-    runner::run_plain(rom, schedule, state, log, n, sheet)
-}
-
-fn counted(sums: Sums, answer: RunAnswer, log: &[u8; LOG_LENGTH]) -> Sums {
-    Sums {
-        cycles: std::num::wrapping_add_u64(sums.cycles, answer.cycles.0),
-        begun: std::num::wrapping_add_u64(sums.begun, answer.begun),
-        bytes: std::num::wrapping_add_u64(sums.bytes, answer.written as u64),
-        steps: std::num::wrapping_add_u64(sums.steps, answer.steps),
-        digest: digest(sums.digest, log, answer.written),
-        pc: answer.state.core.flow.pc,
+    fn tell(self, rt: &impl Print) {
+        let Sums {
+            cycles,
+            begun,
+            bytes,
+            steps,
+            digest,
+            pc,
+        } = self;
+        let _ = println!(rt; "{cycles} {begun} {bytes} {steps} {digest} {pc}");
     }
 }
 
 // The last record's lowest byte of the cycle, and its value.
-fn digest(sum: u32, log: &[u8; LOG_LENGTH], written: usize) -> u32 {
-    if written < 8 {
+fn digest(sum: u32, written: &[u8]) -> u32 {
+    let Some(record) = written.last_chunk::<LOG_RECORD>() else {
         return sum;
-    }
-    if written > LOG_LENGTH {
-        return sum;
-    }
-    let last = 256 * wide(log[written - 3]) + wide(log[written - 1]);
-    (((sum as u64) * 31 + last) % 1000000007) as u32
-}
-
-fn wide(x: u8) -> u64
-    ensures { result < 256 }
-{
-    x as u64
-}
-
-fn print(rt: &impl Print, sums: Sums) {
-    column(rt, sums.cycles);
-    column(rt, sums.begun);
-    column(rt, sums.bytes);
-    column(rt, sums.steps);
-    column(rt, sums.digest as u64);
-    last_column(rt, sums.pc as u64);
+    };
+    let last = 256 * u64::from(record[5]) + u64::from(record[7]);
+    ((u64::from(sum) * 31 + last) % 1000000007) as u32
 }

@@ -1,11 +1,11 @@
 // What the programs of the tests share that give states as values. The value of a state: the bytes of its fields, each as it stands there.
 // PC, stack, Acc, C, C', DPH, DPL, INT, INTE, TM, level, mark, owed, register, counter, ports, RAM, cycle number, count of cycles with RES
-// high. And the bytes of a sheet. It may not know how a run, a save or a restore goes.
+// high. It may not know how a run, a save or a restore goes.
 #![tactic(auto)]
 
 use runs::MachineCycles;
-use test_stream::{byte, copy, digest, eight, lay, store, word};
-use upd546::{Core, Flow, Interrupt, LATCHES, RAM_WORDS, Registers, Sheet, State, Timer};
+use test_stream::{byte, digest, eight, lay, part, word};
+use upd546::{Core, Flow, Interrupt, LATCHES, RAM_WORDS, Registers, State, Timer};
 
 const PORTS_AT: usize = 21;
 
@@ -17,27 +17,12 @@ const COUNT_AT: usize = CYCLE_AT + 8;
 
 pub const LENGTH: usize = COUNT_AT + 1;
 
-// The bytes of a sheet: ROM bytes, rows and levels, 8 each.
-pub const SHEET: usize = 24;
-
-pub fn sheet_of(bytes: &[u8]) -> Sheet {
-    Sheet {
-        rom: eight(bytes, 0),
-        rows: eight(bytes, 8),
-        levels: eight(bytes, 16),
-    }
-}
-
+// The state of a value. No From: neither the bytes nor State is a type of this crate.
 pub fn state_of(value: &[u8]) -> State {
-    let core = core_of(value);
-    let mut ports = [0u8; LATCHES];
-    copy(&mut ports, value, PORTS_AT);
-    let mut ram = [0u8; RAM_WORDS];
-    copy(&mut ram, value, RAM_AT);
     State {
-        core,
-        ports,
-        ram,
+        core: core_of(value),
+        ports: part(value, PORTS_AT),
+        ram: part(value, RAM_AT),
         count: byte(value, COUNT_AT),
         cycle: MachineCycles(eight(value, CYCLE_AT)),
     }
@@ -71,26 +56,21 @@ fn core_of(value: &[u8]) -> Core {
     }
 }
 
-// The value of a state.
-pub fn put(value: &mut [u8], s: State) {
-    let core = s.core;
-    let ports = s.ports;
-    let ram = s.ram;
-    let mut cycle = [0u8; 8];
-    big_endian::put_eight(&mut cycle, s.cycle.0);
-    put_core(value, core);
-    lay(value, PORTS_AT, &ports);
-    lay(value, RAM_AT, &ram);
-    lay(value, CYCLE_AT, &cycle);
-    store(value, COUNT_AT, s.count);
+// The value of a state, to the front of some bytes. What falls past their end is lost.
+pub fn put(value: &mut [u8], s: &State) {
+    put_core(value, s.core);
+    lay(value, PORTS_AT, &s.ports);
+    lay(value, RAM_AT, &s.ram);
+    lay(value, CYCLE_AT, &s.cycle.0.to_be_bytes());
+    lay(value, COUNT_AT, &[s.count]);
 }
 
 fn put_core(value: &mut [u8], c: Core) {
-    let stack = c.flow.stack;
-    put_address(value, 0, c.flow.pc);
-    put_address(value, 2, stack[0]);
-    put_address(value, 4, stack[1]);
-    put_address(value, 6, stack[2]);
+    let [first, second, third] = c.flow.stack;
+    lay(value, 0, &c.flow.pc.to_be_bytes());
+    lay(value, 2, &first.to_be_bytes());
+    lay(value, 4, &second.to_be_bytes());
+    lay(value, 6, &third.to_be_bytes());
     let bytes = [
         c.registers.acc,
         c.registers.carry,
@@ -109,13 +89,9 @@ fn put_core(value: &mut [u8], c: Core) {
     lay(value, 8, &bytes);
 }
 
-fn put_address(value: &mut [u8], at: usize, x: u16) {
-    lay(value, at, &[(x / 256 % 256) as u8, (x % 256) as u8]);
-}
-
-// The digest of a state's value, behind bytes that have the digest h.
-pub fn digest_of(h: u64, s: State) -> u64 {
-    let mut value = [0u8; LENGTH];
+// The digest of a state's value, after bytes that have the digest h.
+pub fn digest_of(h: u64, s: &State) -> u64 {
+    let mut value = [0; LENGTH];
     put(&mut value, s);
     digest(h, &value)
 }

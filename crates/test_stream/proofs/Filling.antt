@@ -1,5 +1,5 @@
 -- A list that is filled from its front, entry by entry. Assumes nothing.
-use Rattle.std.proofs.Common.{◌≡◌, ℕ, zero, suc, ◌+◌, ◌<◌, ◌≤◌, List, [], ◌∷◌, ◌++◌, length, get_or, drop, set, sym, refl, ap, ◌∙◌, append-nil, add-one, arith, drop_of_length-le, drop-cons}
+use Rattle.std.proofs.Common.{◌≡◌, ℕ, zero, suc, ◌+◌, ◌<◌, List, [], ◌∷◌, ◌++◌, length, get_or, drop, set, sym, refl, ap, ◌∙◌, add-one, drop-cons}
 use lib.Seq.{set_at, append_snoc}
 use Rattle.upd546.specs.Sequences.{entries}
 
@@ -18,9 +18,3 @@ filled_more f l i x h e =
     let front : set (entries i f ++ drop i l) i x ≡ entries i f ++ x ∷ rest = rw (drop-cons l i 0 h) (set_at (entries i f) (get_or l i 0) rest x i (length-entries i f)) in
     let back : entries (suc i) f ++ rest ≡ entries i f ++ f i ∷ rest = ap (λ (a : List ℕ). a ++ rest) (entries-snoc i f) ∙ append_snoc (entries i f) (f i) rest in
     rw (add-one i) (front ∙ ap (λ (y : ℕ). entries i f ++ y ∷ rest) e ∙ sym back)
-
--- all of them
-pub filled_all : (f : ℕ → ℕ) (l : List ℕ) (i : ℕ) → i ≤ length l → length l ≤ i → entries i f ++ drop i l ≡ entries (length l) f
-filled_all f l i h k =
-    let all : i ≡ length l = omega arith in
-    rw (drop_of_length-le l k, all) (append-nil (entries (length l) f))

@@ -3,16 +3,16 @@ ghost use Rattle.std.specs.Prelude.{◌≡◌, ◌+◌, ◌*◌, ◌%◌, ◌<�
 ghost use Rattle.upd546.specs.Sequences.{entries};
 ghost use Rattle.test_stream.specs.Streams.{pattern_at, digest_from};
 
-use crate::numbers::{least, store};
+// A prime.
+const MODULUS: u64 = 1_000_000_007;
 
 // What stands in a log, a report or a buffer before a call.
+#[tactic(auto, using(crate::proofs::Filling::filled_more))]
 pub fn fill(bytes: &mut [u8])
     ensures { bytes.new ≡ entries (length bytes.old) pattern_at }
 {
-    let mut i = 0;
-    while i < bytes.len() {
-        store(bytes, i, pattern(i));
-        i += 1;
+    for (i, x) in bytes.iter_mut().enumerate() {
+        *x = pattern(i);
     }
 }
 
@@ -24,33 +24,22 @@ pub fn pattern(i: usize) -> u8
 
 // Whether the bytes from a place on are those that stood there before the call.
 pub fn untouched(bytes: &[u8], from: usize) -> bool {
-    let mut i = from;
-    while i < bytes.len() {
-        if bytes[i] != pattern(i) {
-            return false;
-        }
-        i += 1;
-    }
-    true
+    bytes
+        .iter()
+        .enumerate()
+        .skip(from)
+        .all(|(i, x)| *x == pattern(i))
 }
 
 // The digest of bytes, of which those before have the digest h.
 pub fn digest(h: u64, bytes: &[u8]) -> u64
     ensures { result ≡ digest_from (h % 1000000007) bytes.now }
 {
-    let mut d = h % 1000000007;
-    let mut i = 0;
-    while i < bytes.len() {
-        d = step(d, bytes[i]);
-        i += 1;
+    let mut d = h % MODULUS;
+    for x in bytes {
+        d = step(d, *x);
     }
     d
-}
-
-// The same of the first bytes alone.
-pub fn digest_first(h: u64, bytes: &[u8], count: usize) -> u64 {
-    let size = least(count, bytes.len());
-    digest(h, &bytes[..size])
 }
 
 // One byte more.
@@ -58,7 +47,7 @@ fn step(h: u64, x: u8) -> u64
     requires { h < 1000000007 }
     ensures { (result ≡ (h * 257 + x + 1) % 1000000007) × (result < 1000000007) }
 {
-    (h * 257 + x as u64 + 1) % 1000000007
+    (h * 257 + u64::from(x) + 1) % MODULUS
 }
 
 // A number more, taken as one byte is. Where one of several differs by less than the modulus, so does what they are mixed to: 257 has an
@@ -66,5 +55,5 @@ fn step(h: u64, x: u8) -> u64
 pub fn mixed(h: u64, x: u64) -> u64
     ensures { result < 1000000007 }
 {
-    (h % 1000000007 * 257 + x % 1000000007 + 1) % 1000000007
+    (h % MODULUS * 257 + x % MODULUS + 1) % MODULUS
 }

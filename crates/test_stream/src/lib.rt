@@ -1,21 +1,20 @@
-// What the programs of the tests share: numbers in bytes and on standard output, what stands in a buffer before a call, digests, the
-// commands of a stream, what is carried from command to command, and what a list of calls comes to. The commands are told at the top
-// of tests/reference/src/bin/trials/stream.rs. It may not know how a call, a run, a save or a restore goes.
+// What the programs of the tests share: the commands of a stream and the cases of a file, what calls are lent, numbers in bytes, what stands
+// in a buffer before a call, digests, what is carried from command to command, and what a list of calls comes to. The commands are told at
+// the top of tests/reference/src/bin/trials/stream.rs. It may not know how a call, a run, a save or a restore goes.
 #![tactic(auto)]
 
-mod columns;
+mod cases;
 mod commands;
 mod digests;
+mod lent;
 mod lists;
 mod numbers;
 mod sessions;
 
-pub use columns::{column, last_column, number, put};
-pub use commands::{Command, LIST, bytes, read_command, read_full};
-pub use digests::{digest, digest_first, fill, mixed, untouched};
-pub use lists::{Sums, Tally, called, refused};
-pub use numbers::{byte, copy, eight, lay, least, long, store, word};
-pub use sessions::{
-    Session, begin, buffer_answered, chained, end_list, is_refusal, listed, read, remember,
-    stopped, tell_group, tell_panel, unknown, with_list,
-};
+pub use cases::try_cases;
+pub use commands::{Command, End, Wanted, carry_out, put, read_exact, read_full};
+pub use digests::{digest, fill, mixed, untouched};
+pub use lent::{Lent, front, front_mut};
+pub use lists::{Done, List, Sums};
+pub use numbers::{SHEET, byte, eight, lay, long, part, sheet_of, store, word};
+pub use sessions::{Session, is_refusal};

@@ -1,65 +1,48 @@
-// Numbers in bytes, big-endian. Past their end bytes read 0.
-ghost use Rattle.std.specs.Prelude.{◌≡◌, ◌+◌, ◌*◌, min, slice_index, slice_set};
-ghost use Rattle.test_stream.specs.Streams.{number_in};
+// Numbers in bytes, big-endian. Past their end bytes read 0 and stores are lost, whatever place a command names; so a slice comes whole
+// with a place in it, and no cut, which has no past (`slice_index`, `slice_set`).
+ghost use Rattle.std.specs.Prelude.{◌≡◌, ◌+◌, slice_index, slice_set};
+ghost use Rattle.upd546.specs.Sequences.{entries};
+ghost use Rattle.test_stream.specs.Streams.{number_in, sheet_in};
+
+use upd546::Sheet;
 
 pub fn byte(bytes: &[u8], at: usize) -> u8
     ensures { result ≡ slice_index bytes.now at }
 {
-    if at < bytes.len() {
-        return bytes[at];
-    }
-    0
-}
-
-fn two(high: u8, low: u8) -> u16
-    ensures { result ≡ high * 256 + low }
-{
-    (high as u16) * 256 + (low as u16)
-}
-
-fn four(high: u16, low: u16) -> u32
-    ensures { result ≡ high * 65536 + low }
-{
-    (high as u32) * 65536 + (low as u32)
-}
-
-fn joined(high: u32, low: u32) -> u64
-    ensures { result ≡ high * 4294967296 + low }
-{
-    (high as u64) * 4294967296 + (low as u64)
+    bytes.get(at).copied().unwrap_or(0)
 }
 
 // Two bytes.
 pub fn word(bytes: &[u8], at: usize) -> u16
     ensures { result ≡ number_in bytes.now at 2 }
 {
-    if bytes.len() <= at {
-        return 0;
-    }
-    let rest = &bytes[at..];
-    two(byte(rest, 0), byte(rest, 1))
+    u16::from_be_bytes(part(bytes, at))
 }
 
 // Four bytes.
 pub fn long(bytes: &[u8], at: usize) -> u32
     ensures { result ≡ number_in bytes.now at 4 }
 {
-    if bytes.len() <= at {
-        return 0;
-    }
-    let rest = &bytes[at..];
-    four(word(rest, 0), word(rest, 2))
+    u32::from_be_bytes(part(bytes, at))
 }
 
 // Eight bytes.
 pub fn eight(bytes: &[u8], at: usize) -> u64
     ensures { result ≡ number_in bytes.now at 8 }
 {
-    if bytes.len() <= at {
-        return 0;
+    u64::from_be_bytes(part(bytes, at))
+}
+
+// The bytes from a place on, as many as are wanted.
+pub fn part<const N: usize>(bytes: &[u8], at: usize) -> [u8; N]
+    ensures { result ≡ entries N (λ i. slice_index bytes.now (at + i)) }
+{
+    let rest = &bytes[at.min(bytes.len())..];
+    let mut part = [0; N];
+    for (i, x) in part.iter_mut().enumerate() {
+        *x = byte(rest, i);
     }
-    let rest = &bytes[at..];
-    joined(long(rest, 0), long(rest, 4))
+    part
 }
 
 // A store past the end is lost.
@@ -71,29 +54,23 @@ pub fn store(target: &mut [u8], at: usize, x: u8)
     }
 }
 
-// All of a target, from the bytes behind a place.
-pub fn copy(target: &mut [u8], from: &[u8], at: usize) {
-    let mut i = 0;
-    while i < target.len() {
-        store(target, i, byte(from, std::num::wrapping_add_usize(at, i)));
-        i += 1;
-    }
-}
-
 // All of some bytes, to a place of a target. What falls past its end is lost.
 pub fn lay(target: &mut [u8], at: usize, from: &[u8]) {
-    let mut i = 0;
-    while i < from.len() {
-        store(target, std::num::wrapping_add_usize(at, i), from[i]);
-        i += 1;
+    for (x, y) in target.iter_mut().skip(at).zip(from) {
+        *x = *y;
     }
 }
 
-pub fn least(a: usize, b: usize) -> usize
-    ensures { result ≡ min a b }
+// The bytes of a sheet: ROM bytes, rows and levels, 8 each.
+pub const SHEET: usize = 24;
+
+// The sheet that bytes are.
+pub fn sheet_of(bytes: &[u8]) -> Sheet
+    ensures { result ≡ sheet_in bytes.now }
 {
-    if a < b {
-        return a;
+    Sheet {
+        rom: eight(bytes, 0),
+        rows: eight(bytes, 8),
+        levels: eight(bytes, 16),
     }
-    b
 }

@@ -1,143 +1,105 @@
 // What is carried from command to command, besides the buffers.
-use crate::columns::{column, last_column};
-use crate::commands::{Command, LIST};
+ghost use Rattle.std.specs.Prelude.{◌≡◌};
+ghost use Rattle.test_stream.specs.Commands.{is_refused};
+
+use crate::commands::{Command, End, Wanted};
 use crate::digests::{digest, mixed, untouched};
-use crate::lists::{Sums, Tally};
-use crate::{commands, lists};
-use std::num::wrapping_add_u64;
+use crate::lists::{Done, List, Sums, Tally};
 
-// How long ROM, schedule, image and the image that is kept are; a group's calls, how many of them were refused, and a digest of all that
-// they left; the list on its way, the one that is remembered, and what the lists came to.
-#[derive(Clone, Copy)]
+// A group's calls, how many of them were refused, and a digest of all that they left.
+#[derive(Clone, Copy, Default)]
+struct Group {
+    calls: u64,
+    refused: u64,
+    digest: u64,
+}
+
+// The group and the list on their way, the list that is remembered, and what the lists came to.
+#[derive(Clone, Copy, Default)]
 pub struct Session {
-    pub on: bool,
-    pub rom: usize,
-    pub schedule: usize,
-    pub image: usize,
-    pub kept: usize,
-    pub calls: u64,
-    pub refused: u64,
-    pub digest: u64,
-    pub list: Sums,
-    pub whole: Sums,
-    pub tally: Tally,
+    group: Group,
+    pub list: List,
+    whole: Sums,
+    tally: Tally,
 }
 
-pub fn begin() -> Session {
-    Session {
-        on: true,
-        rom: 0,
-        schedule: 0,
-        image: 0,
-        kept: 0,
-        calls: 0,
-        refused: 0,
-        digest: 0,
-        list: lists::no_calls(),
-        whole: lists::no_calls(),
-        tally: lists::no_lists(),
+// All numbers but those of a finish and of the stops. The numbers stand here once more: a test may not take them from what it tests
+// (`board::ran`).
+pub fn is_refusal(number: u8) -> bool
+    ensures { result ≡ is_refused number }
+{
+    !matches!(number, 0 | 3 | 22 | 23)
+}
+
+impl Session {
+    // A command that every program has.
+    pub fn other(&mut self, rt: &impl Print, c: Command) -> Result<(), End> {
+        match c.letter {
+            b'G' => self.tell_group(rt),
+            b'.' => return Err(End::Asked),
+            letter => return Err(End::Unknown(letter)),
+        }
+        Ok(())
     }
-}
 
-pub fn stopped(s: Session) -> Session {
-    let mut t = s;
-    t.on = false;
-    t
-}
-
-// There is no such command.
-pub fn unknown(rt: &impl Print, s: Session, letter: u8) -> Session {
-    commands::tell_unknown(rt, letter);
-    stopped(s)
-}
-
-// Where bytes that a command announces aren't there, the stream is cut short.
-pub fn read(rt: &impl Print, s: Session, there: bool) -> Session {
-    if there {
-        return s;
+    // The group's digest, and after it the number of its next call.
+    pub fn next(&self, number: u8) -> u64 {
+        mixed(self.group.digest, u64::from(number))
     }
-    unknown(rt, s, 0)
-}
 
-// All numbers but those of a finish and of the stops.
-pub fn is_refusal(number: u8) -> bool {
-    match number {
-        0 | 3 | 22 | 23 => false,
-        _ => true,
+    // One call more of the group, with the digest of all so far.
+    pub fn chained(&mut self, number: u8, h: u64) {
+        self.group.digest = h;
+        self.group.calls = self.group.calls.wrapping_add(1);
+        if is_refusal(number) {
+            self.group.refused = self.group.refused.wrapping_add(1);
+        }
     }
-}
 
-// One call more of a group, with the digest of all so far.
-pub fn chained(s: Session, number: u8, h: u64) -> Session {
-    let mut t = s;
-    t.digest = h;
-    t.calls = wrapping_add_u64(s.calls, 1);
-    if is_refusal(number) {
-        t.refused = wrapping_add_u64(s.refused, 1);
+    // A line for the group: calls, those refused, and the digest.
+    fn tell_group(&mut self, rt: &impl Print) {
+        let Group {
+            calls,
+            refused,
+            digest,
+        } = self.group;
+        let _ = println!(rt; "{calls} {refused} {digest}");
+        self.group = Group::default();
     }
-    t
-}
 
-// A line for a group: calls, those refused, and the digest.
-pub fn tell_group(rt: &impl Print, s: Session) -> Session {
-    column(rt, s.calls);
-    column(rt, s.refused);
-    last_column(rt, s.digest);
-    let mut t = s;
-    t.calls = 0;
-    t.refused = 0;
-    t.digest = 0;
-    t
-}
-
-pub fn with_list(s: Session, list: Sums) -> Session {
-    let mut t = s;
-    t.list = list;
-    t
-}
-
-// A call of a list that does no cycle. One that is refused is clean where it changed nothing.
-pub fn listed(s: Session, number: u8, clean: bool) -> Session {
-    let list = s.list;
-    if number != 0 {
-        return with_list(s, lists::refused(list, number, clean));
+    // A call of a list that does no cycle. One that is refused is clean if it changed nothing.
+    pub fn listed(&mut self, number: u8, clean: bool) {
+        if number != 0 {
+            self.list.refused(number, clean);
+            return;
+        }
+        self.list.called(0, Done::default());
     }
-    with_list(s, lists::called(list, 0, 0, 0, 0, 0))
-}
 
-// What a save, a conversion or a fresh image left in a buffer in which the pattern stood: its number and the buffer. A refused one of a
-// list leaves the buffer.
-pub fn buffer_answered(c: Command, s: Session, number: u8, buffer: &[u8]) -> Session {
-    if c.value == LIST {
-        return listed(s, number, untouched(buffer, 0));
+    // What a save, a conversion or a fresh image left in a buffer in which the pattern stood: its number and the buffer. A refused one of a
+    // list leaves the buffer.
+    pub fn buffer_answered(&mut self, c: Command, number: u8, buffer: &[u8]) {
+        match c.wanted() {
+            Wanted::List => self.listed(number, untouched(buffer, 0)),
+            _ => self.chained(number, digest(self.next(number), buffer)),
+        }
     }
-    chained(s, number, digest(mixed(s.digest, number as u64), buffer))
-}
 
-// The list has ended, and is the one that others are compared with.
-pub fn remember(s: Session, list: Sums) -> Session {
-    let mut t = s;
-    t.whole = list;
-    with_list(t, lists::no_calls())
-}
+    // The list has ended, and is the one that others are compared with.
+    pub fn remember(&mut self) {
+        self.whole = self.list.sums;
+        self.list = List::default();
+    }
 
-// The list has ended.
-pub fn end_list(s: Session, list: Sums) -> Session {
-    let whole = s.whole;
-    let tally = s.tally;
-    let after = lists::ended(tally, list, whole);
-    let mut t = s;
-    t.tally = after;
-    with_list(t, lists::no_calls())
-}
+    // The list has ended.
+    pub fn end_list(&mut self) {
+        self.tally.ended(self.list, self.whole);
+        self.list = List::default();
+    }
 
-// A line for a panel.
-pub fn tell_panel(rt: &impl Print, s: Session) -> Session {
-    let whole = s.whole;
-    let tally = s.tally;
-    lists::tell(rt, whole, tally);
-    let next = lists::no_lists();
-    let mut t = s;
-    t.tally = next;
-    t
+    // A line for a panel.
+    pub fn tell_panel(&mut self, rt: &impl Print) {
+        self.tally.tell(rt, self.whole);
+        self.tally = Tally::default();
+    }
 }

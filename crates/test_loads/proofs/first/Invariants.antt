@@ -1,6 +1,0 @@
--- The bytes are counted. Assumes nothing.
-use Rattle.std.proofs.Common.{◌-◌}
-use Rattle.test_loads.proofs.first.Given as goal
-
-abbrev pub decreases-loop-k : goal.decreases-loop-k
-decreases-loop-k g l = 9 - l.k

@@ -1,6 +1,0 @@
--- The rest of a log: one turn a byte. Assumes nothing.
-use Rattle.std.proofs.Common.{◌-◌, length}
-use Rattle.test_stream.proofs.digests.untouched.Given as goal
-
-abbrev pub decreases-loop-i : goal.decreases-loop-i
-decreases-loop-i l = length l.bytes - l.i
