@@ -12,7 +12,7 @@ module _ (test : ℕ → Bool) where
   -- where the test fails, the search goes on at the next number
   fails : (tries k : ℕ) → test k ≡ false → smallest_from test (suc tries) k ≡ smallest_from test tries (suc k)
   unfolding smallest_from
-  fails tries k e = rw (e, smallest_from)
+  fails tries k e = ap (λ (t : Bool). elim t [ true ↦ k | false ↦ smallest_from test tries (suc k) ]) e
 
   -- where it holds, it ends there
   holds : (tries k : ℕ) → test k ≡ true → smallest_from test (suc tries) k ≡ k

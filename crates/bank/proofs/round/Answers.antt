@@ -1,12 +1,13 @@
 -- Panel after panel is noted, and then has its turn. Assumes nothing.
-use Rattle.std.proofs.Common.{◌≡◌, ◌∙◌, refl, ap, ◌++◌, ◌≤◌, length, drop, arith}
+use Rattle.std.proofs.Common.{◌≡◌, ◌∙◌, refl, sym, subst, ap, List, ◌++◌, ◌≤◌, length, drop, arith}
 use Rattle.std.proofs.lemmas.List.{length-take-le, take-append-drop}
 use Rattle.laws.proofs.Demand3.{every_run_counts_within}
 use Rattle.upd546.specs.TwoRunners.{chip}
 use Rattle.panels.specs.declared.Course.{Course}
+use Rattle.panels.specs.declared.Panel.{Panel}
 use Rattle.panels.specs.Courses.{plan_of}
 use Rattle.panels.specs.Round.{RoundAnswer}
-use Rattle.bank.proofs.Passes.{noted_none, noted_next, all_noted, noted_all, served_start, served_next, served_all, noting, serving, round_is}
+use Rattle.bank.proofs.Passes.{Served, noted_none, noted_next, all_noted, noted_all, served_start, served_next, served_all, noting, serving, round_is}
 use Rattle.bank.proofs.round.Goals as goal
 
 pub slice_bounds-panel-items-end : goal.slice_bounds-panel-items-end
@@ -41,7 +42,11 @@ pub loop-lent-init : goal.loop-lent-init
 loop-lent-init c =
     let start = served_start (chip c.args.sheet) c.args.roms.now c.args.schedules.now _ c.loop-panel.panel-index c.args.bank.now c.args.logs.now
     c.loop-panel.course _ _ c.loop-panel.invariant c.loop-panel-test.false refl c.planned-course.ensures in
-    rw (take-append-drop c.planned-course.result.count c.args.bank.now) start
+    let n = c.planned-course.result.count in
+    subst
+    (λ (row : List Panel). Served (chip c.args.sheet) c.args.roms.now c.args.schedules.now n 0 row c.args.logs.now c.planned-course.result c.args.bank.now c.args.logs.now c.planned-course.result)
+    (sym (take-append-drop n c.args.bank.now))
+    start
 
 pub loop-lent-preserved : goal.loop-lent-preserved
 loop-lent-preserved c =
