@@ -191,8 +191,8 @@ pub fn bytes_and_number<W: Write>(
     n: u64,
     after: u8,
 ) -> Result<(), Cut>
-    ensures wrote { Wrote out.old (count + length (decimal n ++ (after ∷ []))) out.new }
-    ensures told { result ≡ told out.new }
+    ensures wrote { Wrote out.old.so_far (count + length (decimal n ++ (after ∷ []))) out.new.so_far }
+    ensures told { result ≡ told out.new.so_far }
 {
     out.write_first(bytes, count)?;
     out.write_number(n, after)

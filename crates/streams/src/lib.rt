@@ -5,14 +5,13 @@
 
 ghost use Rattle.std.specs.Prelude.{◌≡◌, ◌+◌, ◌<◌, ◌^◌, ◌∷◌, [], ◌++◌, length, Ok};
 ghost use Rattle.upd546.specs.Reports.{decimal};
-ghost use Rattle.streams.specs.Streams.{IsTurn, Filled, IsPart, SoFar, Wrote, WroteShort, told, is_refusal};
+ghost use Rattle.streams.specs.Streams.{IsTurn, Filled, IsPart, Wrote, WroteShort, told, is_refusal};
 ghost use Rattle.streams.specs.declared.Failure.TheVariants.{Cut};
 
 use std::fmt;
 use std::fmt::{Display, Formatter, InlineText};
 use std::fs::{File, OpenOptions};
 use std::io::{Error, ErrorKind, Read, Write, writer};
-use std::marker::Model;
 use std::rt::{Env, Runtime};
 use text::Text;
 
@@ -38,16 +37,10 @@ impl Cut {
 
 // STANDARD OUTPUT, or what else is written to, with what it has so far: so many bytes, all that were to be written; or it was cut off, and
 // nothing is written to it any more.
-#[derive(Drop)]
+#[derive(Clone, Copy, Drop)]
 pub struct Output<W> {
-    to: W,
-    so_far: Result<u64, Cut>,
-}
-
-impl<W> Model for Output<W> {
-    ghost Value = { SoFar };
-
-    ghost view = { λ out. out.so_far };
+    pub to: W,
+    pub so_far: Result<u64, Cut>,
 }
 
 // Why a program ends otherwise than with all that it was asked for.
@@ -100,14 +93,25 @@ const SHORT_LENGTH: usize = 16;
 // The longest line of a refusal: `refused`, a space, three digits and the line's end. `refused_most` is the same number.
 const REFUSED_LENGTH: usize = 12;
 
-// What a call of `read` or `write` came to, by its answer: the bytes that it moved, none at the end of an input; nothing, where a signal
-// interrupted it and it is made again; or why it failed.
-fn judged(answer: Result<usize, Error>) -> Result<Option<usize>, Error>
+// What a call of `read` or `write` that did not fail came to.
+#[derive(Clone, Copy)]
+enum Turn {
+    // So many bytes were moved, one at least.
+    Moved(usize),
+    // No byte was moved: the end of the input.
+    Ended,
+    // A signal came before a byte was moved: the call is made again.
+    Interrupted,
+}
+
+// What a call came to, by its answer, or why it failed.
+fn judged(answer: Result<usize, Error>) -> Result<Turn, Error>
     ensures { IsTurn answer result }
 {
     match answer {
-        Ok(n) => Ok(Some(n)),
-        Err(e) if e.kind() == ErrorKind::Interrupted => Ok(None),
+        Ok(0) => Ok(Turn::Ended),
+        Ok(n) => Ok(Turn::Moved(n)),
+        Err(e) if e.kind() == ErrorKind::Interrupted => Ok(Turn::Interrupted),
         Err(e) => Err(e),
     }
 }
@@ -128,9 +132,9 @@ pub fn fill<R: Read>(from: &mut R, buf: &mut [u8]) -> Result<usize, Error>
             return Ok(buf.len());
         }
         match judged(from.read(&mut buf[at..]))? {
-            Some(0) => return Ok(at),
-            Some(n) => at += n,
-            None => {}
+            Turn::Ended => return Ok(at),
+            Turn::Moved(n) => at += n,
+            Turn::Interrupted => {}
         }
     }
     Err(interrupted())
@@ -147,12 +151,12 @@ fn put<W: Write>(to: &mut W, bytes: &[u8]) -> Result<(), Cut>
         }
         let written = at as u64;
         match judged(to.write(&bytes[at..])) {
-            Ok(Some(0)) => {
+            Ok(Turn::Ended) => {
                 let why = Error::from(ErrorKind::WriteZero);
                 return Err(Cut { written, why });
             }
-            Ok(Some(n)) => at += n,
-            Ok(None) => {}
+            Ok(Turn::Moved(n)) => at += n,
+            Ok(Turn::Interrupted) => {}
             Err(why) => return Err(Cut { written, why }),
         }
     }
@@ -167,15 +171,15 @@ fn put<W: Write>(to: &mut W, bytes: &[u8]) -> Result<(), Cut>
 impl<W: Write> Output<W> {
     // Nothing is written yet.
     pub fn new(to: W) -> Output<W>
-        ensures { result ≡ Ok 0 }
+        ensures { result.so_far ≡ Ok 0 }
     {
         Output { to, so_far: Ok(0) }
     }
 
     // WRITES BYTES, unless an earlier write has failed.
     pub fn write(&mut self, bytes: &[u8]) -> Result<(), Cut>
-        ensures wrote { Wrote self.old (length bytes.now) self.new }
-        ensures told { result ≡ told self.new }
+        ensures wrote { Wrote self.old.so_far (length bytes.now) self.new.so_far }
+        ensures told { result ≡ told self.new.so_far }
     {
         let written = self.so_far?;
         if bytes.is_empty() {
@@ -195,8 +199,8 @@ impl<W: Write> Output<W> {
 
     // The first bytes, so many; where there are fewer, none of them, and not all is written.
     pub fn write_first(&mut self, bytes: &[u8], count: usize) -> Result<(), Cut>
-        ensures wrote { Wrote self.old count self.new }
-        ensures told { result ≡ told self.new }
+        ensures wrote { Wrote self.old.so_far count self.new.so_far }
+        ensures told { result ≡ told self.new.so_far }
     {
         if count <= bytes.len() {
             return self.write(&bytes[..count]);
@@ -209,8 +213,8 @@ impl<W: Write> Output<W> {
 
     // A number and one byte behind it. A number of 64 bits has at most 20 digits.
     pub fn write_number(&mut self, n: u64, after: u8) -> Result<(), Cut>
-        ensures wrote { Wrote self.old (length (decimal n ++ (after ∷ []))) self.new }
-        ensures told { result ≡ told self.new }
+        ensures wrote { Wrote self.old.so_far (length (decimal n ++ (after ∷ []))) self.new.so_far }
+        ensures told { result ≡ told self.new.so_far }
     {
         let mut space = [0u8; NUMBER_LENGTH];
         let mut text = Text::new(&mut space);
@@ -220,8 +224,8 @@ impl<W: Write> Output<W> {
 
     // A short text, as of digits in hexadecimal: of one that is longer than 16 bytes a part, and dots.
     pub fn write_short<D: Display + Drop>(&mut self, text: D) -> Result<(), Cut>
-        ensures wrote { WroteShort (D.output text) self.old self.new }
-        ensures told { result ≡ told self.new }
+        ensures wrote { WroteShort (D.output text) self.old.so_far self.new.so_far }
+        ensures told { result ≡ told self.new.so_far }
     {
         let short = InlineText::<SHORT_LENGTH>::of(text);
         self.write(short.as_str().as_bytes())
@@ -229,7 +233,7 @@ impl<W: Write> Output<W> {
 
     // Whether all was written that was to be.
     fn told(&self) -> Result<(), Cut>
-        ensures { result ≡ told self.now }
+        ensures { result ≡ told self.now.so_far }
     {
         self.so_far?;
         Ok(())
