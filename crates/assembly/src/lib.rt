@@ -126,6 +126,15 @@ impl<'a> Line<'a> {
     pub fn parse(line: &'a [u8]) -> Line<'a>
         ensures { LineIs result (parsed line.now) }
     {
+        // There is nothing to look for in an empty line; whoever looks for a label passes many.
+        if line.is_empty() {
+            return Line {
+                label: line,
+                word: line,
+                operand: line,
+                has_more: false,
+            };
+        }
         let (front, statement) = halves(line);
         let (label, behind_label) = first_word(front);
         let (word, behind_word) = first_word(statement);
@@ -218,9 +227,8 @@ fn code_for(word: &[u8]) -> Asked
     }
     let sought = filled(word);
     for code in 0..=255 {
-        let entry = mnemonics::entry(code);
-        if entry.word == sought {
-            return Asked::Gives(entry.kind, code);
+        if mnemonics::letters(code) == sought {
+            return Asked::Gives(mnemonics::entry(code).kind, code);
         }
     }
     Asked::Unknown

@@ -47,10 +47,11 @@ fn away(at: usize, rest: &[u8]) -> bool
     at % 256 == 255 || rest.is_empty()
 }
 
-fn kind_shown(kind: Kind, apart: bool) -> Kind
-    ensures { kind_by result ≡ shown_kind (kind_by kind) apart }
+// Where its second byte stands is asked of a long kind alone: asked of every item, it makes a listing take more than twice as long.
+fn kind_shown(kind: Kind, at: usize, rest: &[u8]) -> Kind
+    ensures { kind_by result ≡ shown_kind (kind_by kind) (cut at rest.now) }
 {
-    if kind.is_long() && apart {
+    if kind.is_long() && away(at, rest) {
         Kind::NoInstruction
     } else {
         kind
@@ -104,12 +105,12 @@ impl<'a> Rom<'a> {
     {
         let code = self.bytes[at];
         let rest = &self.bytes[at + 1..];
-        let kind = mnemonics::entry(code).kind;
+        let kind = self.kinds[code as usize];
         Shown {
             at: at as u16,
             code,
             second: rest.first().copied().unwrap_or(0),
-            kind: kind_shown(kind, away(at, rest)),
+            kind: kind_shown(kind, at, rest),
         }
     }
 
@@ -262,11 +263,13 @@ pub fn list(rom: &[u8], out: &mut [u8; TEXT_LENGTH]) -> usize
     text.push(&mnemonics::three(length as u16)[..3]);
     text.push(b"\n");
     let sizes = tables::instruction_table();
+    let kinds = mnemonics::kinds();
     put_lines(
         &mut text,
         Rom {
             bytes: rom,
             sizes: &sizes,
+            kinds: &kinds,
         },
     );
     text.len()

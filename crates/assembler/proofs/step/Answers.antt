@@ -1,14 +1,27 @@
 -- Text behind, the label, and then the statement. Assumes nothing.
-use mathlib.Core.Path.{◌∙◌, sym, ap, ap₂, subst}
-use mathlib.Core.List.{List}
+use mathlib.Core.Path.{◌≡◌, ◌∙◌, sym, ap, ap₂, subst}
+use mathlib.Core.List.{List, []}
 use Prim.Native.Nat.{ℕ}
+use lib.ListN.{length}
+use borrow.Author.Tests.{eqb-true}
+use Rattle.std.proofs.lemmas.List.{nil_from_length}
 use Rattle.std.proofs.lemmas.Result.{err_from_is_err_and}
-use Rattle.assembly.specs.Grammar.{parsed}
-use Rattle.assembly.specs.Assembling.{Step, labelled, action_for, done_by}
+use Rattle.assembly.specs.Grammar.{before, onwards, parsed}
+use Rattle.assembly.specs.Assembling.{Step, labelled, action_for, done_by, step}
 use Rattle.assembler.specs.Answers.{lines_found, state_of, StepIs}
 use Rattle.assembler.proofs.Numbers.{number_some}
 use Rattle.assembler.proofs.Puts.{step_more, step_label, step_same}
 use Rattle.assembler.proofs.step.Goals as goal
+
+pub returns-then-is_empty : goal.returns-then-is_empty
+unfolding step parsed before onwards action_for
+returns-then-is_empty c =
+    let a = c.args in
+    let part = a.part.now in
+    let lines = lines_found a.text.now in
+    let s = state_of a.place a.cells.now in
+    let none : part ≡ [] = nil_from_length part (eqb-true (length part) 0 (sym c.is_empty.ensures ∙ c.if-is_empty.true)) in
+    (ap (λ (l : List ℕ). (step lines s (parsed l)).mistake) (sym none), ap (λ (l : List ℕ). (step lines s (parsed l)).state) (sym none))
 
 pub returns-then-line : goal.returns-then-line
 returns-then-line c =

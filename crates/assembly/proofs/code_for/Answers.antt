@@ -18,22 +18,22 @@ pub returns-then-eq : goal.returns-then-eq
 returns-then-eq c =
     let word = c.args.word.now in
     let code = c.loop-code.code in
-    let has = code_told code c.entry-entry.ensures.word c.filled-sought.ensures c.eq.ensures ∙ c.if-eq.true in
-    ap (λ (k : text.Kind). gives k code) c.entry-entry.ensures.kind
+    let has = code_told code c.letters.ensures c.filled-sought.ensures c.eq.ensures ∙ c.if-eq.true in
+    ap (λ (k : text.Kind). gives k code) c.entry.ensures.kind
     ∙ code_here (take 3 (word ++ ascii "   ")) code (omega arith) has ∙ c.loop-code.invariant ∙ word_short word c.if-word-gt3.false
 
 pub loop-code-preserved : goal.loop-code-preserved
 loop-code-preserved c =
     let word = c.args.word.now in
     let code = c.loop-code.code in
-    let other = code_told code c.entry-entry.ensures.word c.filled-sought.ensures c.eq.ensures ∙ c.if-eq.false in
+    let other = code_told code c.letters.ensures c.filled-sought.ensures c.eq.ensures ∙ c.if-eq.false in
     code_on (take 3 (word ++ ascii "   ")) code (omega arith) other ∙ c.loop-code.invariant
 
 pub returns-else-eq : goal.returns-else-eq
 returns-else-eq c =
     let word = c.args.word.now in
     let code = c.loop-code.code in
-    let other = code_told code c.entry-entry.ensures.word c.filled-sought.ensures c.eq.ensures ∙ c.if-eq.false in
+    let other = code_told code c.letters.ensures c.filled-sought.ensures c.eq.ensures ∙ c.if-eq.false in
     code_end (take 3 (word ++ ascii "   ")) (code + 1) (omega arith)
     ∙ code_on (take 3 (word ++ ascii "   ")) code (omega arith) other ∙ c.loop-code.invariant ∙ word_short word c.if-word-gt3.false
 

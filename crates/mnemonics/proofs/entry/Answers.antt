@@ -2,14 +2,11 @@
 use mathlib.Core.Path.{◌∙◌, ap}
 use mathlib.Core.List.{List}
 use Prim.Native.Nat.{ℕ}
-use lib.ListN.{get_or, take}
+use lib.ListN.{get_or}
 use borrow.Author.Rules.{rules}
 use Rattle.mnemonics.specs.Mnemonics.{kind_for}
 use Rattle.mnemonics.proofs.Table.{entry_at}
 use Rattle.mnemonics.proofs.entry.Goals as goal
-
-pub returns-clause-word : goal.returns-clause-word
-returns-clause-word c = rw c.word_table-table.ensures (ap (take 3) (entry_at c.args.code (search rules)))
 
 pub returns-clause-kind : goal.returns-clause-kind
 returns-clause-kind c =
