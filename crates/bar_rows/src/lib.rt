@@ -25,7 +25,7 @@ pub struct Joined {
 
 impl From<Bar> for Joined {
     fn from(bar: Bar) -> Joined
-        ensures { result.waits ≡ 1 }
+        ensures { result ≡ record { start = bar.start; waits = 1; longest = bar.length; cycles = bar.length } }
     {
         Joined {
             start: bar.start,

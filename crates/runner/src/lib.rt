@@ -7,8 +7,8 @@ ghost use Rattle.runs.specs.TwoRunners.{refused_run, run_number, plain, skipping
 ghost use Rattle.upd546.specs.TwoRunners.{chip, answer_of};
 ghost use Rattle.turns.specs.Either.{run_by};
 
-use burst::Panel;
 use runs::{ClockCycles, MachineCycles, Refusal, RunEnd};
+use turns::Panel;
 use upd546::{RunAnswer, Sheet, State};
 
 // What refuses a run: 71, then 21, then the schedule, then the state, then 2.

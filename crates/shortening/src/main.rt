@@ -8,7 +8,7 @@ use shortest::Shortest;
 use std::io::{Write, writer};
 use std::rt::Runtime;
 use streams::{Cut, Failure, Output};
-use upd546::{ROM_LENGTH, State};
+use upd546::{CYCLE_BYTES, ROM_LENGTH, State};
 
 const N_LENGTH: usize = 4;
 
@@ -131,8 +131,8 @@ fn write_records(
 
 // The cycle of a record, and the lines from there on.
 fn write_record(out: &mut Output<impl Write>, record: &[u8; RECORD_LENGTH]) -> Result<(), Cut> {
-    let [a, b, c, d, e, f, ab, cd, int, res] = *record;
-    out.write_number(u64::from_be_bytes([0, 0, a, b, c, d, e, f]), b' ')?;
+    out.write_number(big_endian::number_at(record, 0, CYCLE_BYTES), b' ')?;
+    let [.., ab, cd, int, res] = *record;
     let (a, b, c, d) = (ab / 16, ab % 16, cd / 16, cd % 16);
     out.write_short(format_args!("{a:X} {b:X} {c:X} {d:X} "))?;
     out.write_short(format_args!("{:X} {:X}\n", int % 16, res % 16))

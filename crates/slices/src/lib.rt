@@ -3,6 +3,9 @@
 // buffer holds it whole. It may not know how a run goes, nor what an image holds.
 #![tactic(auto)]
 
+ghost use Rattle.std.specs.Prelude.{◌≡◌, true, IfOk};
+ghost use Rattle.calls.specs.EveryCall.{ran_by};
+
 use board::REPORT_LENGTH;
 use std::io::Write;
 use streams::{Failure, Output};
@@ -38,14 +41,16 @@ pub fn write_log(
     }
 }
 
-// One slice: a call of the board, its log bytes written to standard output.
+// One slice: a call of the board, its log bytes written to standard output. The number of a call that ran; a refused one is a failure.
 fn slice(
     out: &mut Output<impl Write>,
     image: &mut [u8; IMAGE_LENGTH],
     rom: &[u8],
     sched: &[u8],
     cycles: u64,
-) -> Result<u8, Failure> {
+) -> Result<u8, Failure>
+    ensures { IfOk result (λ number. ran_by number ≡ true) }
+{
     let mut log = [0u8; LOG_LENGTH];
     let mut report = [0u8; REPORT_LENGTH];
     let sheet = upd546::upd546_sheet();

@@ -24,11 +24,13 @@ pub fn pattern(i: usize) -> u8
 
 // Whether the bytes from a place on are those that stood there before the call.
 pub fn untouched(bytes: &[u8], from: usize) -> bool {
-    bytes
-        .iter()
-        .enumerate()
-        .skip(from)
-        .all(|(i, x)| *x == pattern(i))
+    match bytes.get(from..) {
+        Some(rest) => rest
+            .iter()
+            .enumerate()
+            .all(|(i, x)| *x == pattern(from + i)),
+        None => true,
+    }
 }
 
 // The digest of bytes, of which those before have the digest h.

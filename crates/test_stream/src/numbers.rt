@@ -56,7 +56,10 @@ pub fn store(target: &mut [u8], at: usize, x: u8)
 
 // All of some bytes, to a place of a target. What falls past its end is lost.
 pub fn lay(target: &mut [u8], at: usize, from: &[u8]) {
-    for (x, y) in target.iter_mut().skip(at).zip(from) {
+    let Some(rest) = target.get_mut(at..) else {
+        return;
+    };
+    for (x, y) in rest.iter_mut().zip(from) {
         *x = *y;
     }
 }

@@ -12,7 +12,8 @@ ghost use Rattle.upd546.specs.Parts.{with_count, state_of};
 ghost use Rattle.laws.specs.Valid.{Scalars};
 ghost use Rattle.turns.specs.Either.{Set, run_by};
 
-use burst::Panel;
+// What a run lends each turn: `runner` makes one, and may not know `burst`.
+pub use burst::Panel;
 use runs::{ClockCycles, MachineCycles, RunEnd, Stop};
 use schedule::Cursor;
 use upd546::{Core, LAST_MARK, LATCHES, RAM_WORDS, RunAnswer, State};
